@@ -1,17 +1,14 @@
--- the verdict on one block, and the test of one reference
-use Rattle.std.proofs.Common.{◌≡◌, ◌≢◌, ℕ, ◌<◌, Bool, true, false, not, ◌&&◌, ◌||◌, eqb, List, sym, ap, ◌∙◌}
+-- the verdict on one block
+use Rattle.std.proofs.Common.{◌≡◌, ◌≢◌, ℕ, ◌<◌, Bool, true, false, not, ◌&&◌, ◌||◌, eqb, ap, ◌∙◌}
 use Rattle.std.proofs.lemmas.Bool.{cond-true, cond-false, ne_eqb, eq-eqb}
 use Rattle.shm_words.specs.declared.geometry.Geometry.{Geometry}
 use Rattle.shm_words.specs.Layout.{total_of}
 use Rattle.shm_graph.specs.declared.spot.Spot.{Spot}
-use Rattle.shm_graph.specs.Spots.{see}
 use Rattle.shm_graph.specs.Blocks.{headers}
 use Rattle.shm_audit.specs.declared.verdict.Verdict.TheVariants.{Uncounted, WrongCount}
-use Rattle.shm_audit.specs.Faults.{is_counted, is_bad_reference, least_below}
+use Rattle.shm_audit.specs.Faults.{least_below}
 use Rattle.shm_audit.specs.Verdicts.{found_at, is_wrong, block_verdict, by_block}
 use Rattle.shm_audit.proofs.Least.{some_below}
-use Rattle.shm_audit.proofs.Tested.{test_at}
-use Rattle.shm_audit.specs.Tallies.{named}
 
 module _ (g : Geometry) (w : Spot → ℕ) (b : ℕ) where
   pub right_dead : (headers w b).live ≡ false → is_wrong g w b ≡ false
@@ -43,18 +40,3 @@ module _ (g : Geometry) (w : Spot → ℕ) (b : ℕ) where
   -- the first block that is wrong decides
   pub judged : b < total_of g → is_wrong g w b ≡ true → ((a : ℕ) → a < b → is_wrong g w a ≡ false) → by_block g w (least_below (total_of g) (is_wrong g w)) ≡ block_verdict g w b
   judged l is h = ap (by_block g w) (some_below (total_of g) (is_wrong g w) b l is h)
-
--- ---- references
-
-module _ (g : Geometry) (ws : List ℕ) (a : ℕ) where
-  pub nothing_named : named g ws a ≡ 0 → test_at is_bad_reference g ws a ≡ false
-  nothing_named e = ap (λ z. not z && not (is_counted (see g ws) (named g ws a))) (eq-eqb (named g ws a) 0 e)
-
-  something_named : (z : Bool) → named g ws a ≢ 0 → is_counted (see g ws) (named g ws a) ≡ z → test_at is_bad_reference g ws a ≡ not z
-  something_named z n e = ap (λ y. not y && not (is_counted (see g ws) (named g ws a))) (ne_eqb (named g ws a) 0 n) ∙ ap not e
-
-  pub bad_named : (t : ℕ) → t ≡ named g ws a → t ≢ 0 → is_counted (see g ws) t ≡ false → test_at is_bad_reference g ws a ≡ true
-  bad_named t e n c = something_named false (λ z. n (e ∙ z)) (ap (is_counted (see g ws)) (sym e) ∙ c)
-
-  pub good_named : (t : ℕ) → t ≡ named g ws a → t ≢ 0 → is_counted (see g ws) t ≡ true → test_at is_bad_reference g ws a ≡ false
-  good_named t e n c = something_named true (λ z. n (e ∙ z)) (ap (is_counted (see g ws)) (sym e) ∙ c)

@@ -106,7 +106,7 @@ frame_fault n xs g =
     (cond (not (is_size g)) (Some (fault.Geometry g.clients g.segments))
     (cond (not (eqb n (image_len g))) (Some (fault.Length n (image_len g))) None)))
 
-size_so : (g : Geometry) → GeometryFits g → is_size g ≡ true
+pub size_so : (g : Geometry) → GeometryFits g → is_size g ≡ true
 size_so g f = let a = f.client in let b = f.clients in let c = f.segment in let d = f.segments in grind (arith, nat_tests)
 
 no_frame_fault : (g : Geometry) (ws : List ℕ) (n : ℕ) → GeometryFits g → n ≡ image_len g → frame_fault n (content g ws) g ≡ None

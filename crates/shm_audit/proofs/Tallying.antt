@@ -1,228 +1,292 @@
--- one step of a pass over the words of a pool
-use Rattle.std.proofs.Common.{◌≡◌, ◌≢◌, ℕ, zero, suc, ◌+◌, ◌-◌, ◌%◌, ◌^◌, ◌<◌, ◌≤◌, true, false, not, eqb, ltb, cond, List, length, get_or, set, length-set, get_or-set_same, get_or-set_other, below_more, refl, sym, ap, subst, ◌∙◌, arith, inl, inr}
-use Rattle.std.proofs.lemmas.Bool.{cases_Bool, cases_eq, cases_lt, cond-true, cond-false, ne_eqb, eq-eqb, lt-ltb, le-ltb, false≢true}
+-- what is found word by word
+use Rattle.std.proofs.Common.{◌≡◌, ◌≢◌, ℕ, zero, suc, ◌+◌, ◌%◌, ◌^◌, ◌<◌, ◌≤◌, Bool, true, false, not, ◌&&◌, eqb, ltb, cond, List, length, get_or, set, length-set, get_or-set_same, get_or-set_other, below_more, refl, sym, ap, subst, ◌∙◌, arith, inl, inr}
+use Rattle.std.specs.Prelude.{Option, Some, None}
+use Rattle.std.proofs.lemmas.Bool.{cases_Bool, cases_eq, cases_lt, cond-true, cond-false, ne_eqb, eq-eqb, lt-ltb, le-ltb, and_from, true≢false}
 use Rattle.shm_words.specs.declared.geometry.Geometry.{Geometry}
 use Rattle.shm_words.specs.Layout.{GeometryFits, total_of, bodies}
 use Rattle.shm_words.specs.Headers.{header_of}
 use Rattle.shm_words.proofs.Placing.{total_small}
-use Rattle.shm_graph.specs.declared.spot.Spot.TheVariants.{Head}
-use Rattle.shm_graph.specs.Spots.{see, spot_address, classes_in}
+use Rattle.shm_graph.specs.Spots.{see}
 use Rattle.shm_graph.specs.Blocks.{headers}
 use Rattle.shm_graph.specs.References.{sum_below, one_if}
-use Rattle.shm_graph.proofs.Spots.Seeing.{see_absent}
-use Rattle.shm_graph.proofs.Spots.Spotting.{block_within}
 use Rattle.shm_graph.proofs.Spots.Summing.{sum_below-one_more}
-use Rattle.shm_audit.specs.Faults.{is_bad_header, is_bad_tag}
-use Rattle.shm_audit.specs.Tallies.{named, places_in, place_address, IsPlace, IsSoundAt, IsQuiet, IsNaming, Tallied}
-use Rattle.shm_audit.proofs.Tested.{test_at}
-use Rattle.shm_audit.proofs.UsedTests.{bad_header_used, bad_tag_behind}
-use Rattle.shm_audit.proofs.Using.{not_used_before}
-use Rattle.shm_audit.proofs.Counting.{ones_most}
+use Rattle.shm_audit.specs.declared.tally.Found.{Found}
+use Rattle.shm_audit.specs.declared.tally.Reference.{Reference}
+use Rattle.shm_audit.specs.declared.tally.Tally.{Tally}
+use Rattle.shm_audit.specs.Tallies.{IsFound, IsHead, IsLeast, IsNaming, IsQuiet, IsStray, NoneBelow, Tallied, count_in, is_place, named, names, place_address, places_in, strays, unseen}
+use Rattle.shm_audit.proofs.Blocks.{IsNothing, place_there}
+
+-- ---- least numbers, and sums of ones
+
+pub least_on : (test : ℕ → Bool) (n m a : ℕ) → n ≤ m → IsLeast test n a → IsLeast test m a
+least_on test n m a l h = record { below = (let b = h.below in omega arith); passes = h.passes; least = h.least }
+
+pub ones_most : (f : ℕ → Bool) (n : ℕ) → sum_below n (λ a. one_if (f a)) ≤ n
+ones_most f zero = omega arith
+ones_most f (suc n) =
+    let i = ones_most f n in
+    elim (cases_Bool (f n)) [
+      | inl e ↦ (let x = ap one_if e in omega arith)
+      | inr e ↦ (let x = ap one_if e in omega arith)
+    ]
+
+-- where the sum is 0 none passes
+pub ones_none : (f : ℕ → Bool) (n : ℕ) → sum_below n (λ a. one_if (f a)) ≡ 0 → NoneBelow f n
+ones_none f zero e = λ a l. absurd (omega arith)
+ones_none f (suc n) e =
+    let i : sum_below n (λ a. one_if (f a)) ≡ 0 = omega arith in
+    let o : one_if (f n) ≡ 0 = omega arith in
+    λ a l. elim (cases_eq a n) [
+      | inl d ↦ ap f d ∙ elim (cases_Bool (f n)) [
+        | inl t ↦ (let x = ap one_if t in absurd (omega arith))
+        | inr z ↦ z
+      ]
+      | inr d ↦ ones_none f n i a (omega (arith, d))
+    ]
+
+somes_most : (f : ℕ → ℕ) (n : ℕ) → sum_below n (λ a. cond (eqb (f a) 0) 0 1) ≤ n
+somes_most f zero = omega arith
+somes_most f (suc n) =
+    let i = somes_most f n in
+    elim (cases_eq (f n) 0) [
+      | inl e ↦ (let x : ◌≡◌ {A = ℕ} (cond (eqb (f n) 0) 0 1) 0 = cond-true (eqb (f n) 0) 0 1 (eq-eqb _ _ e) in omega arith)
+      | inr e ↦ (let x : ◌≡◌ {A = ℕ} (cond (eqb (f n) 0) 0 1) 1 = cond-false (eqb (f n) 0) 0 1 (ne_eqb _ _ e) in omega arith)
+    ]
+
+wrapped : (x y : ℕ) → y ≡ (x + 1) % 2 ^ 32 → x + 1 < 2 ^ 32 → y ≡ x + 1
+wrapped x y e l = omega arith
 
 module _ (g : Geometry) (ws : List ℕ) where
-  -- how many words below an address name a place
-  abbrev pub names_below : ℕ → ℕ → ℕ
-  names_below n q = sum_below n (λ a. one_if (eqb (named g ws a) (place_address g q)))
+  -- ---- one place
 
-  -- the count of the block that begins at a place, if it is below an address
-  abbrev pub due : ℕ → ℕ → ℕ
-  due n q = cond (ltb (place_address g q) n) (headers (see g ws) (place_address g q)).count 0
+  -- the count of the block at an address, if it is below n
+  abbrev pub due : ℕ → ℕ → Option ℕ
+  due n b = cond (ltb b n) (count_in (headers (see g ws) b)) None
 
-  pub due_below : (n q : ℕ) → place_address g q < n → due n q ≡ (headers (see g ws) (place_address g q)).count
-  due_below n q l = cond-true (ltb (place_address g q) n) _ 0 (lt-ltb _ _ l)
+  pub due_below : (n b : ℕ) → b < n → due n b ≡ count_in (headers (see g ws) b)
+  due_below n b l = cond-true (ltb b n) _ None (lt-ltb _ _ l)
 
-  due_above : (n q : ℕ) → n ≤ place_address g q → due n q ≡ 0
-  due_above n q l = cond-false (ltb (place_address g q) n) (headers (see g ws) (place_address g q)).count 0 (le-ltb _ _ l)
+  due_above : (n b : ℕ) → n ≤ b → due n b ≡ None
+  due_above n b l = cond-false (ltb b n) (count_in (headers (see g ws) b)) None (le-ltb _ _ l)
 
-  -- the step to the next address, by whether that is the place
-  due_other : (n q : ℕ) → place_address g q ≢ n → due (n + 1) q ≡ due n q
-  due_other n q d =
-      elim (cases_lt (place_address g q) n) [
-        | inl l ↦ due_below (n + 1) q (omega arith) ∙ sym (due_below n q l)
-        | inr m ↦ due_above (n + 1) q (omega (arith, m, d)) ∙ sym (due_above n q m)
+  due_other : (n b : ℕ) → b ≢ n → due (n + 1) b ≡ due n b
+  due_other n b d =
+      elim (cases_lt b n) [
+        | inl l ↦ due_below (n + 1) b (omega arith) ∙ sym (due_below n b l)
+        | inr m ↦ due_above (n + 1) b (omega (arith, m, d)) ∙ sym (due_above n b m)
       ]
 
-  due_here : (n q : ℕ) → place_address g q ≡ n → due (n + 1) q ≡ (headers (see g ws) n).count
-  due_here n q e = due_below (n + 1) q (omega arith) ∙ ap (λ b. (headers (see g ws) b).count) e
-
-  due_same : (n q : ℕ) → (headers (see g ws) n).count ≡ 0 → due (n + 1) q ≡ due n q
-  due_same n q z =
-      elim (cases_eq (place_address g q) n) [
-        | inl e ↦ due_here n q e ∙ (z ∙ sym (due_above n q (omega arith)))
-        | inr d ↦ due_other n q d
+  -- where no live block begins
+  due_dead : (n b : ℕ) → (headers (see g ws) n).live ≡ false → due (n + 1) b ≡ due n b
+  due_dead n b z =
+      elim (cases_eq b n) [
+        | inl e ↦ due_below (n + 1) b (omega arith) ∙ (ap (λ a. count_in (headers (see g ws) a)) e ∙ (cond-false (headers (see g ws) n).live (Some (headers (see g ws) n).count) None z ∙ sym (due_above n b (omega arith))))
+        | inr d ↦ due_other n b d
       ]
 
-  -- a word that names another address, or none
-  names_other : (n q : ℕ) → named g ws n ≢ place_address g q → names_below (n + 1) q ≡ names_below n q
-  names_other n q d =
-      let m = sum_below-one_more (λ a. one_if (eqb (named g ws a) (place_address g q))) n in
-      let o : one_if (eqb (named g ws n) (place_address g q)) ≡ 0 = ap one_if (ne_eqb _ _ d) in
+  times_other : (n b : ℕ) → named g ws n ≢ b → sum_below (n + 1) (λ a. one_if (names g ws b a)) ≡ sum_below n (λ a. one_if (names g ws b a))
+  times_other n b d =
+      let m = sum_below-one_more (λ a. one_if (names g ws b a)) n in
+      let o : one_if (names g ws b n) ≡ 0 = ap one_if (ne_eqb _ _ d) in
       omega arith
 
-  names_here : (n q : ℕ) → named g ws n ≡ place_address g q → names_below (n + 1) q ≡ names_below n q + 1
-  names_here n q e =
-      let m = sum_below-one_more (λ a. one_if (eqb (named g ws a) (place_address g q))) n in
-      let o : one_if (eqb (named g ws n) (place_address g q)) ≡ 1 = ap one_if (eq-eqb _ _ e) in
+  -- a word that names something else
+  found_other : (n b : ℕ) (f : Found) → IsFound g ws n b f → named g ws n ≢ b → due (n + 1) b ≡ due n b → IsFound g ws (n + 1) b f
+  found_other n b f h d e =
+      record {
+        times = h.times ∙ sym (times_other n b d);
+        namer = λ some. least_on (names g ws b) n (n + 1) f.namer (omega arith) (h.namer some);
+        count = h.count ∙ sym e;
+      }
+
+  -- a word that names the place
+  found_named : (n b : ℕ) (f next : Found) → IsFound g ws n b f → n + 1 < 2 ^ 32 → named g ws n ≡ b → due (n + 1) b ≡ due n b
+      → next.times ≡ (f.times + 1) % 2 ^ 32 → next.namer ≡ cond (eqb f.times 0) n f.namer → next.count ≡ f.count → IsFound g ws (n + 1) b next
+  found_named n b f next h small is e times namer count =
+      let m = sum_below-one_more (λ a. one_if (names g ws b a)) n in
+      let o : one_if (names g ws b n) ≡ 1 = ap one_if (eq-eqb _ _ is) in
+      let t = h.times in
+      let k = ones_most (names g ws b) n in
+      let w : next.times ≡ f.times + 1 = wrapped f.times next.times times (omega arith) in
+      record {
+        times = omega arith;
+        namer = λ some. elim (cases_eq f.times 0) [
+          | inl z ↦ (let x : next.namer ≡ n = namer ∙ cond-true (eqb f.times 0) n f.namer (eq-eqb _ _ z) in
+              let first : IsLeast (names g ws b) (n + 1) n = record { below = omega arith; passes = eq-eqb _ _ is; least = ones_none (names g ws b) n (sym t ∙ z) } in
+              subst (IsLeast (names g ws b) (n + 1)) (sym x) first)
+          | inr s ↦ (let x : next.namer ≡ f.namer = namer ∙ cond-false (eqb f.times 0) n f.namer (ne_eqb _ _ s) in
+              subst (IsLeast (names g ws b) (n + 1)) (sym x) (least_on (names g ws b) n (n + 1) f.namer (omega arith) (h.namer (omega arith))))
+        ];
+        count = count ∙ (h.count ∙ sym e);
+      }
+
+  -- the live block that begins there
+  found_head : (n b c : ℕ) (f next : Found) → IsFound g ws n b f → b ≡ n → named g ws n ≢ b → (headers (see g ws) n).live ≡ true → (headers (see g ws) n).count ≡ c
+      → next.times ≡ f.times → next.namer ≡ f.namer → next.count ≡ Some c → IsFound g ws (n + 1) b next
+  found_head n b c f next h is d live count times namer now =
+      record {
+        times = times ∙ (h.times ∙ sym (times_other n b d));
+        namer = λ some. subst (IsLeast (names g ws b) (n + 1)) (sym namer) (least_on (names g ws b) n (n + 1) f.namer (omega arith) (h.namer (omega arith)));
+        count = now ∙ (sym (ap Some count) ∙ (sym (cond-true (headers (see g ws) n).live (Some (headers (see g ws) n).count) None live) ∙ (sym (ap (λ a. count_in (headers (see g ws) a)) is) ∙ sym (due_below (n + 1) b (omega arith)))));
+      }
+
+  -- ---- words that stray
+
+  stray_none : (n : ℕ) (s : Option Reference) → IsStray g ws n s → strays g ws n ≡ false → IsStray g ws (n + 1) s
+  stray_none n None h e = below_more _ _ h e
+  stray_none n (Some r) h e = (least_on (strays g ws) n (n + 1) r.at (omega arith) h.0, h.1)
+
+  stray_more : (n : ℕ) (s next : Option Reference) (r : Reference) → IsStray g ws n s → strays g ws n ≡ true → r.at ≡ n → r.target ≡ named g ws n → (s ≡ None → next ≡ Some r) → (s ≢ None → next ≡ s) → IsStray g ws (n + 1) next
+  stray_more n None next r h e at target none some =
+      let first : IsLeast (strays g ws) (n + 1) n = record { below = omega arith; passes = e; least = h } in
+      subst (IsStray g ws (n + 1)) (sym (none refl)) (subst (IsLeast (strays g ws) (n + 1)) (sym at) first, target ∙ ap (named g ws) (sym at))
+  stray_more n (Some x) next r h e at target none some =
+      subst (IsStray g ws (n + 1)) (sym (some (λ z. cc))) (least_on (strays g ws) n (n + 1) x.at (omega arith) h.0, h.1)
+
+  names_nothing : (n : ℕ) → named g ws n ≡ 0 → strays g ws n ≡ false
+  names_nothing n z = ap (λ b. not b && not (is_place g (named g ws n))) (eq-eqb _ _ z)
+
+  names_place : (n : ℕ) → is_place g (named g ws n) ≡ true → strays g ws n ≡ false
+  names_place n p = under (eqb (named g ws n) 0) (is_place g (named g ws n)) p
+    where
+      under : (x y : Bool) → y ≡ true → (not x && not y) ≡ false
+      under true y e = refl
+      under false y e = ap not e
+
+  -- ---- one word
+
+  -- 0 isn't a place
+  not_place : (q : ℕ) → 0 ≢ place_address g q
+  not_place q e = omega arith
+
+  dead : (n : ℕ) → IsQuiet g ws n → (headers (see g ws) n).live ≡ false
+  unfolding header_of
+  dead n q = ap (λ w. (header_of w).live) q.header
+
+  same_live : (n : ℕ) (x : ℕ) → (headers (see g ws) n).live ≡ false → x ≡ sum_below n (λ b. one_if (headers (see g ws) b).live) → x ≡ sum_below (n + 1) (λ b. one_if (headers (see g ws) b).live)
+  same_live n x d e = let m = sum_below-one_more (λ b. one_if (headers (see g ws) b).live) n in let o : one_if (headers (see g ws) n).live ≡ 0 = ap one_if d in omega arith
+
+  same_refs : (n : ℕ) (x : ℕ) → named g ws n ≡ 0 → x ≡ sum_below n (λ a. cond (eqb (named g ws a) 0) 0 1) → x ≡ sum_below (n + 1) (λ a. cond (eqb (named g ws a) 0) 0 1)
+  same_refs n x z e =
+      let m = sum_below-one_more (λ a. cond (eqb (named g ws a) 0) 0 1) n in
+      let o : ◌≡◌ {A = ℕ} (cond (eqb (named g ws n) 0) 0 1) 0 = cond-true (eqb (named g ws n) 0) 0 1 (eq-eqb _ _ z) in
       omega arith
 
-  tally_step : (n : ℕ) (sums next : List ℕ) (alive found a f : ℕ) → Tallied g ws n sums alive found → IsSoundAt g ws n → length next ≡ length sums
-      → ((q : ℕ) → q < places_in g → (get_or next q 0 + names_below (n + 1) q) % 2 ^ 32 ≡ due (n + 1) q)
-      → a ≡ alive + one_if (headers (see g ws) n).live → f ≡ found + cond (eqb (named g ws n) 0) 0 1 → Tallied g ws (n + 1) next a f
-  tally_step n sums next alive found a f t s len even live refs =
-      let x = sum_below-one_more (λ b. one_if (headers (see g ws) b).live) n in
-      let y = sum_below-one_more (λ b. cond (eqb (named g ws b) 0) 0 1) n in
+  more_refs : (n : ℕ) (x y : ℕ) → n + 1 < 2 ^ 32 → named g ws n ≢ 0 → x ≡ sum_below n (λ a. cond (eqb (named g ws a) 0) 0 1) → y ≡ (x + 1) % 2 ^ 32 → y ≡ sum_below (n + 1) (λ a. cond (eqb (named g ws a) 0) 0 1)
+  more_refs n x y small some e now =
+      let m = sum_below-one_more (λ a. cond (eqb (named g ws a) 0) 0 1) n in
+      let o : ◌≡◌ {A = ℕ} (cond (eqb (named g ws n) 0) 0 1) 1 = cond-false (eqb (named g ws n) 0) 0 1 (ne_eqb _ _ some) in
+      let k = somes_most (named g ws) n in
+      let w = wrapped x y now (omega arith) in
+      omega arith
+
+  -- nothing
+  pub tally_nothing : (n : ℕ) (t : Tally) → IsNothing g ws n → Tallied g ws n t → Tallied g ws (n + 1) t
+  tally_nothing n t (quiet, none) h =
       record {
-        places = len ∙ t.places;
-        even = even;
-        live = let h = t.live in omega arith;
-        refs = let h = t.refs in omega arith;
-        sound = below_more _ _ t.sound s;
+        start = h.start;
+        places = h.places;
+        found = λ q l. found_other n (place_address g q) (get_or t.places.items q unseen) (h.found q l) (λ e. not_place q (sym none ∙ e)) (due_dead n (place_address g q) (dead n quiet));
+        live = same_live n t.live (dead n quiet) h.live;
+        refs = same_refs n t.refs none h.refs;
+        stray = stray_none n t.stray h.stray (names_nothing n none);
       }
 
-  -- ---- where no header other than 0 stands
-
-  quiet_dead : (n : ℕ) → IsQuiet g ws n → (headers (see g ws) n).live ≡ false
-  unfolding header_of
-  quiet_dead n q = ap (λ w. (header_of w).live) q.header
-
-  quiet_count : (n : ℕ) → IsQuiet g ws n → (headers (see g ws) n).count ≡ 0
-  unfolding header_of
-  quiet_count n q = ap (λ w. (header_of w).count) q.header
-
-  quiet_header : (n : ℕ) → IsQuiet g ws n → test_at is_bad_header g ws n ≡ false
-  quiet_header n q =
-      elim (cases_Bool (test_at is_bad_header g ws n)) [
-        | inl t ↦ absurd (false≢true (sym (ap (λ k. not (eqb k 0)) q.header) ∙ bad_header_used g ws n t))
-        | inr e ↦ e
-      ]
-
-  quiet_sound : (n : ℕ) → IsQuiet g ws n → (named g ws n ≢ 0 → IsPlace g (named g ws n)) → IsSoundAt g ws n
-  quiet_sound n q target =
-      record {
-        header = quiet_header n q;
-        tag = q.tag;
-        count = λ l. absurd (false≢true (sym (quiet_dead n q) ∙ l));
-        target = target;
-        place = λ l. absurd (false≢true (sym (quiet_dead n q) ∙ l));
-      }
-
-  quiet_live : (n alive : ℕ) → IsQuiet g ws n → alive ≡ alive + one_if (headers (see g ws) n).live
-  quiet_live n alive q = let o : one_if (headers (see g ws) n).live ≡ 0 = ap one_if (quiet_dead n q) in omega arith
-
-  -- and the word names nothing
-  pub tally_quiet : (n : ℕ) (sums : List ℕ) (alive found : ℕ) → Tallied g ws n sums alive found → IsQuiet g ws n → named g ws n ≡ 0 → Tallied g ws (n + 1) sums alive found
-  tally_quiet n sums alive found t quiet none =
-      tally_step n sums sums alive found alive found t (quiet_sound n quiet (λ d. absurd (d none))) refl
-      (λ q l. ap (λ k. (get_or sums q 0 + k) % 2 ^ 32) (names_other n q (λ e. omega (arith, none, e))) ∙ (t.even q l ∙ sym (due_same n q (quiet_count n quiet))))
-      (quiet_live n alive quiet)
-      (let o : ◌≡◌ {A = ℕ} (cond (eqb (named g ws n) 0) 0 1) 0 = cond-true (eqb (named g ws n) 0) 0 1 (eq-eqb _ _ none) in omega arith)
-
-  pub tally_quiet_to : (m n : ℕ) (sums : List ℕ) (alive found : ℕ) → Tallied g ws n sums alive found → ((j : ℕ) → j < m → IsQuiet g ws (n + j) × (named g ws (n + j) ≡ 0)) → Tallied g ws (n + m) sums alive found
-  tally_quiet_to zero n sums alive found t h = let e : n ≡ n + 0 = omega arith in subst (λ k. Tallied g ws k sums alive found) e t
-  tally_quiet_to (suc m) n sums alive found t h =
-      let p = h m (omega arith) in
+  pub tally_nothing_to : (m n : ℕ) (t : Tally) → ((j : ℕ) → j < m → IsNothing g ws (n + j)) → Tallied g ws n t → Tallied g ws (n + m) t
+  tally_nothing_to zero n t h x = let e : n ≡ n + 0 = omega arith in subst (λ k. Tallied g ws k t) e x
+  tally_nothing_to (suc m) n t h x =
       let e : n + m + 1 ≡ n + suc m = omega arith in
-      subst (λ k. Tallied g ws k sums alive found) e (tally_quiet (n + m) sums alive found (tally_quiet_to m n sums alive found t (λ j l. h j (omega arith))) p.0 p.1)
+      subst (λ k. Tallied g ws k t) e (tally_nothing (n + m) t (h m (omega arith)) (tally_nothing_to m n t (λ j l. h j (omega arith)) x))
 
-  lowered : (x n d : ℕ) → (x + n) % 2 ^ 32 ≡ d → ((x + (2 ^ 32 - 1)) % 2 ^ 32 + (n + 1)) % 2 ^ 32 ≡ d
-  lowered x n d e = omega arith
+  -- a word that names a place
+  pub tally_named : (n target p : ℕ) (t next : Tally) (f : Found) → GeometryFits g → n < total_of g → IsNaming g ws n target → p < places_in g → target ≡ place_address g p → Tallied g ws n t
+      → next.start ≡ t.start → next.places.items ≡ set t.places.items p f
+      → f.times ≡ ((get_or t.places.items p unseen).times + 1) % 2 ^ 32 → f.namer ≡ cond (eqb (get_or t.places.items p unseen).times 0) n (get_or t.places.items p unseen).namer → f.count ≡ (get_or t.places.items p unseen).count
+      → next.live ≡ t.live → next.refs ≡ (t.refs + 1) % 2 ^ 32 → next.stray ≡ t.stray → Tallied g ws (n + 1) next
+  tally_named n target p t next f fits l naming k is h start now times namer count live refs stray =
+      let s = total_small g fits in
+      let here : named g ws n ≡ place_address g p = naming.names ∙ is in
+      let small : n + 1 < 2 ^ 32 = omega arith in
+      let within : p < length t.places.items = (let e = h.places in omega arith) in
+      let quiet = dead n naming.quiet in
+      record {
+        start = start ∙ h.start;
+        places = ap length now ∙ (length-set t.places.items p f ∙ h.places);
+        found = λ q m. elim (cases_eq q p) [
+          | inl e ↦ (
+              let x : get_or next.places.items q unseen ≡ f = ap (λ xs. get_or xs q unseen) now ∙ (ap (λ i. get_or (set t.places.items p f) i unseen) e ∙ get_or-set_same t.places.items p f unseen within) in
+              let y : IsFound g ws (n + 1) (place_address g p) f = found_named n (place_address g p) (get_or t.places.items p unseen) f (h.found p k) small here (due_dead n (place_address g p) quiet) times namer count in
+              subst (IsFound g ws (n + 1) (place_address g q)) (sym x) (subst (λ i. IsFound g ws (n + 1) (place_address g i) f) (sym e) y))
+          | inr d ↦ (
+              let x : get_or next.places.items q unseen ≡ get_or t.places.items q unseen = ap (λ xs. get_or xs q unseen) now ∙ get_or-set_other t.places.items p q f unseen d in
+              let apart : named g ws n ≢ place_address g q = λ z. d (omega (arith, here, z)) in
+              subst (IsFound g ws (n + 1) (place_address g q)) (sym x) (found_other n (place_address g q) (get_or t.places.items q unseen) (h.found q m) apart (due_dead n (place_address g q) quiet)))
+        ];
+        live = same_live n next.live quiet (live ∙ h.live);
+        refs = more_refs n t.refs next.refs small (λ z. not_place p (sym z ∙ here)) h.refs refs;
+        stray = subst (IsStray g ws (n + 1)) (sym stray) (stray_none n t.stray h.stray (names_place n (ap (is_place g) here ∙ place_there g p k)));
+      }
 
-  raised : (x n c : ℕ) → c < 2 ^ 32 → (x + n) % 2 ^ 32 ≡ 0 → ((x + c) % 2 ^ 32 + n) % 2 ^ 32 ≡ c
-  raised x n c l e = omega arith
+  -- a word that names something that isn't a place
+  pub tally_strayed : (n target : ℕ) (t next : Tally) (r : Reference) → GeometryFits g → n < total_of g → IsNaming g ws n target → target ≢ 0 → is_place g target ≡ false → Tallied g ws n t
+      → next.start ≡ t.start → next.places.items ≡ t.places.items → next.live ≡ t.live → next.refs ≡ (t.refs + 1) % 2 ^ 32
+      → r.at ≡ n → r.target ≡ target → (t.stray ≡ None → next.stray ≡ Some r) → (t.stray ≢ None → next.stray ≡ t.stray) → Tallied g ws (n + 1) next
+  tally_strayed n target t next r fits l naming some apart h start now live refs at to none known =
+      let s = total_small g fits in
+      let small : n + 1 < 2 ^ 32 = omega arith in
+      let quiet = dead n naming.quiet in
+      let other : (q : ℕ) → q < places_in g → named g ws n ≢ place_address g q = λ q m z. true≢false (sym (place_there g q m) ∙ (ap (is_place g) (sym z ∙ naming.names) ∙ apart)) in
+      let ne : named g ws n ≢ 0 = λ z. some (sym naming.names ∙ z) in
+      record {
+        start = start ∙ h.start;
+        places = ap length now ∙ h.places;
+        found = λ q m.
+            let x : get_or next.places.items q unseen ≡ get_or t.places.items q unseen = ap (λ xs. get_or xs q unseen) now in
+            subst (IsFound g ws (n + 1) (place_address g q)) (sym x) (found_other n (place_address g q) (get_or t.places.items q unseen) (h.found q m) (other q m) (due_dead n (place_address g q) quiet));
+        live = same_live n next.live quiet (live ∙ h.live);
+        refs = more_refs n t.refs next.refs small ne h.refs refs;
+        stray = stray_more n t.stray next.stray r h.stray (and_from _ _ (ap not (ne_eqb _ _ ne)) (ap not (ap (is_place g) naming.names ∙ apart))) at (to ∙ sym naming.names) none known;
+      }
 
-  -- the word names a place
-  pub tally_name : (n p : ℕ) (sums next : List ℕ) (alive found a f : ℕ) → Tallied g ws n sums alive found → IsQuiet g ws n → p < places_in g → named g ws n ≡ place_address g p
-      → next ≡ set sums p ((get_or sums p 0 + (2 ^ 32 - 1)) % 2 ^ 32) → f ≡ found + 1 → a ≡ alive → Tallied g ws (n + 1) next a f
-  tally_name n p sums next alive found a f t quiet l is now more same =
-      let some : named g ws n ≢ 0 = λ z. omega (arith, is, z) in
-      let k : p < length sums = (let e = t.places in omega arith) in
-      tally_step n sums next alive found a f t (quiet_sound n quiet (λ d. (p, l, is))) (ap length now ∙ length-set sums p _)
-      (λ q m. elim (cases_eq q p) [
-        | inl e ↦ (
-            let x : get_or next q 0 ≡ (get_or sums q 0 + (2 ^ 32 - 1)) % 2 ^ 32 = ap (λ xs. get_or xs q 0) now ∙ (ap (λ i. get_or (set sums p ((get_or sums p 0 + (2 ^ 32 - 1)) % 2 ^ 32)) i 0) e ∙ (get_or-set_same sums p _ 0 k ∙ ap (λ i. (get_or sums i 0 + (2 ^ 32 - 1)) % 2 ^ 32) (sym e))) in
-            let y = names_here n q (is ∙ ap (place_address g) (sym e)) in
-            ap (λ u. (u + names_below (n + 1) q) % 2 ^ 32) x ∙ (ap (λ u. ((get_or sums q 0 + (2 ^ 32 - 1)) % 2 ^ 32 + u) % 2 ^ 32) y ∙ (lowered (get_or sums q 0) (names_below n q) (due n q) (t.even q m) ∙ sym (due_same n q (quiet_count n quiet)))))
-        | inr d ↦ (
-            let x : get_or next q 0 ≡ get_or sums q 0 = ap (λ xs. get_or xs q 0) now ∙ get_or-set_other sums p q _ 0 d in
-            let y = names_other n q (λ z. d (omega (arith, is, z))) in
-            ap (λ u. (u + names_below (n + 1) q) % 2 ^ 32) x ∙ (ap (λ u. (get_or sums q 0 + u) % 2 ^ 32) y ∙ (t.even q m ∙ sym (due_same n q (quiet_count n quiet)))))
-      ])
-      (same ∙ quiet_live n alive quiet)
-      (let o : ◌≡◌ {A = ℕ} (cond (eqb (named g ws n) 0) 0 1) 1 = cond-false (eqb (named g ws n) 0) 0 1 (ne_eqb _ _ some) in omega arith)
-
-  -- a live block begins there
-  pub tally_head : (n p : ℕ) (sums next : List ℕ) (alive found a f : ℕ) → Tallied g ws n sums alive found → IsSoundAt g ws n → named g ws n ≡ 0 → p < places_in g → place_address g p ≡ n
-      → (headers (see g ws) n).live ≡ true → (headers (see g ws) n).count < 2 ^ 32
-      → next ≡ set sums p ((get_or sums p 0 + (headers (see g ws) n).count) % 2 ^ 32) → a ≡ alive + 1 → f ≡ found → Tallied g ws (n + 1) next a f
-  tally_head n p sums next alive found a f t sound none l is live small now more same =
-      let k : p < length sums = (let e = t.places in omega arith) in
-      let count = (headers (see g ws) n).count in
-      tally_step n sums next alive found a f t sound (ap length now ∙ length-set sums p _)
-      (λ q m. let y = names_other n q (λ e. omega (arith, none, e)) in elim (cases_eq q p) [
-        | inl e ↦ (
-            let x : get_or next q 0 ≡ (get_or sums q 0 + count) % 2 ^ 32 = ap (λ xs. get_or xs q 0) now ∙ (ap (λ i. get_or (set sums p ((get_or sums p 0 + count) % 2 ^ 32)) i 0) e ∙ (get_or-set_same sums p _ 0 k ∙ ap (λ i. (get_or sums i 0 + count) % 2 ^ 32) (sym e))) in
-            let here : place_address g q ≡ n = ap (place_address g) e ∙ is in
-            let before : (get_or sums q 0 + names_below n q) % 2 ^ 32 ≡ 0 = t.even q m ∙ due_above n q (omega arith) in
-            ap (λ u. (u + names_below (n + 1) q) % 2 ^ 32) x ∙ (ap (λ u. ((get_or sums q 0 + count) % 2 ^ 32 + u) % 2 ^ 32) y ∙ (raised (get_or sums q 0) (names_below n q) count small before ∙ sym (due_here n q here))))
-        | inr d ↦ (
-            let x : get_or next q 0 ≡ get_or sums q 0 = ap (λ xs. get_or xs q 0) now ∙ get_or-set_other sums p q _ 0 d in
-            ap (λ u. (u + names_below (n + 1) q) % 2 ^ 32) x ∙ (ap (λ u. (get_or sums q 0 + u) % 2 ^ 32) y ∙ (t.even q m ∙ sym (due_other n q (λ z. d (omega (arith, is, z)))))))
-      ])
-      (let o : one_if (headers (see g ws) n).live ≡ 1 = ap one_if live in omega arith)
-      (let o : ◌≡◌ {A = ℕ} (cond (eqb (named g ws n) 0) 0 1) 0 = cond-true (eqb (named g ws n) 0) 0 1 (eq-eqb _ _ none) in same ∙ omega arith)
+  -- the header of a live block
+  pub tally_head : (n p c : ℕ) (t next : Tally) (f : Found) → GeometryFits g → n < total_of g → IsHead g ws n c → p < places_in g → n ≡ place_address g p → Tallied g ws n t
+      → next.start ≡ t.start → next.places.items ≡ set t.places.items p f
+      → f.times ≡ (get_or t.places.items p unseen).times → f.namer ≡ (get_or t.places.items p unseen).namer → f.count ≡ Some c
+      → next.live ≡ (t.live + 1) % 2 ^ 32 → next.refs ≡ t.refs → next.stray ≡ t.stray → Tallied g ws (n + 1) next
+  tally_head n p c t next f fits l head k is h start now times namer count live refs stray =
+      let s = total_small g fits in
+      let small : n + 1 < 2 ^ 32 = omega arith in
+      let within : p < length t.places.items = (let e = h.places in omega arith) in
+      let m = sum_below-one_more (λ b. one_if (headers (see g ws) b).live) n in
+      let o : one_if (headers (see g ws) n).live ≡ 1 = ap one_if head.live in
+      let few = ones_most (λ b. (headers (see g ws) b).live) n in
+      let before = h.live in
+      let w : next.live ≡ t.live + 1 = wrapped t.live next.live live (omega arith) in
+      record {
+        start = start ∙ h.start;
+        places = ap length now ∙ (length-set t.places.items p f ∙ h.places);
+        found = λ q m. elim (cases_eq q p) [
+          | inl e ↦ (
+              let x : get_or next.places.items q unseen ≡ f = ap (λ xs. get_or xs q unseen) now ∙ (ap (λ i. get_or (set t.places.items p f) i unseen) e ∙ get_or-set_same t.places.items p f unseen within) in
+              let y : IsFound g ws (n + 1) (place_address g p) f = found_head n (place_address g p) c (get_or t.places.items p unseen) f (h.found p k) (sym is) (λ z. not_place p (sym head.names ∙ z)) head.live head.count times namer count in
+              subst (IsFound g ws (n + 1) (place_address g q)) (sym x) (subst (λ i. IsFound g ws (n + 1) (place_address g i) f) (sym e) y))
+          | inr d ↦ (
+              let x : get_or next.places.items q unseen ≡ get_or t.places.items q unseen = ap (λ xs. get_or xs q unseen) now ∙ get_or-set_other t.places.items p q f unseen d in
+              subst (IsFound g ws (n + 1) (place_address g q)) (sym x) (found_other n (place_address g q) (get_or t.places.items q unseen) (h.found q m) (λ z. not_place q (sym head.names ∙ z)) (due_other n (place_address g q) (λ z. d (omega (arith, is, z))))))
+        ];
+        live = omega arith;
+        refs = same_refs n next.refs head.names (refs ∙ h.refs);
+        stray = subst (IsStray g ws (n + 1)) (sym stray) (stray_none n t.stray h.stray (names_nothing n head.names));
+      }
 
   -- before the first word
-  pub tally_none : (sums : List ℕ) (alive found : ℕ) → length sums ≡ places_in g → ((q : ℕ) → get_or sums q 0 ≡ 0) → alive ≡ 0 → found ≡ 0 → Tallied g ws 0 sums alive found
-  tally_none sums alive found len zeros a f =
+  pub tally_none : (t : Tally) → t.start ≡ bodies g → length t.places.items ≡ places_in g → ((q : ℕ) → q < places_in g → get_or t.places.items q unseen ≡ unseen) → t.live ≡ 0 → t.refs ≡ 0 → t.stray ≡ None → Tallied g ws 0 t
+  tally_none t start len zeros live refs stray =
       record {
+        start = start;
         places = len;
-        even = λ q l. ap (λ x. (x + 0) % 2 ^ 32) (zeros q) ∙ sym (due_above 0 q (omega arith));
-        live = a;
-        refs = f;
-        sound = λ b l. absurd (omega arith);
+        found = λ q l. subst (IsFound g ws 0 (place_address g q)) (sym (zeros q l)) (record { times = refl; namer = λ some. absurd (omega arith); count = sym (due_above 0 (place_address g q) (omega arith)) });
+        live = live;
+        refs = refs;
+        stray = subst (IsStray g ws 0) (sym stray) (λ a l. absurd (omega arith));
       }
-
-  -- ---- how large the numbers are
-
-  somes_most : (f : ℕ → ℕ) (n : ℕ) → sum_below n (λ a. cond (eqb (f a) 0) 0 1) ≤ n
-  somes_most f zero = omega arith
-  somes_most f (suc n) =
-      let i = somes_most f n in
-      elim (cases_eq (f n) 0) [
-        | inl e ↦ (let x : ◌≡◌ {A = ℕ} (cond (eqb (f n) 0) 0 1) 0 = cond-true (eqb (f n) 0) 0 1 (eq-eqb _ _ e) in omega arith)
-        | inr e ↦ (let x : ◌≡◌ {A = ℕ} (cond (eqb (f n) 0) 0 1) 1 = cond-false (eqb (f n) 0) 0 1 (ne_eqb _ _ e) in omega arith)
-      ]
-
-  pub found_room : (n : ℕ) (sums : List ℕ) (alive found : ℕ) → GeometryFits g → n ≤ total_of g → Tallied g ws n sums alive found → found + 1 < 2 ^ 32
-  found_room n sums alive found f l t =
-      let m = somes_most (named g ws) n in
-      let s = total_small g f in
-      let e = t.refs in
-      omega arith
-
-  pub alive_room : (n : ℕ) (sums : List ℕ) (alive found : ℕ) → GeometryFits g → n ≤ total_of g → Tallied g ws n sums alive found → alive + 1 < 2 ^ 32
-  alive_room n sums alive found f l t =
-      let m = ones_most (λ b. (headers (see g ws) b).live) n in
-      let s = total_small g f in
-      let e = t.live in
-      omega arith
-
-  -- ---- the next word
-
-  pub tally_next_none : (n t : ℕ) (sums : List ℕ) (alive found : ℕ) → IsNaming g ws n t → t ≡ 0 → Tallied g ws n sums alive found → Tallied g ws (n + 1) sums alive found
-  tally_next_none n t sums alive found naming z h = tally_quiet n sums alive found h naming.quiet (naming.names ∙ z)
-
-  -- before the bodies
-  before_head : (a : ℕ) → a < bodies g → see g ws (Head a) ≡ 0
-  unfolding spot_address
-  before_head a l = see_absent g ws (Head a) (λ e. let w = (block_within g (classes_in g ws) a e).0 in omega arith)
-
-  before_tag : (a : ℕ) → a < bodies g → test_at is_bad_tag g ws a ≡ false
-  before_tag a l =
-      elim (cases_Bool (test_at is_bad_tag g ws a)) [
-        | inl t ↦ (let p = bad_tag_behind g ws a t in let e = p.1 in absurd (false≢true (sym (not_used_before g ws p.0 (omega arith)) ∙ p.2)))
-        | inr e ↦ e
-      ]
-
-  pub naming_before : (a t : ℕ) → a < bodies g → t ≡ named g ws a → IsNaming g ws a t
-  naming_before a t l e = record { quiet = record { header = before_head a l; tag = before_tag a l }; names = sym e }

@@ -10,12 +10,9 @@ ghost use Rattle.shm_audit.specs.Faults.{image_fault_of, words_fault_of};
 ghost use Rattle.shm_audit.specs.Verdicts.{verdict_of, clean_verdict, IsCleanVerdict};
 ghost use Rattle.shm_audit.specs.Stops.{StopsBy};
 
-use crate::blocks::used_blocks;
-use crate::checks::{check_headers, check_pages, check_tags};
-use crate::counts::{count_references, first_pending, judge_blocks};
+use crate::auditor::Auditor;
 use crate::image::open_image;
 use crate::stop::AuditStop;
-use crate::tally::clean_pool;
 use crate::verdict::Verdict;
 use shm_words::Geometry;
 use std::alloc::Global;
@@ -25,8 +22,7 @@ use std::alloc::Global;
 /// Of the faults the first in this order is told: the length, the first 8 bytes, the sizes, the length that they ask for, page words,
 /// headers, tags, references; of those at words the one at the least address. Of the verdicts it is the least identity that is neither new
 /// nor gone; then the first block that is live and has the count 0 or another count than references; else the pool is clean. One pass
-/// tells a clean pool, with 1 byte of memory for each word of the pages; only where the pool isn't clean the first fault or verdict is looked
-/// for, with 4 bytes for each word and 4 for each block in use.
+/// tells them all, with 12 bytes of memory for each 4 words of the pages.
 pub fn audit(alloc: Global, image: &[u8]) -> Result<Verdict, AuditStop>
     ensures ok { IfOk result (λ v. (image_fault_of image.now ≡ None) × (v ≡ verdict_of (geometry_in image.now) (see (geometry_in image.now) (words_in image.now)))) }
     ensures err { IfErr result (λ e. StopsBy (image_fault_of image.now) e) }
@@ -37,22 +33,21 @@ pub fn audit(alloc: Global, image: &[u8]) -> Result<Verdict, AuditStop>
 
 // the verdict on the words of a pool, or their first fault
 fn audit_words(alloc: Global, geometry: Geometry, words: &[[u8; 8]]) -> Result<Verdict, AuditStop>
-    requires { GeometryFits geometry }
+    requires fits { GeometryFits geometry }
+    requires whole { length words.now ≡ total_of geometry }
     ensures ok { IfOk result (λ v. (words_fault_of geometry (numbers words.now) ≡ None) × (v ≡ verdict_of geometry (see geometry (numbers words.now)))) }
     ensures err { IfErr result (λ e. StopsBy (words_fault_of geometry (numbers words.now)) e) }
 {
-    if let Some(verdict) = clean_pool(alloc, geometry, words).map_err(AuditStop::Memory)? {
-        return Ok(verdict);
+    let front = &words[..geometry.body(0, 0) as usize];
+    let mut auditor = Auditor::new(alloc, geometry, front)?;
+    for number in 0..geometry.segments() {
+        let first = geometry.body(number, 0) as usize;
+        auditor.segment(geometry, front, number, &words[first..first + 2048]);
     }
-    check_pages(geometry, words).map_err(AuditStop::Fault)?;
-    let blocks = used_blocks(alloc, geometry, words).map_err(AuditStop::Memory)?;
-    check_headers(geometry, words, blocks.as_slice()).map_err(AuditStop::Fault)?;
-    check_tags(geometry, words, blocks.as_slice()).map_err(AuditStop::Fault)?;
-    let counts = count_references(alloc, geometry, words)?;
-    if let Some(client) = first_pending(geometry, words) {
-        return Ok(Verdict::Pending { client });
+    match auditor.finish(geometry, front) {
+        Ok(verdict) => Ok(verdict),
+        Err(fault) => Err(AuditStop::Fault(fault)),
     }
-    Ok(judge_blocks(geometry, words, blocks.as_slice(), &counts))
 }
 
 /// A pool is clean exactly where its words have no fault and the verdict on them is that it is.

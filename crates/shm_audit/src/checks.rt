@@ -1,27 +1,27 @@
-//! The faults of single words: pages, headers and tags.
+//! Tests of single words: pages, headers, tags and statuses.
 
-ghost use Rattle.std.specs.Prelude.{◌≡◌, ◌&&◌, nat_lt, IfErr, OnOk, None, Some};
-ghost use Rattle.shm_words.specs.Layout.{GeometryFits};
-ghost use Rattle.shm_audit.specs.declared.fault.ImageFault.TheVariants as fault;
-ghost use Rattle.shm_audit.specs.Images.{numbers};
-ghost use Rattle.shm_audit.specs.Used.{used_in};
+ghost use Rattle.std.specs.Prelude.{◌≡◌, ◌&&◌, ℕ, List, length, nat_lt, IfErr, OnOk, Some};
+ghost use Rattle.shm_words.specs.Layout.{GeometryFits, bodies};
 ghost use Rattle.shm_words.specs.Tags.{tag_of};
-ghost use Rattle.shm_graph.specs.Spots.{see, spot_at, classes_in};
-ghost use Rattle.shm_audit.specs.Faults.{first_fault, is_page_word, is_bad_page, is_bad_header, is_bad_tag, tag_suits};
+ghost use Rattle.shm_graph.specs.Spots.{see};
+ghost use Rattle.shm_audit.specs.Images.{numbers};
+ghost use Rattle.shm_audit.specs.Faults.{is_page_word, least_below, tag_suits, words_fault_of};
+ghost use Rattle.shm_audit.specs.Tallies.{AreFrom, ArePages};
+ghost use Rattle.shm_audit.specs.Verdicts.{is_pending, is_settled};
 
 use crate::fault::ImageFault;
-use crate::words::{class_at, spot, word};
-use shm_graph::Spot;
+use crate::words::word;
 use shm_words::{Geometry, Header};
 
-/// Refuses the first page word that is neither 0 nor a class.
-pub fn check_pages(geometry: Geometry, words: &[[u8; 8]]) -> Result<(), ImageFault>
-    requires { GeometryFits geometry }
-    ensures ok { OnOk result (first_fault geometry (numbers words.now) is_bad_page fault.BadPage ≡ None) }
-    ensures err { IfErr result (λ f. first_fault geometry (numbers words.now) is_bad_page fault.BadPage ≡ Some f) }
+/// Refuses the first page word that is neither 0 nor a class; `front` are the words before the bodies.
+pub fn check_pages(geometry: Geometry, front: &[[u8; 8]]) -> Result<(), ImageFault>
+    requires fits { GeometryFits geometry }
+    requires whole { length front.now ≡ bodies geometry }
+    ensures ok { OnOk result ((ws : List ℕ) → AreFrom ws 0 (numbers front.now) → ArePages geometry ws) }
+    ensures err { IfErr result (λ f. (ws : List ℕ) → AreFrom ws 0 (numbers front.now) → words_fault_of geometry ws ≡ Some f) }
 {
     for at in geometry.page(0, 0)..geometry.body(0, 0) {
-        let word = word(words, at);
+        let word = word(front, at);
         if !is_page_word(word) {
             return Err(ImageFault::BadPage { at, word });
         }
@@ -36,65 +36,11 @@ pub fn is_page_word(word: u64) -> bool
     matches!(word, 0 | 4 | 8 | 16 | 32)
 }
 
-/// Refuses the first header that isn't 0, and isn't live or is of a client that the pool doesn't have; `blocks` are those with a header.
-pub fn check_headers(
-    geometry: Geometry,
-    words: &[[u8; 8]],
-    blocks: &[u32],
-) -> Result<(), ImageFault>
-    requires fits { GeometryFits geometry }
-    requires used { blocks.now ≡ used_in geometry (numbers words.now) }
-    ensures ok { OnOk result (first_fault geometry (numbers words.now) is_bad_header fault.BadHeader ≡ None) }
-    ensures err { IfErr result (λ f. first_fault geometry (numbers words.now) is_bad_header fault.BadHeader ≡ Some f) }
-{
-    for block in blocks {
-        let at = *block;
-        let word = word(words, at);
-        if !is_lawful(geometry, Header::unpack(word)) {
-            return Err(ImageFault::BadHeader { at, word });
-        }
-    }
-    Ok(())
-}
-
 /// Whether a header is live and of a client of the pool.
 pub fn is_lawful(geometry: Geometry, header: Header) -> bool
     ensures { result ≡ (header.live && nat_lt header.client geometry.clients) }
 {
     header.live && header.client < geometry.clients()
-}
-
-/// Refuses the first tag of a live block that is none, has more words than the block, or is by an author that the pool doesn't have;
-/// `blocks` are those with a header.
-pub fn check_tags(geometry: Geometry, words: &[[u8; 8]], blocks: &[u32]) -> Result<(), ImageFault>
-    requires fits { GeometryFits geometry }
-    requires used { blocks.now ≡ used_in geometry (numbers words.now) }
-    ensures ok { OnOk result (first_fault geometry (numbers words.now) is_bad_tag fault.BadTag ≡ None) }
-    ensures err { IfErr result (λ f. first_fault geometry (numbers words.now) is_bad_tag fault.BadTag ≡ Some f) }
-{
-    for block in blocks {
-        let at = *block + 1;
-        if is_bad_tag(geometry, words, at) {
-            let word = word(words, at);
-            return Err(ImageFault::BadTag { at, word });
-        }
-    }
-    Ok(())
-}
-
-// whether the word at an address is the tag of a live block, and is none, has more words than the block or is by an author that the pool
-// doesn't have
-fn is_bad_tag(geometry: Geometry, words: &[[u8; 8]], at: u32) -> bool
-    requires { GeometryFits geometry }
-    ensures { result ≡ is_bad_tag geometry (see geometry (numbers words.now)) (spot_at geometry (classes_in geometry (numbers words.now)) at) }
-{
-    match spot(geometry, words, at) {
-        Spot::Tag { b } => {
-            Header::unpack(word(words, b)).live
-                && !suits(geometry, class_at(geometry, words, b), word(words, at))
-        }
-        _ => false,
-    }
 }
 
 /// Whether a word is the tag of a block of so many words, by a client of the pool.
@@ -108,4 +54,25 @@ pub fn suits(geometry: Geometry, class: u64, word: u64) -> bool
         }
         None => false,
     }
+}
+
+/// The first identity that is neither new nor gone; `front` are the words before the bodies.
+pub fn first_pending(geometry: Geometry, front: &[[u8; 8]]) -> Option<u8>
+    requires fits { GeometryFits geometry }
+    requires whole { length front.now ≡ bodies geometry }
+    ensures { (ws : List ℕ) → AreFrom ws 0 (numbers front.now) → result ≡ least_below geometry.clients (is_pending (see geometry ws)) }
+{
+    for c in 0..geometry.clients() {
+        if !is_settled(word(front, geometry.status(c))) {
+            return Some(c);
+        }
+    }
+    None
+}
+
+// whether a status is that of an identity that is new or gone
+fn is_settled(status: u64) -> bool
+    ensures { result ≡ is_settled status }
+{
+    matches!(status, 0 | 3)
 }

@@ -7,6 +7,7 @@ ghost use Rattle.shm_words.specs.Layout.{GeometryFits, total_of};
 ghost use Rattle.shm_audit.specs.Images.{image_of, geometry_in, marks, numbers, words_in};
 ghost use Rattle.shm_audit.specs.declared.fault.ImageFault.TheVariants as fault;
 ghost use Rattle.shm_audit.specs.Faults.{frame_fault_of, is_size};
+ghost use Rattle.shm_audit.specs.Frames.{Announces};
 
 use crate::fault::ImageFault;
 use crate::words::word;
@@ -79,6 +80,20 @@ pub fn open_image(image: &[u8]) -> Result<(Geometry, &[[u8; 8]]), ImageFault>
         return Err(ImageFault::Length { len, want });
     }
     Ok((geometry, &runs[3..]))
+}
+
+/// The sizes and the format that the first 24 bytes of an image announce.
+///
+/// It refuses the first of these: the mark of no format; and sizes that no pool of its format has.
+pub fn read_frame(frame: &[u8]) -> Result<Geometry, ImageFault>
+    requires { length frame.now ≡ 24 }
+    ensures fits { IfOk result (λ g. GeometryFits g) }
+    ensures sizes { IfOk result (λ g. (rest : List ℕ) → Announces g (frame.now ++ rest)) }
+    ensures fault { IfErr result (λ f. (rest : List ℕ) → frame_fault_of (frame.now ++ rest) ≡ Some f) }
+{
+    let (runs, _) = frame.as_chunks::<8>();
+    let wide = read_mark(word(runs, 0))?;
+    read_sizes(wide, word(runs, 1), word(runs, 2))
 }
 
 // whether this is the mark of format 2 and not of format 1, where it is one of them

@@ -2,9 +2,8 @@
 #![tactic(auto)]
 
 mod auditing;
-mod blocks;
+mod auditor;
 mod checks;
-mod counts;
 mod fault;
 mod image;
 mod stop;
@@ -14,8 +13,9 @@ mod verdict;
 mod words;
 
 pub use auditing::{audit, clean_images, clean_where_verdict_is};
+pub use auditor::Auditor;
 pub use fault::ImageFault;
-pub use image::{image_reads_back, open_image, push_word, write_image};
+pub use image::{image_reads_back, open_image, push_word, read_frame, write_image};
 pub use stop::AuditStop;
 pub use text::{fault_text, verdict_text};
 pub use verdict::Verdict;

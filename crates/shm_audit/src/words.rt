@@ -1,16 +1,14 @@
-//! What the words of an image say: what each is for, the headers of blocks, and the references.
+//! What the words of an image say: what each is for, and what it names.
 
-ghost use Rattle.std.specs.Prelude.{◌≡◌, ◌≢◌, ◌+◌, ◌%◌, ◌<◌, ◌≤◌, slice_index, true};
+ghost use Rattle.std.specs.Prelude.{◌≡◌, ◌≢◌, ℕ, ◌%◌, ◌<◌, ◌≤◌, List, length, slice_index, true};
 ghost use Rattle.shm_words.specs.Layout.{GeometryFits, total_of, bodies, address, is_in};
 ghost use Rattle.shm_words.specs.Tags.{tag_refs};
-ghost use Rattle.shm_graph.specs.declared.spot.Spot.TheVariants.{Tag};
-ghost use Rattle.shm_graph.specs.Spots.{see, spot_at, spot_of, block_spot, classes_in, class_at};
-ghost use Rattle.shm_graph.specs.Blocks.{headers, IsBlock};
-ghost use Rattle.shm_graph.specs.References.{words_of, references};
+ghost use Rattle.shm_graph.specs.Spots.{spot_at, spot_of, block_spot, classes_in};
 ghost use Rattle.shm_audit.specs.Images.{numbers};
+ghost use Rattle.shm_audit.specs.Tallies.{AreFrom, named};
 
 use shm_graph::Spot;
-use shm_words::{Geometry, Header, Place};
+use shm_words::{Geometry, Place};
 
 /// The word at an address, whose bytes stand with the lowest first, and 0 past the end.
 pub fn word(words: &[[u8; 8]], at: u32) -> u64
@@ -106,32 +104,6 @@ fn place_in(class: u64, k: u8) -> u64
     }
 }
 
-/// The class of the page of a block.
-pub fn class_at(geometry: Geometry, words: &[[u8; 8]], block: u32) -> u64
-    requires fits { GeometryFits geometry }
-    requires is { IsBlock geometry (classes_in geometry (numbers words.now)) block }
-    ensures { result ≡ class_at geometry (classes_in geometry (numbers words.now)) block }
-{
-    let Some(place) = geometry.place(block) else {
-        return 0;
-    };
-    match place {
-        Place::Body { g, p, .. } => word(words, geometry.page(g, p)),
-        _ => 0,
-    }
-}
-
-/// The header of the block that begins at an address; where none begins, that of a free block.
-pub fn header_at(geometry: Geometry, words: &[[u8; 8]], at: u32) -> Header
-    requires { GeometryFits geometry }
-    ensures { result ≡ headers (see geometry (numbers words.now)) at }
-{
-    match spot(geometry, words, at) {
-        Spot::Head { b } => Header::unpack(word(words, b)),
-        _ => Header::unpack(0),
-    }
-}
-
 /// How many reference words a tag word shows.
 pub fn refs_in(geometry: Geometry, word: u64) -> u8
     ensures { result ≡ tag_refs geometry.wide word }
@@ -143,35 +115,18 @@ pub fn refs_in(geometry: Geometry, word: u64) -> u8
     }
 }
 
-// how many reference words a block has
-fn block_refs(geometry: Geometry, words: &[[u8; 8]], block: u32) -> u8
+/// What the word at an address before the bodies names; `front` are the words there.
+pub fn reference_before(geometry: Geometry, front: &[[u8; 8]], at: u32) -> u64
     requires fits { GeometryFits geometry }
-    requires is { IsBlock geometry (classes_in geometry (numbers words.now)) block }
-    requires tag { spot_at geometry (classes_in geometry (numbers words.now)) (block + 1) ≡ Tag block }
-    ensures { result ≡ (words_of geometry.wide (see geometry (numbers words.now))).refs block }
+    requires whole { length front.now ≡ bodies geometry }
+    requires before { at < bodies geometry }
+    ensures { (ws : List ℕ) → AreFrom ws 0 (numbers front.now) → result ≡ named geometry ws at }
 {
-    if Header::unpack(word(words, block)).live {
-        refs_in(geometry, word(words, block + 1))
-    } else {
-        0
-    }
-}
-
-/// What the word at an address names where it is a reference word: a block, or 0; another word names nothing.
-pub fn reference_at(geometry: Geometry, words: &[[u8; 8]], at: u32) -> u64
-    requires fits { GeometryFits geometry }
-    requires range { at < total_of geometry }
-    ensures { result ≡ references geometry.wide (see geometry (numbers words.now)) (spot_at geometry (classes_in geometry (numbers words.now)) at) }
-{
-    match spot(geometry, words, at) {
-        Spot::Home { .. } | Spot::Root { .. } | Spot::Slot { .. } => word(words, at),
-        Spot::Body { b, i } => {
-            if i < block_refs(geometry, words, b) {
-                word(words, at)
-            } else {
-                0
-            }
-        }
+    let Some(place) = geometry.place(at) else {
+        return 0;
+    };
+    match place {
+        Place::Home { .. } | Place::Root { .. } | Place::Slot { .. } => word(front, at),
         _ => 0,
     }
 }

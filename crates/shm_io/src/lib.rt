@@ -8,6 +8,7 @@
 mod calls;
 mod failed;
 mod filling;
+mod full;
 mod memory_sink;
 mod memory_source;
 mod reading;
@@ -17,6 +18,7 @@ mod standard;
 mod writing;
 
 pub use failed::Failed;
+pub use full::{read_full, skip_to_limit};
 pub use memory_sink::MemorySink;
 pub use memory_source::MemorySource;
 pub use reading::{ReadStop, read_to_limit};

@@ -18,7 +18,7 @@ use Rattle.shm_graph.specs.Clean.{IsClean}
 use Rattle.shm_graph.proofs.Spots.Spotting.{spot_in_bodies, block_within, tag_spot, body_spot}
 use Rattle.shm_graph.proofs.Spots.Seeing.{see_at, see_page}
 use Rattle.shm_graph.proofs.Spots.WordsAt.{block_header}
-use Rattle.shm_audit.proofs.TallyBlocks.{block_end, class_of_page}
+use Rattle.shm_audit.proofs.Blocks.{block_end, class_of_page}
 use Rattle.shm_migrate.specs.Widened.{wide_of, live_tag, widened_tag, widened_body, widened_at, widened_word}
 use Rattle.shm_migrate.specs.Writing.{IsWritten, WritesOn}
 use Rattle.shm_migrate.proofs.Formats.{further_word}
@@ -90,14 +90,14 @@ module _ (g : Geometry) (ws : List ℕ) (f : GeometryFits g) (o : g.wide ≡ fal
     pub tag_written : (word : ℕ) → word ≡ widened_tag (live_tag g (see g ws) b) → word ≡ widened_word g (see g ws) (b + 1 + g.clients)
     tag_written word e =
         let w = block_within g (classes_in g ws) b is in
-        let m = block_end g ws b k is class sized in
+        let m = block_end g ws b k (record { is = is; class = class; sized = sized }) in
         let a = class_above k sized in
         e ∙ sym (word_in_body (b + 1) (Tag b) (omega arith) (omega arith) tag_here)
 
     pub body_written : (i old word : ℕ) → 2 + i < k → old ≡ get_or ws (b + 2 + i) 0 → word ≡ widened_body g (live_tag g (see g ws) b) i old → word ≡ widened_word g (see g ws) (b + 2 + i + g.clients)
     body_written i old word l h e =
         let w = block_within g (classes_in g ws) b is in
-        let m = block_end g ws b k is class sized in
+        let m = block_end g ws b k (record { is = is; class = class; sized = sized }) in
         let s = body_here i l in
         e
         ∙ (ap (widened_body g (live_tag g (see g ws) b) i) (h ∙ sym (see_at g ws (b + 2 + i) (Body b i) (omega arith) s))

@@ -1,39 +1,46 @@
-use Rattle.std.proofs.Common.{◌≡◌, below_more, sym, ap, ◌∙◌, arith, inl, inr, not, true}
+use Rattle.std.proofs.Common.{get_or, sym, ap, ◌∙◌, arith, inl, inr}
+use Rattle.std.proofs.lemmas.Bool.{cases_eq}
 use Rattle.std.specs.Prelude.{Some}
-use Rattle.std.proofs.lemmas.Bool.{cases_lt}
 use Rattle.shm_words.specs.Layout.{address}
 use Rattle.shm_audit.specs.declared.fault.ImageFault.TheVariants as fault
+use Rattle.shm_audit.specs.Faults.{is_page_word}
 use Rattle.shm_audit.specs.Images.{numbers}
-use Rattle.shm_audit.specs.Faults.{is_bad_page, is_page_word}
-use Rattle.shm_graph.specs.Spots.{see, classes_in}
-use Rattle.shm_audit.proofs.Tested.{test_at, no_fault, a_fault, page_test, before_pages, behind_pages}
+use Rattle.shm_audit.proofs.Fronts.{from_word, numbers_length}
+use Rattle.shm_audit.proofs.Steps.{bad_page}
 use Rattle.shm_audit.proofs.checks.check_pages.Goals as goal
 
 pub loop-at-init : goal.loop-at-init
 unfolding address
-loop-at-init c = λ a l. before_pages c.args.geometry (see c.args.geometry (numbers c.args.words.now)) (classes_in c.args.geometry (numbers c.args.words.now)) a (let e = c.page-at.ensures in omega arith)
-
-pub returns-then-not-is_page_word-clause-err : goal.returns-then-not-is_page_word-clause-err
-unfolding address
-returns-then-not-is_page_word-clause-err c =
-    let x = c.page-at.ensures in
-    let y = c.body-at-end.ensures in
-    let t = page_test c.args.geometry (numbers c.args.words.now) c.loop-at.at (let l = c.loop-at.auto.at in omega arith) (let l = c.loop-at-test.true in omega arith) in
-    let is : test_at is_bad_page c.args.geometry (numbers c.args.words.now) c.loop-at.at ≡ true = t ∙ ap (λ k. not (is_page_word k)) (sym c.word-word.ensures) ∙ ap not (sym (c.if-not-is_page_word.ensures)) in
-    a_fault is_bad_page c.args.geometry (numbers c.args.words.now) fault.BadPage c.loop-at.at c.requires (let l = c.loop-at-test.true in omega arith) is c.loop-at.invariant ∙ ap (λ k. Some (fault.BadPage c.loop-at.at k)) (sym c.word-word.ensures)
+loop-at-init c = λ ws from a l m. let e = c.page-at.ensures in absurd (omega arith)
 
 pub loop-at-preserved : goal.loop-at-preserved
 unfolding address
-loop-at-preserved c =
-    let x = c.page-at.ensures in
+loop-at-preserved c = λ ws from a l m.
     let y = c.body-at-end.ensures in
-    let t = page_test c.args.geometry (numbers c.args.words.now) c.loop-at.at (let l = c.loop-at.auto.at in omega arith) (let l = c.loop-at-test.true in omega arith) in
-    below_more _ _ c.loop-at.invariant (t ∙ ap (λ k. not (is_page_word k)) (sym c.word-word.ensures) ∙ ap not (sym (c.if-not-is_page_word.ensures)))
+    let at = c.loop-at.at in
+    let n = numbers_length c.args.front.now in
+    let k = c.loop-at-test.true in
+    let h = c.requires.whole in
+    let w = from_word ws (numbers c.args.front.now) 0 at at from (omega arith) (omega arith) in
+    elim (cases_eq a at) [
+      | inl e ↦ ap (λ b. is_page_word (get_or ws b 0)) e ∙ (ap is_page_word (w ∙ sym c.word-word.ensures) ∙ sym (c.if-not-is_page_word.ensures))
+      | inr d ↦ c.loop-at.invariant ws from a l (omega (arith, m, d))
+    ]
 
 pub returns-clause-ok : goal.returns-clause-ok
 unfolding address
-returns-clause-ok c =
-    no_fault is_bad_page c.args.geometry (numbers c.args.words.now) fault.BadPage c.requires (λ a l. elim (cases_lt a c.loop-at.at) [
-      | inl m ↦ c.loop-at.invariant a m
-      | inr m ↦ behind_pages c.args.geometry (see c.args.geometry (numbers c.args.words.now)) (classes_in c.args.geometry (numbers c.args.words.now)) a (let e = c.body-at-end.ensures in omega arith)
-    ])
+returns-clause-ok c = λ ws from a l m. c.loop-at.invariant ws from a l (let y = c.body-at-end.ensures in let t = c.loop-at-test.false in omega arith)
+
+pub returns-then-not-is_page_word-clause-err : goal.returns-then-not-is_page_word-clause-err
+unfolding address
+returns-then-not-is_page_word-clause-err c = λ ws from.
+    let x = c.page-at.ensures in
+    let y = c.body-at-end.ensures in
+    let at = c.loop-at.at in
+    let n = numbers_length c.args.front.now in
+    let l = c.loop-at.auto.at in
+    let m = c.loop-at-test.true in
+    let h = c.requires.whole in
+    let w = from_word ws (numbers c.args.front.now) 0 at at from (omega arith) (omega arith) in
+    bad_page c.args.geometry ws at c.requires.fits (omega arith) (omega arith) (ap is_page_word (w ∙ sym c.word-word.ensures) ∙ sym (c.if-not-is_page_word.ensures)) (c.loop-at.invariant ws from)
+    ∙ ap (λ k. Some (fault.BadPage at k)) (w ∙ sym c.word-word.ensures)

@@ -1,7 +1,9 @@
+use Rattle.std.proofs.Common.{◌≡◌, ℕ, ◌<◌, ◌≤◌, List, get_or, true}
+use Rattle.shm_words.specs.Layout.{pages}
+use Rattle.shm_audit.specs.Faults.{is_page_word}
 use Rattle.shm_audit.specs.Images.{numbers}
-use Rattle.shm_audit.specs.Faults.{is_bad_page}
-use Rattle.shm_audit.proofs.Tested.{NoneBefore}
+use Rattle.shm_audit.specs.Tallies.{AreFrom}
 use Rattle.shm_audit.proofs.checks.check_pages.Given as goal
 
 abbrev pub invariant-loop-at : goal.invariant-loop-at
-invariant-loop-at l = NoneBefore is_bad_page l.fn.geometry (numbers l.words) l.at
+invariant-loop-at l = (ws : List ℕ) → AreFrom ws 0 (numbers l.front) → (a : ℕ) → pages l.fn.geometry ≤ a → a < l.at → is_page_word (get_or ws a 0) ≡ true

@@ -4,7 +4,7 @@ use Rattle.shm_words.proofs.Placing.{total_small}
 use Rattle.shm_graph.specs.Spots.{block_spot, classes_in}
 use Rattle.shm_graph.proofs.Spots.Spotting.{spot_in_bodies}
 use Rattle.shm_audit.specs.Images.{numbers}
-use Rattle.shm_audit.proofs.Using.{page_word}
+use Rattle.shm_audit.proofs.Blocks.{page_word}
 use Rattle.shm_audit.proofs.words.body_spot.Goals as goal
 
 pub overflow_sub-behind : goal.overflow_sub-behind

@@ -1,6 +1,6 @@
 use Rattle.std.proofs.Common.{◌≡◌, ◌+◌, sym, ap, subst, ◌∙◌, arith}
 use Rattle.shm_audit.specs.Images.{numbers}
-use Rattle.shm_audit.proofs.TallyBlocks.{block_end}
+use Rattle.shm_audit.proofs.Blocks.{block_end}
 use Rattle.shm_migrate.specs.Widened.{widened_body, widened_tag}
 use Rattle.shm_migrate.specs.Writing.{WritesOn}
 use Rattle.shm_migrate.proofs.WordReading.{body_live}
@@ -28,7 +28,7 @@ widened_body-requires-clause-live c =
     let b = c.args.block in
     let l = c.loop-i-test.true in
     let e : b + 2 + c.from.result ≡ b + 2 + c.loop-i.i = ap (λ n. b + 2 + n) c.from.ensures in
-    let m = block_end g ws b c.args.class c.requires.is c.requires.class c.requires.is_class in
+    let m = block_end g ws b c.args.class (record { is = c.requires.is; class = c.requires.class; sized = c.requires.is_class }) in
     body_live g ws c.requires.clean (b + 2 + c.loop-i.i) b c.loop-i.i c.word-word.result c.live_tag-tag.result (omega arith)
     (body_here g ws c.requires.fits c.requires.narrow b c.args.class c.requires.is c.requires.class c.requires.is_class c.loop-i.i (omega arith)) (rw (sym e) c.word-word.ensures) c.live_tag-tag.ensures.says
 

@@ -1,6 +1,6 @@
 use Rattle.std.proofs.Common.{◌≡◌, ◌+◌, ◌-◌, ◌%◌, sym, ap, subst, ◌∙◌, arith}
 use Rattle.shm_audit.specs.Images.{numbers}
-use Rattle.shm_audit.proofs.TallyBlocks.{block_in_page, class_in_page, next_block}
+use Rattle.shm_audit.proofs.Blocks.{block_in_page, class_in_page, next_block}
 use Rattle.shm_migrate.specs.Writing.{IsWritten, WritesOn}
 use Rattle.shm_migrate.proofs.Writing.{class_above}
 use Rattle.shm_migrate.proofs.image.push_blocks.Goals as goal
@@ -10,7 +10,7 @@ loop-block-init c = record { start = omega arith; end = omega arith; block = sea
 
 pub push_block-requires-clause-is : goal.push_block-requires-clause-is
 push_block-requires-clause-is c =
-    block_in_page c.args.geometry (numbers c.args.words.now) c.args.first c.loop-block.block c.args.class c.requires.start c.requires.end c.requires.page c.requires.class c.loop-block.invariant.start c.loop-block-test.true c.requires.is_class c.loop-block.invariant.block
+    (block_in_page c.args.geometry (numbers c.args.words.now) c.args.first c.loop-block.block c.args.class c.requires.start c.requires.end c.requires.page c.requires.class c.loop-block.invariant.start c.loop-block-test.true c.requires.is_class c.loop-block.invariant.block).is
 
 pub push_block-requires-clause-class : goal.push_block-requires-clause-class
 push_block-requires-clause-class c =

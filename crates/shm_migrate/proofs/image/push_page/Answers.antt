@@ -4,7 +4,7 @@ use Rattle.shm_words.specs.Classes.{IsClass}
 use Rattle.shm_words.proofs.Placing.{total_small}
 use Rattle.shm_graph.specs.Spots.{class_at, classes_in}
 use Rattle.shm_audit.specs.Images.{numbers}
-use Rattle.shm_audit.proofs.TallyBlocks.{class_of_page}
+use Rattle.shm_audit.proofs.Blocks.{class_of_page}
 use Rattle.shm_migrate.specs.Writing.{WritesOn}
 use Rattle.shm_migrate.proofs.Writing.{class_small, on_ok, unused_written, used_class}
 use Rattle.shm_migrate.proofs.image.push_page.Goals as goal
