@@ -7,7 +7,8 @@ use shm_io::{MemorySink, MemorySource};
 use shm_program::top::top;
 use shm_program::{Finished, Outcome};
 use shm_team::NoGate;
-use std::alloc::{AllocError, Global};
+use std::alloc::{AllocError, AllocGlobal, Global};
+use std::random::RandomSource;
 use std::sync::Wait;
 use std::thread::Threads;
 
@@ -85,7 +86,7 @@ impl Call {
     }
 
     /// Makes the call, whose threads are made by this handle.
-    pub fn make<R: Threads + Wait + Sync>(
+    pub fn make<R: Threads + Wait + Sync + RandomSource + AllocGlobal>(
         &self,
         threads: &R,
         alloc: Global,

@@ -3,8 +3,9 @@
 use crate::call::{Call, Made};
 use crate::telling;
 use shm_script::{push_number, push_text};
-use std::alloc::{AllocError, Global};
+use std::alloc::{AllocError, AllocGlobal, Global};
 use std::io;
+use std::random::RandomSource;
 use std::sync::Wait;
 use std::thread::Threads;
 
@@ -12,7 +13,7 @@ use std::thread::Threads;
 /// unless that is the same as with the life before.
 ///
 /// `most` are the greatest lives: of the client, and of the recoverer.
-pub fn tell<R: Threads + Wait + Sync>(
+pub fn tell<R: Threads + Wait + Sync + RandomSource + AllocGlobal>(
     rt: &HostRuntime,
     threads: &R,
     call: &Call,
@@ -33,7 +34,7 @@ pub fn tell<R: Threads + Wait + Sync>(
 }
 
 /// With how many lives of a recoverer, of 1 to the greatest, the call comes to the same.
-fn count_alike<R: Threads + Wait + Sync>(
+fn count_alike<R: Threads + Wait + Sync + RandomSource + AllocGlobal>(
     threads: &R,
     alloc: Global,
     call: &Call,
@@ -52,7 +53,7 @@ fn count_alike<R: Threads + Wait + Sync>(
 }
 
 /// Makes the call with the lives in the form.
-fn make<R: Threads + Wait + Sync>(
+fn make<R: Threads + Wait + Sync + RandomSource + AllocGlobal>(
     threads: &R,
     alloc: Global,
     call: &Call,

@@ -35,9 +35,10 @@ mod wanting;
 
 use call::{Call, Made};
 use input::Input;
-use std::alloc::{AllocError, Global};
+use std::alloc::{AllocError, AllocGlobal, Global};
 use std::io;
 use std::process::ExitCode;
+use std::random::RandomSource;
 use std::sync::Wait;
 use std::thread::Threads;
 
@@ -60,7 +61,7 @@ impl Rows {
     }
 
     /// Makes the call.
-    fn make<R: Threads + Wait + Sync>(
+    fn make<R: Threads + Wait + Sync + RandomSource + AllocGlobal>(
         &mut self,
         threads: &R,
         alloc: Global,
@@ -82,7 +83,7 @@ fn prepare(alloc: Global, rows: &mut Rows, word: &str, rest: &str) -> Result<boo
 }
 
 /// A row that tells something.
-fn tell<R: Threads + Wait + Sync>(
+fn tell<R: Threads + Wait + Sync + RandomSource + AllocGlobal>(
     rt: &HostRuntime,
     threads: &R,
     rows: &mut Rows,
@@ -117,7 +118,7 @@ fn tell<R: Threads + Wait + Sync>(
 }
 
 /// A row.
-fn take<R: Threads + Wait + Sync>(
+fn take<R: Threads + Wait + Sync + RandomSource + AllocGlobal>(
     rt: &HostRuntime,
     threads: &R,
     rows: &mut Rows,
@@ -135,7 +136,10 @@ fn take<R: Threads + Wait + Sync>(
 }
 
 /// All rows.
-fn take_all<R: Threads + Wait + Sync>(rt: &HostRuntime, threads: &R) -> io::Result<()> {
+fn take_all<R: Threads + Wait + Sync + RandomSource + AllocGlobal>(
+    rt: &HostRuntime,
+    threads: &R,
+) -> io::Result<()> {
     let mut rows = Rows::new(rt.alloc());
     for line in rt.lines(rt.alloc()) {
         take(rt, threads, &mut rows, line?.as_str())?;

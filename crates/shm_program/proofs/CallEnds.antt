@@ -2,8 +2,11 @@
 use Rattle.std.proofs.Common.{◌≡◌, ◌≢◌, ℕ, ◌<◌, List, drop, ap, sym, ◌∙◌, subst, arith, inl, inr, ◌⊎◌}
 use Rattle.std.specs.Prelude.{Option, Some, None, Result, Ok, Err, IfOk, IfErr}
 use Rattle.std.specs.declared.alloc.AllocError.{AllocError}
+use Rattle.std.specs.declared.io.ErrorKind.{ErrorKind}
+use Rattle.std.specs.declared.io.ErrorKind.TheVariants.{OutOfMemory}
 use Rattle.shm_io.specs.Faults.{NoFault, Rose}
 use Rattle.shm_io.specs.Reading.{LosesFront, TakesFront}
+use Rattle.shm_program.specs.Commands.{Ends, EndsUnread}
 use Rattle.shm_program.specs.Outcomes.{Answers, IsCall, IsWanting, IsWritten, Misused, Sides, usage_text}
 use Rattle.shm_program.specs.Reads.{IsRead, IsUnread, limit_of, most_of}
 use Rattle.shm_program.specs.Words.{NamesCommand, job_of}
@@ -180,3 +183,11 @@ module _ (words : List (List ℕ)) (old new : Sides) (code : ℕ) (made : Finish
       (said job old.left new.left old.read_faults new.read_faults bytes read r.status r.finished made r.text.items taken same answers kept) w
   replying job bytes read (Err e) asked taken same answers kept w none =
       wanting none.ends (command_named words job asked) (lost_at words job old.left new.left asked (takes_loses old.left new.left (limit_of job) bytes taken.front)) taken.quiet none.held none.quiet none.kept
+
+-- ---- what the process ends with
+
+-- one of all words can't be read: the call had no words, and no memory was wanting for them
+pub unread_ends : {T E : Type 0} (args : Result T E) (kind : E → ErrorKind) (words : List (List ℕ)) (old new : Sides) (status : ℕ)
+    → IfErr args (λ _. job_of words ≡ None) → IfErr args (λ e. kind e ≡ OutOfMemory → ⊥) → Ends words old new status → IfErr args (λ e. EndsUnread (kind e) old new status)
+unread_ends (Ok x) kind words old new status none wanting ends = tt
+unread_ends (Err e) kind words old new status none wanting ends = ((words, none, ends), λ wants. absurd (wanting wants))

@@ -1,4 +1,4 @@
--- the replay of a trace or its run by threads, and what is written of it
+-- the replay of a trace, its run by threads or its run by polls, and what is written of it
 use Rattle.std.specs.Prelude.{◌≡◌, ℕ, List, ◌++◌, codes}
 use Rattle.std.specs.Fmt.{decimal}
 use Rattle.shm_words.specs.declared.geometry.Geometry.{Geometry}
@@ -14,10 +14,11 @@ use Rattle.shm_replay.specs.Replays.{IsReplay}
 use Rattle.shm_report.specs.Report.{report_of, summary_of}
 use Rattle.shm_script.specs.Logged.{Logged}
 use Rattle.shm_script.specs.Values.{Traced}
+use Rattle.shm_async.specs.declared.runs.Polled.{Polled as Polls}
 use Rattle.shm_team.specs.declared.team.Ran.{Ran as Team}
 use Rattle.shm_team.specs.Rans.{IsTeamRun}
 use Rattle.shm_program.specs.declared.outcome.Finished.{Finished}
-use Rattle.shm_program.specs.declared.outcome.Finished.TheVariants.{Replayed, Ran}
+use Rattle.shm_program.specs.declared.outcome.Finished.TheVariants.{Replayed, Ran, Polled}
 use Rattle.shm_program.specs.declared.words.Form.{Form}
 use Rattle.shm_program.specs.declared.words.Form.TheVariants.{Report, Image, Summary}
 
@@ -38,6 +39,17 @@ pub record IsTeam (t : Traced) (finished : Finished) : Type 0 where
   pub turns : List Move
   pub team : IsTeamRun t (team_pool run turns) run.logs.items
 
+-- the pool that clients which were polled left, with turns that lead to it
+abbrev pub polled_pool : Polls → List Move → Pool
+polled_pool run turns = pool run.closed.start run.closed.words run.closed.accounts turns
+
+-- the trace was run by clients that were polled until none was left
+pub record IsPolled (t : Traced) (finished : Finished) : Type 0 where
+  pub run : Polls
+  pub kept : finished ≡ Polled run
+  pub turns : List Move
+  pub team : IsTeamRun t (polled_pool run turns) run.logs.items
+
 -- what is written of a closed pool with these words, which hold this table, and of these logs: the report or the summary of both, or the image of the words
 abbrev pub written : Form → Geometry → List ℕ → (ℕ → ℕ → List Entry) → List Logged → List ℕ
 written Report g ws table ls = report_of g (see g ws) table ls
@@ -51,6 +63,10 @@ IsTold form t finished text = (r : IsRan t finished) × (text ≡ written form r
 -- the trace was run by clients on threads, and the text is what is written of that
 abbrev pub IsTeamTold : Form → Traced → Finished → List ℕ → Type 0
 IsTeamTold form t finished text = (r : IsTeam t finished) × (text ≡ written form r.run.closed.start.geometry r.run.closed.words r.team.table r.run.logs.items)
+
+-- the trace was run by clients that were polled, and the text is the report of that
+abbrev pub IsPollTold : Traced → Finished → List ℕ → Type 0
+IsPollTold t finished text = (r : IsPolled t finished) × (text ≡ written Report r.run.closed.start.geometry r.run.closed.words r.team.table r.run.logs.items)
 
 -- the last line of the report of this closed pool, `live L refs F`: how many of its blocks are live, and how many of its words name one
 abbrev pub last_line : Pool → List ℕ

@@ -7,7 +7,7 @@ use Rattle.clap.specs.declared.parser.matches.ArgMatches.{ArgMatches}
 use Rattle.shm_script.specs.Numbers.{is_numeral, small, value_after}
 use Rattle.shm_program.specs.declared.words.Form.TheVariants.{Report, Image}
 use Rattle.shm_program.specs.declared.words.Job.{Job}
-use Rattle.shm_program.specs.declared.words.Job.TheVariants.{Replay, Print, Run, Audit, Migrate, Make, Draw}
+use Rattle.shm_program.specs.declared.words.Job.TheVariants.{Replay, Print, Run, Audit, Migrate, Make, Draw, Poll}
 use Rattle.shm_program.specs.declared.words.Name.{Name}
 use Rattle.shm_program.specs.declared.words.Name.TheVariants as name
 
@@ -40,6 +40,10 @@ migrate_command = new_app (codes "migrate")
 -- `make` has two words and a flag
 abbrev pub make_command : App
 make_command = with_rule (with_rule (with_rule (new_app (codes "make")) (required (codes "start"))) (required (codes "size"))) (flag (codes "print"))
+
+-- `poll` has a word
+abbrev pub poll_command : App
+poll_command = with_rule (new_app (codes "poll")) (required (codes "turns"))
 
 -- ---- what a command reads
 
@@ -107,6 +111,18 @@ make_of print _ _ = None
 abbrev pub make_in : List Row → Option Job
 make_in rows = make_of (is_true (first_of (codes "print") rows)) (option_and_then number_in (first_of (codes "start") rows)) (option_and_then number_in (first_of (codes "size") rows))
 
+-- how many turns a poll may give
+abbrev pub is_quota : ℕ → Bool
+is_quota n = nat_le 1 n && nat_le n 1000000
+
+-- `poll` by its number
+abbrev pub poll_of : Option ℕ → Option Job
+poll_of None = None
+poll_of (Some q) = if is_quota q then Some (Poll q) else None
+
+abbrev pub poll_in : List Row → Option Job
+poll_in rows = poll_of (option_and_then number_in (first_of (codes "turns") rows))
+
 -- what the words of a command ask for: nothing where it refuses them
 abbrev pub asked : App → (List Row → Option Job) → List (List ℕ) → Option Job
 asked command job words = option_and_then job (read_by command words)
@@ -119,6 +135,7 @@ name_of word =
     else if bytes_eq word (codes "audit") then Some name.Audit
     else if bytes_eq word (codes "make") then Some name.Make
     else if bytes_eq word (codes "migrate") then Some name.Migrate
+    else if bytes_eq word (codes "poll") then Some name.Poll
     else None
 
 abbrev pub job_by : Name → List (List ℕ) → Option Job
@@ -127,6 +144,7 @@ job_by name.Run words = asked run_command run_in words
 job_by name.Audit words = asked audit_command audit_in words
 job_by name.Make words = asked make_command make_in words
 job_by name.Migrate words = asked migrate_command migrate_in words
+job_by name.Poll words = asked poll_command poll_in words
 
 -- what the words ask for: the first one names the command, and nothing where it names none
 abbrev pub job_of : List (List ℕ) → Option Job
@@ -137,15 +155,21 @@ job_of (word ∷ words) = option_and_then (λ n. job_by n (word ∷ words)) (nam
 abbrev pub NamesCommand : List (List ℕ) → Type 0
 NamesCommand words = (n : Name) × (first : List ℕ) × (rest : List (List ℕ)) × (words ≡ first ∷ rest) × (name_of first ≡ Some n)
 
+-- turns of a poll, 1 to 1,000,000
+abbrev pub IsQuota : ℕ → Type 0
+IsQuota n = (1 ≤ n) × (n ≤ 1000000)
+
 -- a trace is drawn with 1 to 4,000 commands for each client
 abbrev pub JobFits : Job → Type 0
 JobFits (Make start size) = (1 ≤ size) × (size ≤ 4000)
 JobFits (Draw start size) = (1 ≤ size) × (size ≤ 4000)
+JobFits (Poll q) = IsQuota q
 JobFits _ = Unit {0}
 
--- the text that a job writes follows from the bytes that it reads: of all but a run, whose threads take their turns in any lawful order
+-- the text that a job writes follows from the bytes that it reads: of all but runs by threads and by polls, whose turns come in any lawful order. These alone may wait
 abbrev pub is_determined : Job → Bool
 is_determined (Run form) = false
+is_determined (Poll q) = false
 is_determined _ = true
 
 -- and so it does for what the words ask for

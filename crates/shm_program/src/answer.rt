@@ -1,22 +1,24 @@
 //! What is answered to the bytes that a job read.
 
-ghost use Rattle.std.specs.Prelude.{◌≡◌, true, IfOk};
+ghost use Rattle.std.specs.Prelude.{◌≡◌, true, false, ℕ, List, IfOk};
 ghost use Rattle.shm_audit.specs.Faults.{image_fault_of};
 ghost use Rattle.shm_script.specs.declared.fault.ParseStop.{ParseStop as AStop};
 ghost use Rattle.shm_script.specs.declared.fault.TraceFault.{TraceFault as AFault};
+ghost use Rattle.shm_stream.specs.Audits.{IsJudged};
 ghost use Rattle.shm_program.specs.Outcomes.{Answers, IsPrinted};
 ghost use Rattle.shm_program.specs.Refusals.{fault_line};
-ghost use Rattle.shm_program.specs.Words.{JobFits, is_determined};
+ghost use Rattle.shm_program.specs.Words.{IsQuota, JobFits, is_determined};
 
 use crate::outcome::Finished;
 use crate::refusals::fault_line;
-use crate::telling::{tell, tell_team};
+use crate::telling::{tell, tell_polls, tell_team};
 use crate::words::{Form, Job};
-use shm_audit::{AuditStop, audit, fault_text, verdict_text};
+use shm_audit::{AuditStop, ImageFault, Verdict, audit, fault_text, verdict_text};
 use shm_migrate::{MigrateStop, migrate, stop_text};
 use shm_script::{ParseStop, Trace, generate, parse, print};
 use shm_team::Gate;
-use std::alloc::{AllocError, Global};
+use std::alloc::{AllocError, AllocGlobal, Global};
+use std::random::RandomSource;
 use std::sync::Wait;
 use std::thread::Threads;
 
@@ -28,7 +30,7 @@ pub struct Reply {
     pub finished: Finished,
 }
 
-/// What a job that needs no threads answers to the bytes that it read.
+/// What a job that doesn't wait answers to the bytes that it read.
 pub fn answer(alloc: Global, job: Job, bytes: &[u8]) -> Result<Reply, AllocError>
     requires fits { JobFits job }
     requires determined { is_determined job ≡ true }
@@ -43,7 +45,7 @@ pub fn answer(alloc: Global, job: Job, bytes: &[u8]) -> Result<Reply, AllocError
             Ok(trace) => print_of(alloc, &trace),
             Err(stop) => refuse(alloc, stop),
         },
-        Job::Run(_) => unreachable!(),
+        Job::Run(_) | Job::Poll { .. } => unreachable!(),
         Job::Audit => audit_of(alloc, bytes),
         Job::Migrate => migration_of(alloc, bytes),
         Job::Make { start, size } => tell(alloc, &generate(alloc, start, size)?, Form::Summary),
@@ -51,8 +53,43 @@ pub fn answer(alloc: Global, job: Job, bytes: &[u8]) -> Result<Reply, AllocError
     }
 }
 
+/// What a job that may wait answers to the bytes that it read.
+pub fn answer_waiting<R: Threads + Wait + Sync + RandomSource + AllocGlobal, G: Gate>(
+    rt: &R,
+    alloc: Global,
+    job: Job,
+    bytes: &[u8],
+    gate: &G,
+) -> Result<Reply, AllocError>
+    requires fits { JobFits job }
+    requires waits { is_determined job ≡ false }
+    ensures { IfOk result (λ r. Answers job bytes.now r.status r.finished r.text.items) }
+{
+    match job {
+        Job::Run(form) => answer_run(rt, alloc, form, bytes, gate),
+        Job::Poll { turns } => answer_poll(rt, alloc, turns, bytes),
+        _ => unreachable!(),
+    }
+}
+
+/// What `poll` answers to the bytes that it read: those of a trace are run by clients that are polled.
+fn answer_poll<R: Wait + RandomSource + AllocGlobal>(
+    rt: &R,
+    alloc: Global,
+    turns: u32,
+    bytes: &[u8],
+) -> Result<Reply, AllocError>
+    requires { IsQuota turns }
+    ensures { IfOk result (λ r. Answers (Job.Poll turns) bytes.now r.status r.finished r.text.items) }
+{
+    match parse(alloc, bytes) {
+        Ok(trace) => tell_polls(rt, alloc, &trace, turns),
+        Err(stop) => refuse(alloc, stop),
+    }
+}
+
 /// What `run` answers to the bytes that it read: those of a trace are run by clients on threads.
-pub fn answer_run<R: Threads + Wait + Sync, G: Gate>(
+fn answer_run<R: Threads + Wait + Sync, G: Gate>(
     rt: &R,
     alloc: Global,
     form: Form,
@@ -99,13 +136,23 @@ fn refuse(alloc: Global, stop: ParseStop) -> Result<Reply, AllocError>
     }
 }
 
+/// The line of the verdict on an image, or of its first fault.
+pub fn tell_audit(alloc: Global, judged: Result<Verdict, ImageFault>) -> Result<Reply, AllocError>
+    ensures { IfOk result (λ r. (image : List ℕ) → IsJudged image judged → Answers Job.Audit image r.status r.finished r.text.items) }
+{
+    match judged {
+        Ok(verdict) => Ok(plain(0, verdict_text(alloc, &verdict)?)),
+        Err(fault) => Ok(plain(3, fault_text(alloc, &fault)?)),
+    }
+}
+
 /// The verdict on an image, or its first fault.
 fn audit_of(alloc: Global, image: &[u8]) -> Result<Reply, AllocError>
     ensures { IfOk result (λ r. Answers Job.Audit image.now r.status r.finished r.text.items) }
 {
     match audit(alloc, image) {
-        Ok(verdict) => Ok(plain(0, verdict_text(alloc, &verdict)?)),
-        Err(AuditStop::Fault(fault)) => Ok(plain(3, fault_text(alloc, &fault)?)),
+        Ok(verdict) => tell_audit(alloc, Ok(verdict)),
+        Err(AuditStop::Fault(fault)) => tell_audit(alloc, Err(fault)),
         Err(AuditStop::Memory(error)) => Err(error),
     }
 }

@@ -14,11 +14,12 @@ use crate::outcome::Outcome;
 use crate::top::top;
 use shm_io::{Sink, Source};
 use shm_team::Gate;
-use std::alloc::{AllocError, Global};
+use std::alloc::{AllocError, AllocGlobal, Global};
 use std::env::Args;
 use std::io;
 use std::io::ErrorKind;
 use std::process::ExitCode;
+use std::random::RandomSource;
 use std::sync::Wait;
 use std::thread::Threads;
 
@@ -51,8 +52,8 @@ pub fn exit_code(called: &Result<Outcome, AllocError>) -> ExitCode
 
 /// The whole program over a source and a sink: what the words of the process ask for is done, and the process ends with the status of that.
 ///
-/// It may wait where these words ask for `run`, and for nothing else (`top`).
-pub fn run<R: Threads + Wait + Sync, S: Source, K: Sink, G: Gate>(
+/// It may wait where these words ask for `run` or `poll`, and for nothing else (`top`).
+pub fn run<R: Threads + Wait + Sync + RandomSource + AllocGlobal, S: Source, K: Sink, G: Gate>(
     rt: &R,
     alloc: Global,
     args: io::Result<Args>,

@@ -7,6 +7,7 @@
 #![tactic(auto)]
 
 mod answer;
+mod auditing;
 pub mod command;
 pub mod image_laws;
 pub mod laws;

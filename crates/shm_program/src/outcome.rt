@@ -1,5 +1,6 @@
 //! What a call of the program comes to.
 
+use shm_async::Polled;
 use shm_replay::Replayed;
 use shm_team::Ran;
 
@@ -20,4 +21,6 @@ pub enum Finished {
     Replayed(Replayed),
     /// The run of a trace by clients on threads.
     Ran(Ran),
+    /// The run of a trace by clients that were polled.
+    Polled(Polled),
 }

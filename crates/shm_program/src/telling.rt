@@ -6,18 +6,21 @@ ghost use Rattle.shm_graph.specs.declared.table.Entry.{Entry as AnEntry};
 ghost use Rattle.shm_graph.specs.Spots.{see};
 ghost use Rattle.shm_graph.specs.Tables.{IsTable};
 ghost use Rattle.shm_report.specs.PoolWords.{IsCleanPool};
-ghost use Rattle.shm_program.specs.Replays.{IsTeamTold, IsTold, written};
+ghost use Rattle.shm_program.specs.Replays.{IsPollTold, IsTeamTold, IsTold, written};
+ghost use Rattle.shm_program.specs.Words.{IsQuota};
 
 use crate::answer::Reply;
 use crate::outcome::Finished;
 use crate::words::Form;
+use shm_async::run_async;
 use shm_audit::write_image;
 use shm_replay::replay;
 use shm_report::{report, summary};
 use shm_script::{Log, Trace};
 use shm_team::{Gate, run_team};
 use shm_words::Geometry;
-use std::alloc::{AllocError, Global};
+use std::alloc::{AllocError, AllocGlobal, Global};
+use std::random::RandomSource;
 use std::sync::Wait;
 use std::thread::Threads;
 
@@ -52,6 +55,32 @@ pub fn tell_team<R: Threads + Wait + Sync, G: Gate>(
         status: 0,
         text,
         finished: Finished::Ran(run),
+    })
+}
+
+/// Runs a trace by clients that are polled, and answers with the report of the run.
+pub fn tell_polls<R: Wait + RandomSource + AllocGlobal>(
+    rt: &R,
+    alloc: Global,
+    trace: &Trace,
+    turns: u32,
+) -> Result<Reply, AllocError>
+    requires { IsQuota turns }
+    ensures { IfOk result (λ r. (r.status ≡ 0) × IsPollTold trace.now r.finished r.text.items) }
+{
+    let run = run_async(rt, alloc, trace, turns)?;
+    let closed = &run.closed;
+    let text = written(
+        alloc,
+        Form::Report,
+        closed.geometry(),
+        closed.words(),
+        &run.logs,
+    )?;
+    Ok(Reply {
+        status: 0,
+        text,
+        finished: Finished::Polled(run),
     })
 }
 

@@ -1,17 +1,19 @@
 //! The program over a source and a sink.
 
-ghost use Rattle.std.specs.Prelude.{◌≡◌, ◌≢◌, IfErr, IfOk, Some, map};
+ghost use Rattle.std.specs.Prelude.{◌≡◌, ◌≢◌, ℕ, List, false, IfErr, IfOk, Some, map, true};
 ghost use Rattle.std.specs.String.{string_bytes};
-ghost use Rattle.shm_program.specs.Outcomes.{IsCall, IsWanting, IsWritten, sides};
+ghost use Rattle.shm_program.specs.Outcomes.{Answers, IsCall, IsWanting, IsWritten, sides};
 ghost use Rattle.shm_program.specs.Reads.{IsRead, IsUnread, limit_of};
-ghost use Rattle.shm_program.specs.Words.{job_of};
+ghost use Rattle.shm_program.specs.Words.{JobFits, is_determined, job_of};
 
-use crate::answer::{Reply, answer, answer_run};
+use crate::answer::{Reply, answer, answer_waiting};
+use crate::auditing::audit_input;
 use crate::outcome::{Finished, Outcome};
-use crate::words::{Form, Job, job_of};
+use crate::words::{Job, job_of};
 use shm_io::{ReadStop, Sink, Source, read_to_limit, write_all};
 use shm_team::Gate;
-use std::alloc::{AllocError, Global};
+use std::alloc::{AllocError, AllocGlobal, Global};
+use std::random::RandomSource;
 use std::sync::Wait;
 use std::thread::Threads;
 
@@ -22,7 +24,7 @@ const TRACE_LIMIT: usize = 1_048_577;
 const IMAGE_LIMIT: usize = 132_185_377;
 
 const USAGE: &str =
-    "usage: cxlshm replay [--image|--print] | run [--image] | audit | make START SIZE [--print] | migrate\n";
+    "usage: cxlshm replay [--image|--print] | run [--image] | audit | make START SIZE [--print] | migrate | poll Q\n";
 
 /// Does what the words say.
 ///
@@ -35,14 +37,16 @@ const USAGE: &str =
 ///   format 2.
 /// - `make START SIZE` reads nothing. It replays the trace that is drawn from START, 0 to 2^64 - 1, with SIZE commands, 1 to 4,000, for each
 ///   of four clients, and writes the summary; with `--print` it writes that trace, without a replay.
+/// - `poll Q` reads a trace to its end, has its clients run it as futures on one thread, of which each poll gives an identity Q turns, 1 to
+///   1,000,000, closes the pool and writes the report.
 ///
 /// The whole text is made before the first write. At most 1,048,577 bytes of a trace and 132,185,377 bytes of an image are read.
 ///
-/// Only `run` may wait: for its threads, and, where an agent of the closing dies, forever. So what is promised of it holds if it returns.
-/// All other words are done by `call`, which always returns.
+/// Only `run` and `poll` may wait: for their threads or for the future that is polled, and, where an agent of the closing dies, forever. So what
+/// is promised of them holds if they return. All other words are done by `call`, which always returns.
 ///
 /// The clauses are the fields of `IsCall` (specs/Outcomes.antt), which `run` of src/command.rt shares.
-pub fn top<R: Threads + Wait + Sync, S: Source, K: Sink, G: Gate>(
+pub fn top<R: Threads + Wait + Sync + RandomSource + AllocGlobal, S: Source, K: Sink, G: Gate>(
     rt: &R,
     alloc: Global,
     words: &[String],
@@ -52,17 +56,17 @@ pub fn top<R: Threads + Wait + Sync, S: Source, K: Sink, G: Gate>(
 ) -> Outcome
     ensures { IsCall (map string_bytes words.now) (sides (S.left source.old) (S.faults source.old) (K.held sink.old) (K.faults sink.old)) (sides (S.left source.new) (S.faults source.new) (K.held sink.new) (K.faults sink.new)) result.status result.finished }
 {
-    let form = match call(alloc, words, source, sink) {
+    let job = match call(alloc, words, source, sink) {
         Ok(outcome) => return outcome,
-        Err(form) => form,
+        Err(job) => job,
     };
-    match read_input(alloc, source, Job::Run(form)) {
-        Ok(bytes) => reply(sink, answer_run(rt, alloc, form, bytes.as_slice(), gate)),
+    match read_input(alloc, source, job) {
+        Ok(bytes) => reply(sink, answer_waiting(rt, alloc, job, bytes.as_slice(), gate)),
         Err(status) => stopped(status),
     }
 }
 
-/// Does what the words say, unless they ask for `run`: then it reads and writes nothing, and answers with the form that `run` is asked for.
+/// Does what the words say, unless they ask for what may wait: then it reads and writes nothing, and answers with the job that they ask for.
 ///
 /// It has no handle with which it might wait, so it always returns, as far as the source and the sink do.
 pub fn call<S: Source, K: Sink>(
@@ -70,21 +74,44 @@ pub fn call<S: Source, K: Sink>(
     words: &[String],
     source: &mut S,
     sink: &mut K,
-) -> Result<Outcome, Form>
+) -> Result<Outcome, Job>
     ensures done { IfOk result (λ r. IsCall (map string_bytes words.now) (sides (S.left source.old) (S.faults source.old) (K.held sink.old) (K.faults sink.old)) (sides (S.left source.new) (S.faults source.new) (K.held sink.new) (K.faults sink.new)) r.status r.finished) }
-    ensures run { IfErr result (λ form. job_of (map string_bytes words.now) ≡ Some (Job.Run form)) }
+    ensures job { IfErr result (λ job. job_of (map string_bytes words.now) ≡ Some job) }
+    ensures fits { IfErr result JobFits }
+    ensures waits { IfErr result (λ job. is_determined job ≡ false) }
     ensures unread { IfErr result (λ _. source.new ≡ source.old) }
     ensures unwritten { IfErr result (λ _. sink.new ≡ sink.old) }
 {
     let job = match job_of(alloc, words) {
-        Ok(Some(Job::Run(form))) => return Err(form),
+        Ok(Some(job)) if job.may_wait() => return Err(job),
         Ok(Some(job)) => job,
         Ok(None) => return Ok(finish(sink, 2, USAGE.as_bytes(), Finished::Neither)),
         Err(_) => return Ok(stopped(6)),
     };
-    match read_input(alloc, source, job) {
-        Ok(bytes) => Ok(reply(sink, answer(alloc, job, bytes.as_slice()))),
+    match answer_input(alloc, source, job) {
+        Ok(answered) => Ok(reply(sink, answered)),
         Err(status) => Ok(stopped(status)),
+    }
+}
+
+/// Reads the bytes that a job is for, and answers what the job answers to them: an image that is audited is read as a stream. Where a read
+/// fails it stops with the status 4, and where memory is wanting for the bytes with 6.
+fn answer_input<S: Source>(
+    alloc: Global,
+    source: &mut S,
+    job: Job,
+) -> Result<Result<Reply, AllocError>, u8>
+    requires fits { JobFits job }
+    requires determined { is_determined job ≡ true }
+    ensures read { IfOk result (λ answered. (bytes : List ℕ) × IsRead (S.left source.old) (S.faults source.old) (S.left source.new) (S.faults source.new) (limit_of job) bytes × IfOk answered (λ r. Answers job bytes r.status r.finished r.text.items)) }
+    ensures unread { IfErr result (λ status. IsUnread (S.left source.old) (S.faults source.old) (S.left source.new) (S.faults source.new) (limit_of job) status) }
+{
+    match job {
+        Job::Audit => audit_input(alloc, source),
+        _ => {
+            let bytes = read_input(alloc, source, job)?;
+            Ok(answer(alloc, job, bytes.as_slice()))
+        }
     }
 }
 
@@ -105,7 +132,7 @@ fn limit_of(job: Job) -> usize
     ensures { result ≡ limit_of job }
 {
     match job {
-        Job::Replay(_) | Job::Print | Job::Run(_) => TRACE_LIMIT,
+        Job::Replay(_) | Job::Print | Job::Run(_) | Job::Poll { .. } => TRACE_LIMIT,
         Job::Audit | Job::Migrate => IMAGE_LIMIT,
         Job::Make { .. } | Job::Draw { .. } => 0,
     }

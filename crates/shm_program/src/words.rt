@@ -1,10 +1,10 @@
 //! What the words of a call ask for.
 
-ghost use Rattle.std.specs.Prelude.{◌≡◌, ◌≢◌, ◌∷◌, [], true, false, slice_index, IfErr, IfOk, IfSome, List, None, Some, codes, map, option_and_then, option_map, ℕ};
+ghost use Rattle.std.specs.Prelude.{◌≡◌, ◌≢◌, ◌∷◌, [], true, false, not, slice_index, IfErr, IfOk, IfSome, List, None, Some, codes, map, option_and_then, option_map, ℕ};
 ghost use Rattle.std.specs.String.{string_bytes};
 ghost use Rattle.clap.specs.Words.{app_of, first_value, found_of, is_simple_and_free};
 ghost use Rattle.shm_script.specs.Numbers.{is_numeral, leads_well};
-ghost use Rattle.shm_program.specs.Words.{JobFits, NamesCommand, asked, audit_command, audit_in, is_true, job_by, job_of, make_command, make_in, make_of, migrate_command, migrate_in, name_of, number_in, read_by, replay_command, replay_in, replay_of, rows_in, run_command, run_in, run_of};
+ghost use Rattle.shm_program.specs.Words.{JobFits, NamesCommand, asked, audit_command, audit_in, is_determined, is_true, job_by, job_of, make_command, make_in, make_of, migrate_command, migrate_in, name_of, number_in, poll_command, poll_in, poll_of, read_by, replay_command, replay_in, replay_of, rows_in, run_command, run_in, run_of};
 
 use clap::error::ErrorKind;
 use clap::{Arg, ArgAction, ArgMatches, Command};
@@ -38,6 +38,8 @@ pub enum Job {
     Make { start: u64, size: u32 },
     /// `make START SIZE --print`: that trace is written.
     Draw { start: u64, size: u32 },
+    /// `poll Q`: a trace is read and run by clients that are polled, each poll with Q turns of one identity.
+    Poll { turns: u32 },
 }
 
 /// The commands that the first word names.
@@ -48,6 +50,16 @@ pub enum Name {
     Audit,
     Make,
     Migrate,
+    Poll,
+}
+
+impl Job {
+    /// Whether it may wait: for threads, or for a future that is polled.
+    pub fn may_wait(&self) -> bool
+        ensures { result ≡ not (is_determined self.now) }
+    {
+        matches!(self, Job::Run(_) | Job::Poll { .. })
+    }
 }
 
 /// What the words ask for, and nothing where they aren't accepted.
@@ -81,6 +93,8 @@ fn name_of(word: &str) -> Option<Name>
         Some(Name::Make)
     } else if word == "migrate" {
         Some(Name::Migrate)
+    } else if word == "poll" {
+        Some(Name::Poll)
     } else {
         None
     }
@@ -97,6 +111,7 @@ fn job_by(alloc: Global, name: Name, words: &[String]) -> Result<Option<Job>, Al
         Name::Audit => audit_job(alloc, words),
         Name::Make => make_job(alloc, words),
         Name::Migrate => migrate_job(alloc, words),
+        Name::Poll => poll_job(alloc, words),
     }
 }
 
@@ -244,6 +259,40 @@ fn make_of(print: bool, start: Option<u64>, size: Option<u64>) -> Option<Job>
     }
 }
 
+/// What the words of `poll` ask for.
+fn poll_job(alloc: Global, words: &[String]) -> Result<Option<Job>, AllocError>
+    ensures job { IfOk result (λ job. job ≡ asked poll_command poll_in (map string_bytes words.now)) }
+    ensures fits { IfOk result (λ job. IfSome job JobFits) }
+{
+    match read(poll_command(alloc)?, words)? {
+        Some(matches) => Ok(poll_of(number_of(&matches, "turns"))),
+        None => Ok(None),
+    }
+}
+
+/// The command `poll`, which has a word.
+fn poll_command<'a>(alloc: Global) -> Result<Command<'a>, AllocError>
+    ensures { IfOk result (λ c. app_of c ≡ poll_command) }
+{
+    let turns = Arg::new(alloc, "turns").required(true);
+    let command = Command::new(alloc, "poll").arg(turns)?;
+    Ok(command)
+}
+
+/// What `poll` is asked for by its number.
+fn poll_of(turns: Option<u64>) -> Option<Job>
+    ensures job { result ≡ poll_of turns }
+    ensures fits { IfSome result JobFits }
+{
+    let turns = turns?;
+    if turns < 1 || 1_000_000 < turns {
+        return None;
+    }
+    Some(Job::Poll {
+        turns: turns as u32,
+    })
+}
+
 /// What the command reads in the words, and nothing where it refuses them.
 fn read<'a>(command: Command<'a>, words: &'a [String]) -> Result<Option<ArgMatches<'a>>, AllocError>
     requires { is_simple_and_free (app_of command) ≡ true }
@@ -314,6 +363,10 @@ pub fn words_of_jobs()
     ensures zero { job_of (codes "make" ∷ codes "0" ∷ codes "0" ∷ []) ≡ None }
     ensures many { job_of (codes "make" ∷ codes "0" ∷ codes "4001" ∷ []) ≡ None }
     ensures leading { job_of (codes "make" ∷ codes "00" ∷ codes "1" ∷ []) ≡ None }
+    ensures poll { job_of (codes "poll" ∷ codes "7" ∷ []) ≡ Some (Job.Poll 7) }
+    ensures poll_none { job_of (codes "poll" ∷ []) ≡ None }
+    ensures poll_zero { job_of (codes "poll" ∷ codes "0" ∷ []) ≡ None }
+    ensures poll_many { job_of (codes "poll" ∷ codes "1000001" ∷ []) ≡ None }
     ensures other { (rest : List (List ℕ)) → job_of (codes "Replay" ∷ rest) ≡ None }
     ensures none { job_of [] ≡ None }
 {}

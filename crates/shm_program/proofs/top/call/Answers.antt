@@ -8,21 +8,26 @@ use Rattle.shm_program.proofs.top.call.Goals as goal
 -- the bytes were read
 pub returns-in-Ok : goal.returns-in-Ok
 returns-in-Ok g c =
-    let asked : job_of (map string_bytes c.args.words.now) ≡ Some c.in-Ok-Some.job = sym c.in-Ok-Some.ensures.job ∙ c.in-Ok-Some.field-0-is in
+    let asked : job_of (map string_bytes c.args.words.now) ≡ Some c.in-Ok-Some.job = sym c.in-Ok-Some.ensures-1.job ∙ c.in-Ok-Some.field-0-is in
+    let read = c.in-Ok.ensures.read in
     record {
-      done = replying _ _ _ _ _ c.in-Ok-Some.job c.in-Ok.bytes.items c.as_slice.result.now c.answer.result asked c.in-Ok.ensures.read c.as_slice.ensures.value c.answer.ensures c.reply.ensures.finished c.reply.ensures.written c.reply.ensures.wanting;
-      run = tt;
+      done = replying _ _ _ _ _ c.in-Ok-Some.job read.0 read.0 c.in-Ok.answered asked read.1 refl read.2 c.reply.ensures.finished c.reply.ensures.written c.reply.ensures.wanting;
+      job = tt;
+      fits = tt;
+      waits = tt;
       unread = tt;
       unwritten = tt;
     }
 
 -- they weren't
-pub returns-in-Err-read_input : goal.returns-in-Err-read_input
-returns-in-Err-read_input g c =
-    let asked : job_of (map string_bytes c.args.words.now) ≡ Some c.in-Ok-Some.job = sym c.in-Ok-Some.ensures.job ∙ c.in-Ok-Some.field-0-is in
+pub returns-in-Err-answer_input : goal.returns-in-Err-answer_input
+returns-in-Err-answer_input g c =
+    let asked : job_of (map string_bytes c.args.words.now) ≡ Some c.in-Ok-Some.job = sym c.in-Ok-Some.ensures-1.job ∙ c.in-Ok-Some.field-0-is in
     record {
-      done = unreading _ _ _ _ _ c.in-Ok-Some.job c.in-Err-read_input.status asked c.in-Err-read_input.ensures.unread c.stopped-in-Err-read_input.ensures.status refl refl c.stopped-in-Err-read_input.ensures.finished;
-      run = tt;
+      done = unreading _ _ _ _ _ c.in-Ok-Some.job c.in-Err-answer_input.status asked c.in-Err-answer_input.ensures.unread c.stopped-in-Err-answer_input.ensures.status refl refl c.stopped-in-Err-answer_input.ensures.finished;
+      job = tt;
+      fits = tt;
+      waits = tt;
       unread = tt;
       unwritten = tt;
     }

@@ -81,3 +81,19 @@ returns-clause-many c = refl
 pub returns-clause-leading : goal.returns-clause-leading
 unfolding clap_on_literals
 returns-clause-leading c = refl
+
+pub returns-clause-poll : goal.returns-clause-poll
+unfolding clap_on_literals
+returns-clause-poll c = refl
+
+pub returns-clause-poll_none : goal.returns-clause-poll_none
+unfolding clap_on_literals
+returns-clause-poll_none c = refl
+
+pub returns-clause-poll_zero : goal.returns-clause-poll_zero
+unfolding clap_on_literals
+returns-clause-poll_zero c = refl
+
+pub returns-clause-poll_many : goal.returns-clause-poll_many
+unfolding clap_on_literals
+returns-clause-poll_many c = refl

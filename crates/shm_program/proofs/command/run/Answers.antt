@@ -1,0 +1,11 @@
+use Rattle.std.proofs.Common.{inr, map, sym}
+use Rattle.std.specs.IoError.{error_kind}
+use Rattle.std.specs.String.{string_bytes}
+use Rattle.shm_program.proofs.CallEnds.{unread_ends}
+use Rattle.shm_program.proofs.command.run.Goals as goal
+
+-- one of all words can't be read, and those of the call are none
+pub returns-clause-unread : goal.returns-clause-unread
+returns-clause-unread g c =
+    unread_ends c.args.args error_kind (map string_bytes c.in-Ok.words.items) _ _ _ c.in-Ok.ensures.unread c.in-Ok.ensures.memory
+    (rw c.exit_code-2.ensures (rw (sym c.as_slice.ensures.value) (inr (c.top.result.finished, c.top.ensures))))
