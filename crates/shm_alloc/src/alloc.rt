@@ -1,8 +1,7 @@
 //! The allocation of a block.
 
-ghost use Rattle.std.specs.Prelude.{◌≡◌, ◌≢◌, ◌<◌, ◌≤◌, ◌↔◌, ◌⊎◌, ℕ, IfOk, IfErr, is_err, false, true, length, slice_index, take, vec_len};
+ghost use Rattle.std.specs.Prelude.{◌≡◌, ◌≢◌, ◌<◌, ◌≤◌, ◌↔◌, ◌⊎◌, ℕ, IfOk, IfErr, is_err, false, true, length, take};
 ghost use Rattle.shm_words.specs.Layout.{GeometryFits};
-ghost use Rattle.shm_graph.specs.Asks.{at_of, seen_of, words_set};
 ghost use Rattle.shm_graph.specs.Laws.{turn_of};
 ghost use Rattle.shm_alloc.specs.Alloc.Control.{PointFits, alloc_ask, alloc_control, alloc_next, answer_of, point_of};
 ghost use Rattle.shm_alloc.specs.Alloc.AsPart.{AllocLeaves};
@@ -17,7 +16,7 @@ use crate::point::{AllocNext, AllocPoint, AllocState};
 use crate::request::Request;
 use shm_calls::Begin;
 use shm_count::Made;
-use shm_graph::{Ask, Machine, Me, Operation, Turn};
+use shm_graph::{Ask, Machine, Me, Operation, Site, Turn};
 use std::marker::Model;
 
 /// Why no block was made.
@@ -195,13 +194,13 @@ impl Alloc {
 
     /// Makes the word step that comes next, wherever it is, and goes on by the word that was found.
     #[inline(never)]
-    fn act_any(&mut self, words: &mut Vec<u64>) -> Turn<Result<Made, AllocFault>>
-        requires { at_of (alloc_ask self.old) < vec_len words.old }
-        ensures words { words.new.items ≡ words_set (alloc_ask self.old) words.old.items }
-        ensures machine { let a = alloc_ask self.old in self.new ≡ alloc_control.after self.old (seen_of a (slice_index words.old.items (at_of a))) }
-        ensures turn { let a = alloc_ask self.old in result ≡ turn_of (alloc_control.turns self.old (seen_of a (slice_index words.old.items (at_of a)))) }
+    fn act_any<S: Site>(&mut self, site: &S, words: &mut S::Words) -> Turn<Result<Made, AllocFault>>
+        requires { S.may site.now words.old (alloc_ask self.old) }
+        ensures made { S.made site.now words.old (alloc_ask self.old) words.new }
+        ensures machine { let a = alloc_ask self.old in self.new ≡ alloc_control.after self.old (S.seen site.now words.old a words.new) }
+        ensures turn { let a = alloc_ask self.old in result ≡ turn_of (alloc_control.turns self.old (S.seen site.now words.old a words.new)) }
     {
-        let next = self.state.act(words);
+        let next = self.state.act(site, words);
         self.go_on(next)
     }
 }
@@ -242,13 +241,14 @@ impl Machine for Alloc {
     }
 
     #[inline(always)]
-    fn act(&mut self, words: &mut Vec<u64>) -> Turn<Result<Made, AllocFault>> {
+    fn act<S: Site>(&mut self, site: &S, words: &mut S::Words) -> Turn<Result<Made, AllocFault>> {
         match self.state.point {
             AllocPoint::Header { .. } => {
-                let seen = words[self.header as usize];
+                let ask = self.ask();
+                let seen = site.make(words, ask);
                 self.take(seen)
             }
-            _ => self.act_any(words),
+            _ => self.act_any(site, words),
         }
     }
 

@@ -1,16 +1,15 @@
 //! The control of an allocation: which word it asks for, and where it goes by the word found.
 
-ghost use Rattle.std.specs.Prelude.{◌≡◌, ℕ, ◌+◌, ◌*◌, ◌^◌, ◌<◌, ◌≤◌, ◌/◌, false, slice_index, vec_len};
+ghost use Rattle.std.specs.Prelude.{◌≡◌, ℕ, ◌+◌, ◌*◌, ◌^◌, ◌<◌, ◌≤◌, ◌/◌, false};
 ghost use Rattle.shm_words.specs.Layout.{GeometryFits};
 ghost use Rattle.shm_words.specs.Redos.{first_word, second_word};
-ghost use Rattle.shm_graph.specs.Asks.{at_of, seen_of, words_set};
 ghost use Rattle.shm_alloc.specs.Alloc.Control.{class_asked, header_made, block_of, is_search, RequestFits, SearchFits, PointFits, AllocInRange};
 ghost use Rattle.shm_alloc.specs.Alloc.Control as control;
 
 use crate::alloc::AllocFault;
 use crate::request::Request;
 use shm_count::Made;
-use shm_graph::{Ask, Me, make_step};
+use shm_graph::{Ask, Me, Site};
 use shm_words::{Header, Pair2, Redo};
 
 /// The own era that was read, and the root that is to name the block.
@@ -331,42 +330,42 @@ impl AllocState {
 
     /// Makes the word step that comes next, and tells where it goes by the word that was found.
     #[inline(always)]
-    fn make(self, words: &mut Vec<u64>) -> AllocNext
+    fn make<S: Site>(self, site: &S, words: &mut S::Words) -> AllocNext
         requires range { AllocInRange self }
-        requires here { at_of (control.alloc_ask self) < vec_len words.old }
-        ensures words { words.new.items ≡ words_set (control.alloc_ask self) words.old.items }
-        ensures next { let a = control.alloc_ask self in result ≡ control.alloc_next self (seen_of a (slice_index words.old.items (at_of a))) }
+        requires may { S.may site.now words.old (control.alloc_ask self) }
+        ensures made { S.made site.now words.old (control.alloc_ask self) words.new }
+        ensures next { let a = control.alloc_ask self in result ≡ control.alloc_next self (S.seen site.now words.old a words.new) }
     {
         let ask = self.ask();
-        let seen = make_step(words, ask);
+        let seen = site.make(words, ask);
         self.next(seen)
     }
 
     /// The same, with an arm for each point, so that the compiler makes a piece of code for each and asks once where it is.
     #[inline(always)]
-    pub fn act(self, words: &mut Vec<u64>) -> AllocNext
+    pub fn act<S: Site>(self, site: &S, words: &mut S::Words) -> AllocNext
         requires range { AllocInRange self }
-        requires here { at_of (control.alloc_ask self) < vec_len words.old }
-        ensures words { words.new.items ≡ words_set (control.alloc_ask self) words.old.items }
-        ensures next { let a = control.alloc_ask self in result ≡ control.alloc_next self (seen_of a (slice_index words.old.items (at_of a))) }
+        requires may { S.may site.now words.old (control.alloc_ask self) }
+        ensures made { S.made site.now words.old (control.alloc_ask self) words.new }
+        ensures next { let a = control.alloc_ask self in result ≡ control.alloc_next self (S.seen site.now words.old a words.new) }
     {
         match self.point {
-            AllocPoint::Era => self.make(words),
-            AllocPoint::Root { .. } => self.make(words),
-            AllocPoint::Segment { .. } => self.make(words),
-            AllocPoint::Claim { .. } => self.make(words),
-            AllocPoint::Page { .. } => self.make(words),
-            AllocPoint::Class { .. } => self.make(words),
-            AllocPoint::Header { .. } => self.make(words),
-            AllocPoint::Tag { .. } => self.make(words),
-            AllocPoint::Reference { .. } => self.make(words),
-            AllocPoint::Plain { .. } => self.make(words),
-            AllocPoint::More { .. } => self.make(words),
-            AllocPoint::Redo { .. } => self.make(words),
-            AllocPoint::Commit { .. } => self.make(words),
-            AllocPoint::Slot { .. } => self.make(words),
-            AllocPoint::Close { .. } => self.make(words),
-            AllocPoint::Over => self.make(words),
+            AllocPoint::Era => self.make(site, words),
+            AllocPoint::Root { .. } => self.make(site, words),
+            AllocPoint::Segment { .. } => self.make(site, words),
+            AllocPoint::Claim { .. } => self.make(site, words),
+            AllocPoint::Page { .. } => self.make(site, words),
+            AllocPoint::Class { .. } => self.make(site, words),
+            AllocPoint::Header { .. } => self.make(site, words),
+            AllocPoint::Tag { .. } => self.make(site, words),
+            AllocPoint::Reference { .. } => self.make(site, words),
+            AllocPoint::Plain { .. } => self.make(site, words),
+            AllocPoint::More { .. } => self.make(site, words),
+            AllocPoint::Redo { .. } => self.make(site, words),
+            AllocPoint::Commit { .. } => self.make(site, words),
+            AllocPoint::Slot { .. } => self.make(site, words),
+            AllocPoint::Close { .. } => self.make(site, words),
+            AllocPoint::Over => self.make(site, words),
         }
     }
 

@@ -6,7 +6,7 @@ ghost use Rattle.shm_calls.specs.CallsFit.{CallsFits, CallsGives};
 ghost use Rattle.shm_calls.specs.CallsKeep.{calls_laws};
 
 use crate::plan::Plan;
-use shm_graph::{Ask, Machine, Me, Turn};
+use shm_graph::{Ask, Machine, Me, Site, Turn};
 
 /// A plan, and the call that is in progress.
 #[derive(Drop)]
@@ -90,8 +90,8 @@ impl<P: Plan> Machine for Calls<P> {
     }
 
     #[inline(always)]
-    fn act(&mut self, words: &mut Vec<u64>) -> Turn<P::Answer> {
-        match self.call.act(words) {
+    fn act<S: Site>(&mut self, site: &S, words: &mut S::Words) -> Turn<P::Answer> {
+        match self.call.act(site, words) {
             Turn::Done(answer) => match self.plan.next(answer) {
                 Some(answer) => Turn::Done(answer),
                 None => {

@@ -2,7 +2,7 @@
 
 ghost use Rattle.shm_calls.specs.Either.{or_control, OrFits, OrGives, or_laws};
 
-use shm_graph::{Ask, Machine, Me, Turn};
+use shm_graph::{Ask, Machine, Me, Site, Turn};
 
 /// One of two.
 #[derive(Clone, Copy, Drop)]
@@ -61,14 +61,14 @@ impl<A: Machine, B: Machine> Machine for Or<A, B> {
     }
 
     #[inline(always)]
-    fn act(&mut self, words: &mut Vec<u64>) -> Turn<Or<A::Answer, B::Answer>> {
+    fn act<S: Site>(&mut self, site: &S, words: &mut S::Words) -> Turn<Or<A::Answer, B::Answer>> {
         match self {
-            Or::First(a) => match a.act(words) {
+            Or::First(a) => match a.act(site, words) {
                 Turn::Done(answer) => Turn::Done(Or::First(answer)),
                 Turn::More => Turn::More,
                 Turn::Died => Turn::Died,
             },
-            Or::Second(b) => match b.act(words) {
+            Or::Second(b) => match b.act(site, words) {
                 Turn::Done(answer) => Turn::Done(Or::Second(answer)),
                 Turn::More => Turn::More,
                 Turn::Died => Turn::Died,

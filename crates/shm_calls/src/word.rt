@@ -4,7 +4,7 @@ ghost use Rattle.std.specs.Prelude.{◌≡◌, true, false};
 ghost use Rattle.shm_graph.specs.declared.ask.Ask.TheVariants.{Load, Store, Exchange};
 ghost use Rattle.shm_calls.specs.Words.{word_control, WordFits, WordGives, word_laws};
 
-use shm_graph::{Ask, Machine, Me, Turn, make_step};
+use shm_graph::{Ask, Machine, Me, Site, Turn};
 
 /// One word step of an identity, which answers the word that was found, for a store 0.
 #[derive(Clone, Copy, Drop)]
@@ -83,9 +83,9 @@ impl Machine for Word {
     }
 
     #[inline(always)]
-    fn act(&mut self, words: &mut Vec<u64>) -> Turn<u64> {
+    fn act<S: Site>(&mut self, site: &S, words: &mut S::Words) -> Turn<u64> {
         let ask = self.ask();
-        let seen = make_step(words, ask);
+        let seen = site.make(words, ask);
         self.take(seen)
     }
 

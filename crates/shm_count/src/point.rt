@@ -1,18 +1,17 @@
 //! The control of a count step: which word it asks for, and where it goes by the word found.
 
-ghost use Rattle.std.specs.Prelude.{◌≡◌, ◌≢◌, ◌+◌, ◌<◌, ◌≤◌, ◌^◌, true, slice_index, vec_len};
+ghost use Rattle.std.specs.Prelude.{◌≡◌, ◌≢◌, ◌+◌, ◌<◌, ◌≤◌, ◌^◌, true};
 ghost use Rattle.shm_words.specs.Layout.{GeometryFits};
 ghost use Rattle.shm_words.specs.Headers.{header_of};
 ghost use Rattle.shm_words.specs.Redos.{first_word, second_word};
 ghost use Rattle.shm_graph.specs.declared.ask.Ask.TheVariants as asks;
-ghost use Rattle.shm_graph.specs.Asks.{at_of, seen_of, words_set};
 ghost use Rattle.shm_count.specs.Step.Control.{AimSmall, EraFits, PartFits, CountFits, StepInRange};
 ghost use Rattle.shm_count.specs.Step.Control as control;
 ghost use Rattle.shm_count.specs.Step.ExchangeMade as exchanging;
 ghost use Rattle.shm_count.specs.declared.point.StepPoint.TheVariants as point;
 
 use crate::answer::UpFault;
-use shm_graph::{Ask, Me, make_step};
+use shm_graph::{Ask, Me, Site};
 use shm_words::{Header, Pair2, Redo};
 
 /// What a count step does to the reference word that is its slot.
@@ -308,36 +307,36 @@ impl StepState {
 
     /// Makes the word step that comes next, and tells where it goes by the word that was found.
     #[inline(always)]
-    fn make(self, words: &mut Vec<u64>) -> StepNext
+    fn make<S: Site>(self, site: &S, words: &mut S::Words) -> StepNext
         requires range { StepInRange self }
-        requires here { at_of (control.step_ask self) < vec_len words.old }
-        ensures words { words.new.items ≡ words_set (control.step_ask self) words.old.items }
-        ensures next { let a = control.step_ask self in result ≡ control.step_next self (seen_of a (slice_index words.old.items (at_of a))) }
+        requires may { S.may site.now words.old (control.step_ask self) }
+        ensures made { S.made site.now words.old (control.step_ask self) words.new }
+        ensures next { let a = control.step_ask self in result ≡ control.step_next self (S.seen site.now words.old a words.new) }
     {
         let ask = self.ask();
-        let seen = make_step(words, ask);
+        let seen = site.make(words, ask);
         self.next(seen)
     }
 
     /// The same, with an arm for each point, so that the compiler makes a piece of code for each and asks once where it is.
     #[inline(always)]
-    pub fn act(self, words: &mut Vec<u64>) -> StepNext
+    pub fn act<S: Site>(self, site: &S, words: &mut S::Words) -> StepNext
         requires range { StepInRange self }
-        requires here { at_of (control.step_ask self) < vec_len words.old }
-        ensures words { words.new.items ≡ words_set (control.step_ask self) words.old.items }
-        ensures next { let a = control.step_ask self in result ≡ control.step_next self (seen_of a (slice_index words.old.items (at_of a))) }
+        requires may { S.may site.now words.old (control.step_ask self) }
+        ensures made { S.made site.now words.old (control.step_ask self) words.new }
+        ensures next { let a = control.step_ask self in result ≡ control.step_next self (S.seen site.now words.old a words.new) }
     {
         match self.point {
-            StepPoint::Era => self.make(words),
-            StepPoint::More { .. } => self.make(words),
-            StepPoint::Redo { .. } => self.make(words),
-            StepPoint::Load { .. } => self.make(words),
-            StepPoint::Row { .. } => self.make(words),
-            StepPoint::Show { .. } => self.make(words),
-            StepPoint::Exchange { .. } => self.make(words),
-            StepPoint::Slot { .. } => self.make(words),
-            StepPoint::Close { .. } => self.make(words),
-            StepPoint::Over => self.make(words),
+            StepPoint::Era => self.make(site, words),
+            StepPoint::More { .. } => self.make(site, words),
+            StepPoint::Redo { .. } => self.make(site, words),
+            StepPoint::Load { .. } => self.make(site, words),
+            StepPoint::Row { .. } => self.make(site, words),
+            StepPoint::Show { .. } => self.make(site, words),
+            StepPoint::Exchange { .. } => self.make(site, words),
+            StepPoint::Slot { .. } => self.make(site, words),
+            StepPoint::Close { .. } => self.make(site, words),
+            StepPoint::Over => self.make(site, words),
         }
     }
 

@@ -1,7 +1,6 @@
 //! Count steps as machines: a reference word comes to name a block, comes to be empty, or comes to name another block.
 
-ghost use Rattle.std.specs.Prelude.{◌≡◌, ◌+◌, ◌<◌, ◌≤◌, ◌^◌, slice_index, vec_len};
-ghost use Rattle.shm_graph.specs.Asks.{at_of, seen_of, words_set};
+ghost use Rattle.std.specs.Prelude.{◌≡◌, ◌+◌, ◌<◌, ◌≤◌, ◌^◌};
 ghost use Rattle.shm_words.specs.Layout.{GeometryFits, address_limit};
 ghost use Rattle.shm_count.specs.declared.point.Aim.TheVariants as aims;
 ghost use Rattle.shm_count.specs.declared.point.StepPoint.TheVariants.{Era};
@@ -13,7 +12,7 @@ ghost use Rattle.shm_count.specs.Step.Keeps.{step_keeps};
 use crate::answer::{EraSpent, UpFault};
 use crate::point;
 use crate::point::{Aim, StepNext, StepPoint, StepState};
-use shm_graph::{Ask, Machine, Me, Turn};
+use shm_graph::{Ask, Machine, Me, Site, Turn};
 use std::marker::Model;
 
 impl StepState {
@@ -71,15 +70,15 @@ impl StepState {
 
     /// Makes the word step that comes next, and takes the word that was found; its answer, once it is done.
     #[inline(never)]
-    fn act_on(&mut self, words: &mut Vec<u64>) -> Option<Result<bool, UpFault>>
+    fn act_on<S: Site>(&mut self, site: &S, words: &mut S::Words) -> Option<Result<bool, UpFault>>
         requires range { StepInRange self.old }
-        requires here { at_of (step_ask self.old) < vec_len words.old }
-        ensures words { words.new.items ≡ words_set (step_ask self.old) words.old.items }
-        ensures state { let a = step_ask self.old in self.new ≡ step_control.after self.old (seen_of a (slice_index words.old.items (at_of a))) }
-        ensures answer { let a = step_ask self.old in result ≡ answer_of (step_next self.old (seen_of a (slice_index words.old.items (at_of a)))) }
+        requires may { S.may site.now words.old (step_ask self.old) }
+        ensures made { S.made site.now words.old (step_ask self.old) words.new }
+        ensures state { let a = step_ask self.old in self.new ≡ step_control.after self.old (S.seen site.now words.old a words.new) }
+        ensures answer { let a = step_ask self.old in result ≡ answer_of (step_next self.old (S.seen site.now words.old a words.new)) }
         ensures knows { StepInRange self.new }
     {
-        let next = self.act(words);
+        let next = self.act(site, words);
         self.go_on(next)
     }
 }
@@ -183,8 +182,8 @@ impl Machine for StepUp {
     }
 
     #[inline(always)]
-    fn act(&mut self, words: &mut Vec<u64>) -> Turn<Result<(), UpFault>> {
-        match self.state.act_on(words) {
+    fn act<S: Site>(&mut self, site: &S, words: &mut S::Words) -> Turn<Result<(), UpFault>> {
+        match self.state.act_on(site, words) {
             None => Turn::More,
             Some(answer) => Turn::Done(up_answer(answer)),
         }
@@ -270,8 +269,8 @@ impl Machine for StepDown {
     }
 
     #[inline(always)]
-    fn act(&mut self, words: &mut Vec<u64>) -> Turn<Result<bool, EraSpent>> {
-        match self.state.act_on(words) {
+    fn act<S: Site>(&mut self, site: &S, words: &mut S::Words) -> Turn<Result<bool, EraSpent>> {
+        match self.state.act_on(site, words) {
             None => Turn::More,
             Some(answer) => Turn::Done(down_answer(answer)),
         }
@@ -359,8 +358,8 @@ impl Machine for StepChange {
     }
 
     #[inline(always)]
-    fn act(&mut self, words: &mut Vec<u64>) -> Turn<Result<bool, UpFault>> {
-        match self.state.act_on(words) {
+    fn act<S: Site>(&mut self, site: &S, words: &mut S::Words) -> Turn<Result<bool, UpFault>> {
+        match self.state.act_on(site, words) {
             None => Turn::More,
             Some(answer) => Turn::Done(answer),
         }

@@ -1,8 +1,7 @@
 //! The tear-down of a block whose count came to 0, as a machine.
 
-ghost use Rattle.std.specs.Prelude.{◌≡◌, ◌<◌, ◌^◌, slice_index, vec_len};
+ghost use Rattle.std.specs.Prelude.{◌≡◌, ◌<◌, ◌^◌};
 ghost use Rattle.shm_words.specs.Layout.{GeometryFits, address_limit};
-ghost use Rattle.shm_graph.specs.Asks.{at_of, seen_of, words_set};
 ghost use Rattle.shm_count.specs.declared.tear_point.TearPoint.TheVariants.{Begin};
 ghost use Rattle.shm_count.specs.Operating.{TearDownLeaves, TearMay, tear_operation};
 ghost use Rattle.shm_count.specs.Tear.Control.{TearInRange, tear_ask, tear_next, answer_of, block_of, point_of, tear_control, is_over};
@@ -12,7 +11,7 @@ ghost use Rattle.shm_count.specs.Tear.Keeps.{tear_laws};
 
 use crate::answer::EraSpent;
 use crate::tear_point::{TearNext, TearPoint, TearState};
-use shm_graph::{Ask, Machine, Me, Operation, Turn};
+use shm_graph::{Ask, Machine, Me, Operation, Site, Turn};
 use std::marker::Model;
 
 impl TearState {
@@ -70,15 +69,15 @@ impl TearState {
 
     /// Makes the word step that comes next, and takes the word that was found; its answer, once it is done.
     #[inline(never)]
-    fn act_on(&mut self, words: &mut Vec<u64>) -> Option<Result<(), EraSpent>>
+    fn act_on<S: Site>(&mut self, site: &S, words: &mut S::Words) -> Option<Result<(), EraSpent>>
         requires range { TearInRange self.old }
-        requires here { at_of (tear_ask self.old) < vec_len words.old }
-        ensures words { words.new.items ≡ words_set (tear_ask self.old) words.old.items }
-        ensures state { let a = tear_ask self.old in self.new ≡ tear_control.after self.old (seen_of a (slice_index words.old.items (at_of a))) }
-        ensures answer { let a = tear_ask self.old in result ≡ answer_of (tear_next self.old (seen_of a (slice_index words.old.items (at_of a)))) }
+        requires may { S.may site.now words.old (tear_ask self.old) }
+        ensures made { S.made site.now words.old (tear_ask self.old) words.new }
+        ensures state { let a = tear_ask self.old in self.new ≡ tear_control.after self.old (S.seen site.now words.old a words.new) }
+        ensures answer { let a = tear_ask self.old in result ≡ answer_of (tear_next self.old (S.seen site.now words.old a words.new)) }
         ensures knows { TearInRange self.new }
     {
-        let next = self.act(words);
+        let next = self.act(site, words);
         self.go_on(next)
     }
 }
@@ -153,8 +152,8 @@ impl Machine for TearDown {
     }
 
     #[inline(always)]
-    fn act(&mut self, words: &mut Vec<u64>) -> Turn<Result<(), EraSpent>> {
-        match self.state.act_on(words) {
+    fn act<S: Site>(&mut self, site: &S, words: &mut S::Words) -> Turn<Result<(), EraSpent>> {
+        match self.state.act_on(site, words) {
             None => Turn::More,
             Some(answer) => Turn::Done(answer),
         }

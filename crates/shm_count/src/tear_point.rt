@@ -1,16 +1,15 @@
 //! The control of a tear-down: which word it asks for, and where it goes by the word found.
 
-ghost use Rattle.std.specs.Prelude.{◌≡◌, ◌≢◌, ◌+◌, ◌<◌, ◌≤◌, ◌^◌, true, slice_index, vec_len};
+ghost use Rattle.std.specs.Prelude.{◌≡◌, ◌≢◌, ◌+◌, ◌<◌, ◌≤◌, ◌^◌, true};
 ghost use Rattle.shm_words.specs.Layout.{GeometryFits, address_limit};
 ghost use Rattle.shm_words.specs.Tags.{TagFits};
-ghost use Rattle.shm_graph.specs.Asks.{at_of, seen_of, words_set};
 ghost use Rattle.shm_count.specs.Tear.Control.{TearInRange, TearPointFits};
 ghost use Rattle.shm_count.specs.Tear.Control as control;
 ghost use Rattle.shm_count.specs.Step.Control.{StepInRange};
 
 use crate::answer::{EraSpent, UpFault};
 use crate::point::{Aim, StepNext, StepPoint, StepState};
-use shm_graph::{Ask, Me, make_step};
+use shm_graph::{Ask, Me, Site};
 use shm_words::{ADDRESS_LIMIT, Geometry, Tag};
 
 /// The word step of a tear-down that comes next; `tag` is that of its block, whose link is the block to go on with.
@@ -143,34 +142,34 @@ impl TearState {
 
     /// Makes the word step that comes next, and tells where it goes by the word that was found.
     #[inline(always)]
-    fn make(self, words: &mut Vec<u64>) -> TearNext
+    fn make<S: Site>(self, site: &S, words: &mut S::Words) -> TearNext
         requires range { TearInRange self }
-        requires here { at_of (control.tear_ask self) < vec_len words.old }
-        ensures words { words.new.items ≡ words_set (control.tear_ask self) words.old.items }
-        ensures next { let a = control.tear_ask self in result ≡ control.tear_next self (seen_of a (slice_index words.old.items (at_of a))) }
+        requires may { S.may site.now words.old (control.tear_ask self) }
+        ensures made { S.made site.now words.old (control.tear_ask self) words.new }
+        ensures next { let a = control.tear_ask self in result ≡ control.tear_next self (S.seen site.now words.old a words.new) }
     {
         let ask = self.ask();
-        let seen = make_step(words, ask);
+        let seen = site.make(words, ask);
         self.next(seen)
     }
 
     /// The same, with an arm for each point, so that the compiler makes a piece of code for each and asks once where it is.
     #[inline(always)]
-    pub fn act(self, words: &mut Vec<u64>) -> TearNext
+    pub fn act<S: Site>(self, site: &S, words: &mut S::Words) -> TearNext
         requires range { TearInRange self }
-        requires here { at_of (control.tear_ask self) < vec_len words.old }
-        ensures words { words.new.items ≡ words_set (control.tear_ask self) words.old.items }
-        ensures next { let a = control.tear_ask self in result ≡ control.tear_next self (seen_of a (slice_index words.old.items (at_of a))) }
+        requires may { S.may site.now words.old (control.tear_ask self) }
+        ensures made { S.made site.now words.old (control.tear_ask self) words.new }
+        ensures next { let a = control.tear_ask self in result ≡ control.tear_next self (S.seen site.now words.old a words.new) }
     {
         match self.point {
-            TearPoint::Begin => self.make(words),
-            TearPoint::Enter { .. } => self.make(words),
-            TearPoint::Link { .. } => self.make(words),
-            TearPoint::Word { .. } => self.make(words),
-            TearPoint::Down { .. } => self.make(words),
-            TearPoint::Free { .. } => self.make(words),
-            TearPoint::Return => self.make(words),
-            TearPoint::Over => self.make(words),
+            TearPoint::Begin => self.make(site, words),
+            TearPoint::Enter { .. } => self.make(site, words),
+            TearPoint::Link { .. } => self.make(site, words),
+            TearPoint::Word { .. } => self.make(site, words),
+            TearPoint::Down { .. } => self.make(site, words),
+            TearPoint::Free { .. } => self.make(site, words),
+            TearPoint::Return => self.make(site, words),
+            TearPoint::Over => self.make(site, words),
         }
     }
 

@@ -14,6 +14,7 @@ pub mod machine;
 pub mod memo;
 pub mod operation;
 pub mod run;
+pub mod site;
 pub mod sound;
 pub mod spot;
 pub mod start;
@@ -33,6 +34,7 @@ pub use memo::{
 };
 pub use operation::Operation;
 pub use run::{Account, LoggedLine, Move, Start};
+pub use site::{InVector, Site};
 pub use sound::{
     clean_pools, commitment_is_shown, gone_leaves_nothing, queues_keep_their_items,
     redo_tells_the_step, references_are_counted, unused_pages_are_empty,

@@ -1,12 +1,12 @@
 //! Machines: programs that take one word step at a time.
 
-ghost use Rattle.std.specs.Prelude.{◌≡◌, ◌<◌, false, slice_index, vec_len};
+ghost use Rattle.std.specs.Prelude.{◌≡◌, false};
 ghost use Rattle.shm_graph.specs.declared.memo.Memo.{Memo as AMemo};
-ghost use Rattle.shm_graph.specs.Asks.{Trail, at_of, seen_of, words_set};
+ghost use Rattle.shm_graph.specs.Asks.{Trail};
 ghost use Rattle.shm_graph.specs.Laws.{Control, Laws, turn_of};
 
-use crate::act::make_step;
 use crate::ask::{Ask, Me, Turn};
+use crate::site::Site;
 
 /// A program of word steps: it asks for one word step, is told what was found, and asks for the next.
 ///
@@ -43,20 +43,20 @@ pub trait Machine {
         ensures machine { self.new ≡ control.after self.old seen }
         ensures turn { result ≡ turn_of (control.turns self.old seen) };
 
-    /// Makes the word step that it asks for next on these words, and takes the word that was found.
+    /// Makes the word step that it asks for next at this site, and takes the word that was found.
     ///
-    /// A machine that is made of another one hands the words on, so that a word step goes once through what it is made of, and not once to
+    /// A machine that is made of another one hands the site on, so that a word step goes once through what it is made of, and not once to
     /// ask and once to take.
     #[inline(always)]
-    fn act(&mut self, words: &mut Vec<u64>) -> Turn<Self::Answer>
+    fn act<S: Site>(&mut self, site: &S, words: &mut S::Words) -> Turn<Self::Answer>
         requires runs { control.finished self.old ≡ false }
-        requires here { at_of (control.asks self.old) < vec_len words.old }
-        ensures words { words.new.items ≡ words_set (control.asks self.old) words.old.items }
-        ensures machine { let a = control.asks self.old in self.new ≡ control.after self.old (seen_of a (slice_index words.old.items (at_of a))) }
-        ensures turn { let a = control.asks self.old in result ≡ turn_of (control.turns self.old (seen_of a (slice_index words.old.items (at_of a)))) }
+        requires may { S.may site.now words.old (control.asks self.old) }
+        ensures made { S.made site.now words.old (control.asks self.old) words.new }
+        ensures machine { let a = control.asks self.old in self.new ≡ control.after self.old (S.seen site.now words.old a words.new) }
+        ensures turn { let a = control.asks self.old in result ≡ turn_of (control.turns self.old (S.seen site.now words.old a words.new)) }
     {
         let ask = self.ask();
-        let seen = make_step(words, ask);
+        let seen = site.make(words, ask);
         self.take(seen)
     }
 

@@ -11,7 +11,7 @@ ghost use Rattle.shm_plain.specs.Tracks.{kind_next};
 ghost use Rattle.shm_plain.specs.Pools.{IsOf, IsRun, first_pool, memo_of, readied, turn_on, turned, MayStep, after_fall};
 
 use crate::track::{Board, Place, board, note, note_death};
-use shm_graph::{Life, Machine, Start, Turn, first_words};
+use shm_graph::{InVector, Life, Machine, Start, Turn, first_words};
 use shm_words::Geometry;
 use std::alloc::{AllocError, Global};
 use std::marker::Model;
@@ -136,6 +136,6 @@ impl PlainPool {
         ensures learns { let t = turn_on (readied self.old who) M.control m.old in Learns M.control (fits_now M.control M.fits) (gives_now M.gives) m.old t.seen (memo_of (readied self.old who) who) (memo_of self.new who) }
     {
         note(&self.board, &mut self.place, m, &self.words);
-        m.act(&mut self.words)
+        m.act(&InVector, &mut self.words)
     }
 }

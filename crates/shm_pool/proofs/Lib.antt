@@ -1,5 +1,6 @@
 pub mod Counts
 pub mod Stepping
+pub mod Sites
 pub mod Calling
 pub mod Opening
 pub mod Ends

@@ -15,6 +15,7 @@ mod recovery;
 mod reply;
 mod rescuer;
 mod rule;
+mod site;
 mod steps;
 mod token;
 

@@ -6,50 +6,48 @@ ghost use Rattle.shm_words.specs.Layout.{GeometryFits, address, total_of};
 ghost use Rattle.shm_graph.specs.declared.memo.Kind.TheVariants.{Client as AClient, Recoverer as ARecoverer};
 ghost use Rattle.shm_graph.specs.declared.memo.Memo.{Memo};
 ghost use Rattle.shm_graph.specs.Agents.{acts, recovers};
-ghost use Rattle.shm_graph.specs.Asks.{seen_of};
 ghost use Rattle.shm_graph.specs.Held.{status_word};
-ghost use Rattle.shm_graph.specs.Laws.{is_died, is_done, is_some};
+ghost use Rattle.shm_graph.specs.Laws.{is_died, is_done, is_some, turn_of};
 ghost use Rattle.shm_graph.specs.Runs.{MayBegin, account_died, account_entered, Stood};
 ghost use Rattle.shm_graph.specs.Whole.{fits_now, gives_now};
-ghost use Rattle.shm_pool.specs.Rules.{IsOf, IsAlone, alone, Told, Follows};
+ghost use Rattle.shm_pool.specs.Rules.{IsOf, IsAlone, alone, Told};
+ghost use Rattle.shm_pool.specs.Sites.{MayMake, Made, last_word};
 ghost use Rattle.shm_pool.specs.Calls.{ClientStepped, Drives, Tells, acts_still, StillFits};
 ghost use Rattle.shm_pool.specs.Tokens.{has_left};
 
-use crate::rule::{ClientBegins, Dies, Place, ReadsStatus, RecovererBegins, Say, Says, Top};
-use shm_graph::{Ask, Life, Machine, Turn};
-use std::marker::Brand;
+use crate::rule::{ClientBegins, Dies, Place, ReadsStatus, RecovererBegins, Say, Top};
+use crate::site::OnTable;
+use shm_graph::{Life, Machine, Turn};
+use std::marker::{Brand, PhantomData};
 
+/// One word step of a machine, which takes what it found; it tells what U says.
 #[inline(always)]
-fn step_as<U: Say, M: Machine>(top: &Top, place: &mut Place, m: &M) -> u64
-    requires table { (place.old.table_id ≡ top.now.table_id) × (top.now.table_id.words ≡ total_of top.now.key.geometry) × IsAlone place.old }
-    requires me { IsOf top.now.key.geometry (alone place.old) M.control m.now }
-    requires fits { (r0 : Memo) × fits_now M.control M.fits m.now r0 (alone place.old).memo }
-    requires say { (n : ℕ) → Follows M.control (fits_now M.control M.fits) (gives_now M.gives) top.now.key m.now (alone place.old) n (U.then (alone place.old ∷ []) n) }
-    ensures place { (place.new.table_id ≡ place.old.table_id) × (place.new.id ≡ place.old.id) × (place.new.me.1 ≡ []) }
-    ensures told { (n : ℕ) × (result ≡ seen_of (M.control.asks m.now) n) × U.then (alone place.old ∷ []) n place.new.me.0 }
+fn act_as<U: Say, M: Machine>(top: &Top, place: &mut Place, m: &mut M) -> Turn<M::Answer>
+    requires runs { M.control.finished m.old ≡ false }
+    requires may { MayMake top.now.key top.now.table_id U.then place.old (M.control.asks m.old) }
+    ensures made { Made U.then place.old place.new }
+    ensures machine { m.new ≡ M.control.after m.old (last_word place.new) }
+    ensures turn { result ≡ turn_of (M.control.turns m.old (last_word place.new)) }
 {
-    match m.ask() {
-        Ask::Load { at } => top.load::<Says<U>>(place, at as usize),
-        Ask::Store { at, value } => {
-            top.store::<Says<U>>(place, at as usize, value);
-            0
-        }
-        Ask::Exchange { at, from, to } => {
-            top.compare_exchange::<Says<U>>(place, at as usize, from, to)
-        }
-    }
+    let site = OnTable::<U> {
+        top,
+        says: PhantomData,
+    };
+    m.act(&site, place)
 }
 
-/// One word step of a machine. What it found is given to the machine next.
+/// One word step of a machine, which takes what it found.
 #[inline(always)]
-pub(crate) fn ask_step<M: Machine>(top: &Top, place: &mut Place, m: &M) -> u64
+fn act_place<M: Machine>(top: &Top, place: &mut Place, m: &mut M) -> Turn<M::Answer>
     requires table { (place.old.table_id ≡ top.now.table_id) × (top.now.table_id.words ≡ total_of top.now.key.geometry) × IsAlone place.old }
-    requires me { IsOf top.now.key.geometry (alone place.old) M.control m.now }
-    requires fits { (r0 : Memo) × fits_now M.control M.fits m.now r0 (alone place.old).memo }
+    requires me { IsOf top.now.key.geometry (alone place.old) M.control m.old }
+    requires fits { (r0 : Memo) × fits_now M.control M.fits m.old r0 (alone place.old).memo }
     ensures place { (place.new.table_id ≡ place.old.table_id) × (place.new.id ≡ place.old.id) × IsAlone place.new }
-    ensures told { Told M.control (fits_now M.control M.fits) (gives_now M.gives) top.now.key m.now (alone place.old) result (alone place.new) }
+    ensures told { Told M.control (fits_now M.control M.fits) (gives_now M.gives) top.now.key m.old (alone place.old) (last_word place.new) (alone place.new) }
+    ensures machine { m.new ≡ M.control.after m.old (last_word place.new) }
+    ensures turn { result ≡ turn_of (M.control.turns m.old (last_word place.new)) }
 {
-    step_as::<Brand, M>(top, place, m)
+    act_as::<Brand, M>(top, place, m)
 }
 
 /// One step of a machine, unless no life is left.
@@ -78,8 +76,7 @@ pub(crate) fn step_place<M: Machine>(
         return Turn::Died;
     }
     life.left -= 1;
-    let seen = ask_step(top, place, m);
-    m.take(seen)
+    act_place(top, place, m)
 }
 
 /// The steps of a machine until it is finished; none where no life is left before.

@@ -9,7 +9,7 @@ ghost use Rattle.shm_graph.specs.Bounds.{join_steps};
 ghost use Rattle.shm_recover.specs.Join.{join_control, join_fresh, JoinFits, JoinGives};
 ghost use Rattle.shm_recover.specs.Join.Keeps.{join_laws};
 
-use shm_graph::{Ask, Machine, Me, Turn, make_step};
+use shm_graph::{Ask, Machine, Me, Site, Turn};
 use std::marker::Model;
 
 /// How far a join has come.
@@ -107,9 +107,9 @@ impl Machine for Join {
     }
 
     #[inline(always)]
-    fn act(&mut self, words: &mut Vec<u64>) -> Turn<()> {
+    fn act<S: Site>(&mut self, site: &S, words: &mut S::Words) -> Turn<()> {
         let ask = self.ask();
-        let seen = make_step(words, ask);
+        let seen = site.make(words, ask);
         self.take(seen)
     }
 

@@ -30,7 +30,7 @@ use crate::put::Put;
 use crate::recv::RecvKey;
 use crate::send_key::SendKey;
 use shm_calls::{Begin, Or};
-use shm_graph::{Ask, Machine, Me, Operation, Turn};
+use shm_graph::{Ask, Machine, Me, Operation, Site, Turn};
 use shm_script::{Answer, Line};
 use std::marker::Model;
 
@@ -155,8 +155,8 @@ impl Machine for Command {
     }
 
     #[inline(always)]
-    fn act(&mut self, words: &mut Vec<u64>) -> Turn<Answer> {
-        match self.one.act(words) {
+    fn act<S: Site>(&mut self, site: &S, words: &mut S::Words) -> Turn<Answer> {
+        match self.one.act(site, words) {
             Turn::Done(answer) => Turn::Done(given(answer)),
             Turn::More => Turn::More,
             Turn::Died => Turn::Died,

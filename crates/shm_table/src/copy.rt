@@ -25,7 +25,7 @@ use crate::fetch::{Fetch, Fetched};
 use crate::put_root::{PutRoot, settled};
 use shm_calls::{Calls, Or, Plan, Task};
 use shm_count::EraSpent;
-use shm_graph::{Ask, Machine, Me, Turn};
+use shm_graph::{Ask, Machine, Me, Site, Turn};
 use shm_ref::DropRoot;
 use shm_script::Answer;
 use shm_words::ADDRESS_LIMIT;
@@ -166,8 +166,8 @@ impl Machine for CopyKey {
     }
 
     #[inline(always)]
-    fn act(&mut self, words: &mut Vec<u64>) -> Turn<Answer> {
-        self.calls.act(words)
+    fn act<S: Site>(&mut self, site: &S, words: &mut S::Words) -> Turn<Answer> {
+        self.calls.act(site, words)
     }
 
     ghost laws = { calls_laws copy_parts copy_plan (copy_laws fetch_laws (put_root_laws open_laws locate_laws replace_laws enter_laws)) };

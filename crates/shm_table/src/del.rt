@@ -21,7 +21,7 @@ use crate::unlatch::Unlatch;
 use crate::unlink::Unlink;
 use shm_calls::{Calls, Or, Plan, Task};
 use shm_count::UpFault;
-use shm_graph::{Ask, Machine, Me, Turn};
+use shm_graph::{Ask, Machine, Me, Site, Turn};
 use shm_script::Answer;
 use shm_words::ADDRESS_LIMIT;
 use std::marker::Model;
@@ -142,8 +142,8 @@ impl Machine for Del {
     }
 
     #[inline(always)]
-    fn act(&mut self, words: &mut Vec<u64>) -> Turn<Answer> {
-        self.calls.act(words)
+    fn act<S: Site>(&mut self, site: &S, words: &mut S::Words) -> Turn<Answer> {
+        self.calls.act(site, words)
     }
 
     ghost laws = { calls_laws del_parts del_plan del_laws };

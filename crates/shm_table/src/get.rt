@@ -16,7 +16,7 @@ use crate::find::Found;
 use crate::locate::Locate;
 use crate::unlatch::Unlatch;
 use shm_calls::{Calls, Or, Plan, Task, Word};
-use shm_graph::{Ask, Machine, Me, Turn};
+use shm_graph::{Ask, Machine, Me, Site, Turn};
 use shm_script::Answer;
 use shm_words::ADDRESS_LIMIT;
 use std::marker::Model;
@@ -133,8 +133,8 @@ impl Machine for Get {
     }
 
     #[inline(always)]
-    fn act(&mut self, words: &mut Vec<u64>) -> Turn<Answer> {
-        self.calls.act(words)
+    fn act<S: Site>(&mut self, site: &S, words: &mut S::Words) -> Turn<Answer> {
+        self.calls.act(site, words)
     }
 
     ghost laws = { calls_laws get_parts get_plan get_laws };

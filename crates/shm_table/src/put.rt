@@ -24,7 +24,7 @@ use crate::put_root::{PutRoot, settled};
 use shm_alloc::{Alloc, AllocFault, Request};
 use shm_calls::{Calls, Or, Plan, Task};
 use shm_count::{EraSpent, Made};
-use shm_graph::{Ask, Machine, Me, Turn};
+use shm_graph::{Ask, Machine, Me, Site, Turn};
 use shm_ref::DropRoot;
 use shm_script::Answer;
 use shm_words::ADDRESS_LIMIT;
@@ -163,8 +163,8 @@ impl Machine for Put {
     }
 
     #[inline(always)]
-    fn act(&mut self, words: &mut Vec<u64>) -> Turn<Answer> {
-        self.calls.act(words)
+    fn act<S: Site>(&mut self, site: &S, words: &mut S::Words) -> Turn<Answer> {
+        self.calls.act(site, words)
     }
 
     ghost laws = { calls_laws put_parts put_plan (put_laws (put_root_laws open_laws locate_laws replace_laws enter_laws)) };

@@ -25,7 +25,7 @@ use crate::replace::Replace;
 use crate::unlatch::Unlatch;
 use shm_calls::{Calls, Or, Plan};
 use shm_count::EraSpent;
-use shm_graph::{Ask, Machine, Me, Turn};
+use shm_graph::{Ask, Machine, Me, Site, Turn};
 use shm_ref::DropRoot;
 use shm_words::ADDRESS_LIMIT;
 use std::marker::Model;
@@ -153,8 +153,8 @@ impl Machine for PutRoot {
     }
 
     #[inline(always)]
-    fn act(&mut self, words: &mut Vec<u64>) -> Turn<Result<bool, PutFault>> {
-        self.calls.act(words)
+    fn act<S: Site>(&mut self, site: &S, words: &mut S::Words) -> Turn<Result<bool, PutFault>> {
+        self.calls.act(site, words)
     }
 
     ghost laws = { calls_laws put_root_parts put_root_plan (put_root_laws open_laws locate_laws replace_laws enter_laws) };

@@ -16,7 +16,7 @@ use crate::find::Found;
 use crate::locate::Locate;
 use crate::unlatch::Unlatch;
 use shm_calls::{Calls, Or, Plan, Task, Word};
-use shm_graph::{Ask, Machine, Me, Turn};
+use shm_graph::{Ask, Machine, Me, Site, Turn};
 use shm_queue::{Send, SendFault};
 use shm_script::Answer;
 use shm_words::ADDRESS_LIMIT;
@@ -145,8 +145,8 @@ impl Machine for SendKey {
     }
 
     #[inline(always)]
-    fn act(&mut self, words: &mut Vec<u64>) -> Turn<Answer> {
-        self.calls.act(words)
+    fn act<S: Site>(&mut self, site: &S, words: &mut S::Words) -> Turn<Answer> {
+        self.calls.act(site, words)
     }
 
     ghost laws = { calls_laws send_key_parts send_key_plan send_key_laws };

@@ -6,7 +6,7 @@ use Rattle.shm_alloc.specs.Alloc.Ranges.{knows_next}
 use Rattle.shm_alloc.proofs.alloc.Alloc.act_any.Goals as goal
 
 pub go_on-requires : goal.go_on-requires
-go_on-requires c =
+go_on-requires g c =
     let a : AllocState = c.self.inside.state in
     subst (λ (m : AllocState). PointFits m.me m.request (point_of c.act-next.result)) c.self.view_is
     (subst (λ (z : AllocNext). PointFits a.me a.request (point_of z)) (sym c.act-next.ensures.next) (knows_next a _ c.self.invariant.0))

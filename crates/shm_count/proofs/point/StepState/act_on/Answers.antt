@@ -6,6 +6,6 @@ use Rattle.shm_count.specs.Step.Ranges.{knows_next}
 use Rattle.shm_count.proofs.point.StepState.act_on.Goals as goal
 
 pub returns-clause-knows : goal.returns-clause-knows
-returns-clause-knows c =
+returns-clause-knows g c =
     let m : StepState = c.args.self.now in
     subst StepInRange (sym (c.go_on.ensures.state ∙ ap (λ (z : StepNext). record m { point = point_of z }) c.act-next.ensures.next)) (knows_next m _ c.requires.range)

@@ -6,6 +6,6 @@ use Rattle.shm_count.specs.Tear.Ranges.{knows_after}
 use Rattle.shm_count.proofs.tear_point.TearState.act_on.Goals as goal
 
 pub returns-clause-knows : goal.returns-clause-knows
-returns-clause-knows c =
+returns-clause-knows g c =
     let m : TearState = c.args.self.now in
     subst TearInRange (sym (c.go_on.ensures.state ∙ ap (λ (z : TearNext). record m { block = block_of m.block z; point = point_of z }) c.act-next.ensures.next)) (knows_after m _ c.requires.range)

@@ -1,12 +1,9 @@
-use Rattle.std.proofs.Common.{ap, sym, subst, List, IfSome, ℕ, refl}
-use Rattle.std.specs.Prelude.{Option}
+use Rattle.std.proofs.Common.{subst, refl}
 use Rattle.shm_graph.specs.declared.ask.Me.{Me}
-use Rattle.shm_graph.specs.Events.{Event}
 use Rattle.shm_graph.specs.Idle.{IsIdle}
 use Rattle.shm_graph.specs.Tells.{happens_along}
 use Rattle.shm_plain.specs.Pools.{memo_of}
 use Rattle.shm_plain.specs.Calls.{Did}
-use Rattle.shm_graph.specs.Operations.{IsReady}
 use Rattle.shm_plain.proofs.Called.{Answered, answered, call_fits, fits_first, ready}
 use Rattle.shm_plain.proofs.pool.PlainPool.operate.Goals.{After-call}
 use Rattle.shm_plain.proofs.pool.PlainPool.operate.Goals as goal

@@ -21,7 +21,7 @@ ran g c = let f = c.self.inside in let p0 : Pool = pool f.start f.words.items f.
     let r0 : Memo = c.requires.fits.0 in let fit : fits_now M.control M.fits m r0 (memo_of p who) = subst (λ (z : Pool). fits_now M.control M.fits m r0 (memo_of (readied z who) who)) (sym is) c.requires.fits.1 in
     let run = turned_run M.control (fits_now M.control M.fits) (gives_now M.gives) (whole_keeps M.control M.fits M.gives L) p who m r0 ready.0 ready.1 of fit in
     let t = turn_on p M.control m in
-    let words : c.act.new.words.items ≡ words_set (M.control.asks m) p0.words = c.act.ensures.words in
+    let words : c.act.new.words.items ≡ words_set (M.control.asks m) p0.words = c.act.ensures.made in
     let track : c.note.new.place.me.0 ≡ noted_at who t f.place.me.0 = c.note.ensures.1 ∙ ap (λ (z : Me). noted_at z.who t f.place.me.0) of.0 in
     subst (λ (z : Track). IsRun (pool f.start c.act.new.words.items z.accounts z.turns)) (sym track) (subst (λ (ws : List ℕ). IsRun (pool f.start ws (noted_at who t f.place.me.0).accounts (noted_at who t f.place.me.0).turns)) (sym words) run)
 

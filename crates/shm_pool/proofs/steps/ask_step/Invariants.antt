@@ -1,8 +1,0 @@
-use Rattle.std.specs.Prelude.{◌≡◌, [], ◌∷◌}
-use Rattle.shm_graph.specs.Asks.{seen_of}
-use Rattle.shm_graph.specs.Whole.{fits_now, gives_now}
-use Rattle.shm_pool.specs.Rules.{Told, head_account}
-use Rattle.shm_pool.proofs.steps.ask_step.Given as goal
-
-abbrev pub ghosts-step_as : goal.ghosts-step_as
-ghosts-step_as g a = record { then = λ before n now. (now ≡ head_account now ∷ []) × Told g.M.Machine.control (fits_now g.M.Machine.control g.M.Machine.fits) (gives_now g.M.Machine.gives) a.top.now.key a.m.now (head_account before) (seen_of (g.M.Machine.control.asks a.m.now) n) (head_account now) }
