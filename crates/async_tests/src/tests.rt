@@ -1,11 +1,11 @@
 //! A put, whose client is polled, and given up between two polls.
 
-ghost use Rattle.std.specs.Prelude.{◌≡◌, ◌≤◌, true};
+ghost use Rattle.std.specs.Prelude.{◌≡◌, ◌≤◌, IfSome, true};
 ghost use Rattle.shm_script.specs.Ranges.{ScriptFits};
 ghost use Rattle.shm_pool.specs.Tokens.{token_first};
 
 use pool_calls::team::pop_of;
-use shm_async::{Finish, IdentityFuture, Token, run_async};
+use shm_async::{Finish, IdentityFuture, Token, run_async, run_limited};
 use shm_audit::{Verdict, audit, write_image};
 use shm_pool::{SharedPool, Vacant};
 use shm_script::{End, Script, Trace, parse};
@@ -146,13 +146,16 @@ fn a_client_is_given_up(rt: HostRuntime) -> Result<(), Fail> {
     Ok(())
 }
 
-/// What a trace of one client leaves that is polled with `q` turns each: how the client ended, and how many live blocks there are, and references.
+/// What a trace of one client leaves that is polled with `q` turns each, and cut after `limit` polls if there is a limit: how the client
+/// ended, and how many live blocks there are, and references.
 fn poll_run<R: Wait + RandomSource + AllocGlobal>(
     rt: &R,
     text: &[u8],
     q: u32,
+    limit: Option<u32>,
 ) -> Result<Option<(End, u64, u64)>, AllocError>
-    requires { (1 ≤ q) × (q ≤ 1000000) }
+    requires turns { (1 ≤ q) × (q ≤ 1000000) }
+    requires polls { IfSome limit (λ n. (1 ≤ n) × (n ≤ 1000000)) }
 {
     let alloc = rt.alloc();
     let Ok(trace) = parse(alloc, text) else {
@@ -161,7 +164,10 @@ fn poll_run<R: Wait + RandomSource + AllocGlobal>(
     let Ok(geometry) = Geometry::new(1, 1) else {
         return Ok(None);
     };
-    let polled = run_async(rt, alloc, &trace, q)?;
+    let polled = match limit {
+        None => run_async(rt, alloc, &trace, q)?,
+        Some(limit) => run_limited(rt, alloc, &trace, q, limit)?,
+    };
     let Some(log) = polled.logs.first() else {
         return Ok(None);
     };
@@ -179,8 +185,21 @@ fn poll_run<R: Wait + RandomSource + AllocGlobal>(
 // what a replay of these traces leaves too: the put's value, its table and the home of the client
 #[test]
 fn an_executor_polls_a_trace(rt: HostRuntime) -> Result<(), Fail> {
-    assert_eq!(rt; poll_run(&rt, PUT, 7)?, Some((End::Ended, 3, 3)));
-    assert_eq!(rt; poll_run(&rt, PUT, 1_000_000)?, Some((End::Ended, 3, 3)));
-    assert_eq!(rt; poll_run(&rt, DIES, 1)?, Some((DONE, 3, 3)));
+    assert_eq!(rt; poll_run(&rt, PUT, 7, None)?, Some((End::Ended, 3, 3)));
+    assert_eq!(rt;
+        poll_run(&rt, PUT, 1_000_000, None)?,
+        Some((End::Ended, 3, 3))
+    );
+    assert_eq!(rt; poll_run(&rt, DIES, 1, None)?, Some((DONE, 3, 3)));
+    Ok(())
+}
+
+// what a replay with the life lines 88 and 87 leaves, and one without; and with `life 88 5 5` the second recoverer is cut
+#[test]
+fn a_client_is_cut_after_so_many_polls(rt: HostRuntime) -> Result<(), Fail> {
+    assert_eq!(rt; poll_run(&rt, PUT, 8, Some(11))?, Some((DONE, 3, 3)));
+    assert_eq!(rt; poll_run(&rt, PUT, 87, Some(1))?, Some((UNDONE, 1, 1)));
+    assert_eq!(rt; poll_run(&rt, PUT, 125, Some(1))?, Some((End::Ended, 3, 3)));
+    assert_eq!(rt; poll_run(&rt, DIES, 49, Some(2))?, Some((DONE, 3, 3)));
     Ok(())
 }

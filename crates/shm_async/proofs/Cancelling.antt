@@ -1,5 +1,5 @@
 -- agents at a post that are given up
-use Rattle.std.proofs.Common.{◌≡◌, ℕ, ◌<◌, Bool, true, false, cond, List, [], ◌∷◌, length, length-append, inl, refl, sym, ap, ◌∙◌, subst, arith, true≢false}
+use Rattle.std.proofs.Common.{◌≡◌, ℕ, ◌+◌, ◌<◌, Bool, true, false, cond, List, [], ◌∷◌, length, length-append, inl, refl, sym, ap, ◌∙◌, subst, arith, true≢false}
 use Rattle.shm_graph.specs.declared.ask.Me.{Me}
 use Rattle.shm_graph.specs.declared.memo.Agent.{Agent}
 use Rattle.shm_graph.specs.declared.run.Account.{Account}
@@ -7,6 +7,7 @@ use Rattle.shm_graph.specs.declared.memo.Fate.TheVariants.{Acts}
 use Rattle.shm_graph.specs.declared.memo.Kind.TheVariants.{Recoverer}
 use Rattle.shm_graph.specs.declared.run.Start.{Start}
 use Rattle.shm_graph.specs.Agents.{acts, acts_by, fallen, last_agent, steps_made, steps_of, with_last}
+use Rattle.shm_graph.specs.Held.{is_loose}
 use Rattle.shm_graph.specs.Runs.{account_died, fell_by, told_left}
 use Rattle.shm_graph.proofs.Memos.MemoSteps.{steps_died}
 use Rattle.shm_count.specs.Roots.{member}
@@ -19,12 +20,15 @@ use Rattle.shm_agents.specs.Agents.{Fallen, Fresh, IsFold, Mended, Mending, Part
 use Rattle.shm_agents.specs.Courses.{AreCommandsTold}
 use Rattle.shm_agents.specs.Cuts.{IsCut, IsCutOff, IsUnbegun, account_cut}
 use Rattle.shm_agents.specs.Logs.{AreUnspent, IsLogOf, steps_first}
+use Rattle.shm_agents.specs.TurnsLeft.{deaths, turns_given}
+use Rattle.shm_agents.proofs.Loose.{has_table}
 use Rattle.shm_pool.specs.Tokens.{IsOut}
 use Rattle.shm_team.specs.declared.done.Finish.{Finish}
 use Rattle.shm_team.specs.Lefts.{IsGivenBack, account_in, is_corpse}
 use Rattle.shm_team.proofs.Finishing.{is_me}
 use Rattle.shm_async.specs.Cancelled.{HasCancelled, IsCorpseBy, LogFits}
 use Rattle.shm_async.specs.Polled.{AtPost, StandAt}
+use Rattle.shm_async.proofs.Cuts.{cut_given}
 
 -- what a cut leaves of the pool, whether an agent acted or none
 pub by_acting : (b : Bool) (P : Type 0) → (b ≡ true → P) → (b ≡ false → P) → P
@@ -63,7 +67,7 @@ unbegun_quiet start s x e h here none = go h.stage
     go (Mended m l) = let z : AtWork ≡ Gone = sym here ∙ m.recovered in absurd (cc)
 
 -- v are the agents w after they were given up; `some` tells whether one of them had begun
-module _ (s : Scripted) (w v : AtPost) (h : StandAt s w) (me : v.agents.me ≡ w.agents.me) (account : v.post.account ≡ account_cut w.post.account) where
+module _ (s : Scripted) (w v : AtPost) (h : StandAt s w) (here : w.agents.standing ≡ AtWork) (me : v.agents.me ≡ w.agents.me) (account : v.post.account ≡ account_cut w.post.account) where
   abbrev e : Account
   e = account_cut w.post.account
 
@@ -82,8 +86,8 @@ module _ (s : Scripted) (w v : AtPost) (h : StandAt s w) (me : v.agents.me ≡ w
   cut_still c = ap (λ (xs : List Agent). acts_by (last_agent xs)) c.agents
 
   -- nothing runs where none of them had begun
-  pub cut_quiet : w.agents.standing ≡ AtWork → IsUnbegun v.agents v.post.account → v.post.account.running ≡ []
-  cut_quiet here c = ap (λ (a : Account). a.running) account ∙ (by_acting (acts w.post.account.memo) _ acting still)
+  pub cut_quiet : IsUnbegun v.agents v.post.account → v.post.account.running ≡ []
+  cut_quiet c = ap (λ (a : Account). a.running) account ∙ (by_acting (acts w.post.account.memo) _ acting still)
     where
       none : (account_cut w.post.account).memo.agents ≡ []
       none = sym (ap (λ (a : Account). a.memo.agents) account) ∙ c.agents
@@ -111,7 +115,16 @@ module _ (s : Scripted) (w v : AtPost) (h : StandAt s w) (me : v.agents.me ≡ w
   corpse_by true c = subst (λ (n : ℕ). 0 < n) (cut_steps w.post.account) c.stepped
   corpse_by false c = sym (cut_steps w.post.account) ∙ ap steps_of c.agents
 
-  log_fits : (b : Bool) → IsCut b s v.agents e → LogFits b w.post.of s e (logged v.agents)
+  none_given : IsUnbegun v.agents e → turns_given w.post.account ≡ 0
+  none_given c = go (acts w.post.account.memo) refl
+    where
+      go : (b : Bool) → acts w.post.account.memo ≡ b → turns_given w.post.account ≡ 0
+      go true is = absurd (died_some w.post.account is c.agents)
+      go false is =
+          let same : account_cut w.post.account ≡ w.post.account = ap (λ (b : Bool). cond b (account_died w.post.account) w.post.account) is in
+          ap turns_given (sym same) ∙ ap (λ (xs : List Agent). steps_of xs + deaths xs) c.agents
+
+  log_fits : (b : Bool) → IsCut b s v.agents e → LogFits b w.post.of s (turns_given w.post.account) e (logged v.agents)
   log_fits true c =
       record {
         log = subst (λ (m : Me). IsLogOf m s (steps_first e.memo.agents) e.memo.agents e.begun (told_left true e) (logged v.agents)) mine c.settled.log;
@@ -119,12 +132,13 @@ module _ (s : Scripted) (w v : AtPost) (h : StandAt s w) (me : v.agents.me ≡ w
         lives = c.lives;
         cut = c.cut;
         agents = c.died;
+        given = cut_given w.post.of.start s w.agents w.post.account h.stands here c.lives c.died;
       }
   log_fits false c =
       let who : v.agents.me.who ≡ s.client = ap (λ (m : Me). m.who) mine in
       let entries = c.entries in
       let end : end_or v.agents.end ≡ Died 0 false = ap end_or c.end in
-      (λ i. record { client = who i; entries = entries i; end = end i })
+      (none_given c, (λ i. record { client = who i; entries = entries i; end = end i }))
 
   unspent_cut : (b : Bool) → IsCut b s v.agents e → AreUnspent v.agents.entries
   unspent_cut true c = c.settled.unspent
@@ -133,6 +147,16 @@ module _ (s : Scripted) (w v : AtPost) (h : StandAt s w) (me : v.agents.me ≡ w
   fold_cut : (b : Bool) → IsCut b s v.agents e → IsFold v.agents.entries e.memo
   fold_cut true c = c.settled.fold
   fold_cut false c = subst (λ (es : List Entry). IsFold es e.memo) (sym c.entries) c.fold
+
+  table_cut : is_loose e.memo.part ≡ false
+  table_cut = go (acts w.post.account.memo)
+    where
+      its : is_loose w.post.account.memo.part ≡ false
+      its = has_table w.post.of.start w.post.account h.posted.stood h.stands.may.tables
+
+      go : (b : Bool) → is_loose (cond b (account_died w.post.account) w.post.account).memo.part ≡ false
+      go true = its
+      go false = its
 
   pub cancelled : (b : Bool) → IsCut b s v.agents v.post.account → (x : Finish) → x.log ≡ logged v.agents → IsGivenBack w.post.of x.token → account_in x.token ≡ v.post.account → is_corpse x.token ≡ b → HasCancelled w.post.of s w.post.account x
   cancelled b cut x log token given some =
@@ -143,7 +167,8 @@ module _ (s : Scripted) (w v : AtPost) (h : StandAt s w) (me : v.agents.me ≡ w
         account = given ∙ account;
         who = h.posted.named ∙ sym h.stands.may.client;
         corpse = subst (IsCorpseBy (steps_made w.post.account.memo)) (sym some) (corpse_by b c);
-        log = subst (λ (d : Bool). LogFits d w.post.of s e x.log) (sym some) (subst (LogFits b w.post.of s e) (sym log) (log_fits b c));
+        log = subst (λ (d : Bool). LogFits d w.post.of s (turns_given w.post.account) e x.log) (sym some) (subst (LogFits b w.post.of s (turns_given w.post.account) e) (sym log) (log_fits b c));
         unspent = subst AreUnspent (sym entries) (unspent_cut b c);
         fold = subst (λ (es : List Entry). IsFold es e.memo) (sym entries) (fold_cut b c);
+        table = table_cut;
       }

@@ -9,13 +9,13 @@ use Rattle.shm_script.specs.Values.{Scripted, Traced}
 use Rattle.shm_team.specs.declared.done.Done.{Done}
 use Rattle.shm_team.specs.declared.done.Finish.{Finish}
 use Rattle.shm_team.specs.Dones.{AreDones, IsDone, IsDoneBy, IsFinished}
-use Rattle.shm_team.proofs.Telling.{script_client}
+use Rattle.shm_replay.proofs.Starting.{script_client}
 use Rattle.shm_async.specs.declared.members.Member.{Member}
 use Rattle.shm_async.specs.Finished.{HasFinished}
 use Rattle.shm_async.specs.Members.{AreMembers, IsAtWork, IsHere, IsMember}
 use Rattle.shm_async.specs.Polled.{AtPost, Course, HasTurned, IsNew, IsPolled, MayGive}
 
-some_of : {A : Type 0} (a b : A) → a ≡ b → ◌≡◌ {A = Option A} (Some a) (Some b)
+pub some_of : {A : Type 0} (a b : A) → a ≡ b → ◌≡◌ {A = Option A} (Some a) (Some b)
 some_of a b e = ap (λ x. let o : Option _ = Some x in o) e
 
 -- before its first turn

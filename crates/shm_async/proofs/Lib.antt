@@ -1,5 +1,12 @@
 pub mod Giving
 pub mod Making
+pub mod Cuts
 pub mod Cancelling
+pub mod Ongoing
 pub mod Recovering
 pub mod Gathering
+pub mod Behind
+pub mod Due
+pub mod Mending
+pub mod Listed
+pub mod LimitedRun

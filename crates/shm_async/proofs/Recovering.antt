@@ -1,20 +1,25 @@
 -- word steps of a recovery that is polled
-use Rattle.std.proofs.Common.{◌≡◌, ℕ, zero, suc, ◌+◌, ◌<◌, Bool, true, false, refl, sym, ap, ◌∙◌, subst, arith, true≢false}
-use Rattle.std.specs.Prelude.{Ok, Err}
+use Rattle.std.proofs.Common.{◌≡◌, ℕ, zero, suc, ◌+◌, ◌<◌, ◌≤◌, ◌⊎◌, Bool, true, false, [], ◌∷◌, inl, inr, refl, sym, ap, ◌∙◌, subst, arith, true≢false}
+use Rattle.std.specs.Prelude.{None, Some, Ok, Err}
 use Rattle.shm_calls.specs.CallsFit.{CallsFits, CallsGives}
 use Rattle.shm_calls.specs.CallsKeep.{calls_laws}
 use Rattle.shm_count.specs.declared.answer.EraSpent.{EraSpent}
+use Rattle.shm_count.specs.Steady.{SameTable as SameMap}
 use Rattle.shm_graph.specs.declared.ask.Life.{Life}
 use Rattle.shm_graph.specs.declared.ask.Me.{Me}
 use Rattle.shm_graph.specs.declared.ask.Turn.{Turn}
 use Rattle.shm_graph.specs.declared.ask.Turn.TheVariants.{More, Done}
 use Rattle.shm_graph.specs.declared.memo.Memo.{Memo}
 use Rattle.shm_graph.specs.declared.memo.Status.TheVariants.{Gone}
+use Rattle.shm_graph.specs.declared.memo.Step.{Step}
 use Rattle.shm_graph.specs.declared.run.Account.{Account}
+use Rattle.shm_graph.specs.declared.spot.Spot.TheVariants.{Era}
 use Rattle.shm_graph.specs.Agents.{acts, steps_made}
+use Rattle.shm_graph.specs.Asks.{call_before}
 use Rattle.shm_graph.specs.Changes.{asked_spot}
-use Rattle.shm_graph.specs.Laws.{Laws, is_died, step_of}
-use Rattle.shm_graph.specs.Runs.{account_at}
+use Rattle.shm_graph.specs.Laws.{Laws, Stays, is_died, is_some, step_of}
+use Rattle.shm_graph.specs.Runs.{account_after, account_at}
+use Rattle.shm_graph.specs.Views.{own_word}
 use Rattle.shm_graph.specs.Whole.{fits_now, gives_now}
 use Rattle.shm_graph.proofs.Machines.Composing.{none_of, some_of}
 use Rattle.shm_graph.proofs.Memos.MemoSteps.{steps_on}
@@ -28,25 +33,55 @@ use Rattle.shm_recover.specs.Recover.Laws.{recover_laws}
 use Rattle.shm_recover.specs.Recover.{recover_plan}
 use Rattle.shm_recover.specs.Scan.Laws.{scan_laws}
 use Rattle.shm_recover.specs.TakeBack.Laws.{back_laws}
+use Rattle.shm_recover.proofs.Steady.{recover_steady}
+use Rattle.shm_replay.specs.Closings.{SameTable}
 use Rattle.shm_pool.specs.Endings.{Answer}
 use Rattle.shm_pool.specs.Rescues.{RecoverMachine, Rescuing, account_of}
 use Rattle.shm_pool.specs.Tokens.{Its}
 use Rattle.shm_pool.proofs.Calling.{goes_on, is_over}
 use Rattle.shm_pool.proofs.Rescuing.{Stepped, account_who}
-use Rattle.shm_async.specs.Rescued.{GoesOn, HasSpent, HasStepped, account_by}
+use Rattle.shm_async.specs.Rescued.{CallsOn, GoesOn, HasSpent, HasStepped, account_by}
+use Rattle.shm_async.proofs.Ongoing.{calls_then}
 
 recovery_laws : Laws recover (CallsFits recover_parts recover_plan) (CallsGives recover_parts recover_plan)
 recovery_laws = calls_laws recover_parts recover_plan (recover_laws mend_laws roots_laws back_laws finish_laws scan_laws give_laws)
 
 -- before the first of them
-pub none_stepped : (u : Rescuing) (l : Life) → HasStepped 0 u u l l
-none_stepped u l = record { of = refl; who = refl; life = omega arith; steps = omega arith }
+pub none_stepped : (u : Rescuing) (l : Life) → HasStepped false 0 u u l l
+none_stepped u l =
+    record {
+      of = refl;
+      who = refl;
+      life = omega arith;
+      steps = omega arith;
+      begun = λ h. elim h [ inl is ↦ is | inr some ↦ absurd (omega arith) ];
+      call = record { steps = []; going = tt; account = refl; life = omega arith; me = refl; line = refl; first = refl };
+      table = record { map = λ key. refl; loose = refl };
+    }
+
+-- more of them
+pub stepped_then : (over : Bool) (n m : ℕ) (u v w : Rescuing) (a b c : Life) → HasStepped false n u v a b → HasStepped over m v w b c → HasStepped over (n + m) u w a c
+stepped_then over n m u v w a b c h k =
+    record {
+      of = k.of ∙ h.of;
+      who = k.who ∙ h.who;
+      life = (let x = h.life in let y = k.life in omega arith);
+      steps = (let x = h.steps in let y = k.steps in omega arith);
+      begun = λ z. k.begun (begun_then n m z (h.begun));
+      call = calls_then over u v w a.left b.left c.left h.call k.call;
+      table = record { map = λ key. k.table.map key ∙ h.table.map key; loose = k.table.loose ∙ h.table.loose };
+    }
+  where
+    begun_then : (i j : ℕ) → (u.begun ≡ true) ⊎ (0 < i + j) → ((u.begun ≡ true) ⊎ (0 < i) → v.begun ≡ true) → (v.begun ≡ true) ⊎ (0 < j)
+    begun_then i j (inl is) f = inl (f (inl is))
+    begun_then zero j (inr some) f = inr (omega arith)
+    begun_then (suc i) j (inr some) f = inl (f (inr (omega arith)))
 
 pub not_true : (b : Bool) (P : Type 0) → (b ≡ true → P) → (P → ⊥) → b ≡ false
 not_true true P f n = absurd (n (f refl))
 not_true false P f n = refl
 
-begun_account : (b : Bool) (e : Account) → b ≡ true → account_of b e ≡ e
+pub begun_account : (b : Bool) (e : Account) → b ≡ true → account_of b e ≡ e
 begun_account true e h = refl
 begun_account false e h = absurd (true≢false (sym h))
 
@@ -59,17 +94,32 @@ module _ (p : Its) (v v2 : Rescuing) (l l2 : Life) (t : Turn Answer) (g : GoesOn
       let here = subst (λ (c : ℕ). acts (account_at x.made.accounts c).memo ≡ true) who x.made.move.1 in
       subst (λ (e : Account). acts e.memo ≡ true) x.made.here.1 here
 
-  pub one_stepped : (u : Rescuing) (before : Life) (n : ℕ) → HasStepped n u v before l → HasStepped (n + 1) u v2 before l2
-  one_stepped u before n h =
-      let seat : account_by v2 ≡ v2.seat = begun_account v2.begun v2.seat begun in
-      let more : steps_made v2.seat.memo ≡ steps_made (account_by v).memo + 1 =
-      ap (λ (e : Account). steps_made e.memo) x.account ∙ steps_on (account_by v).memo (step_of recover v.machine x.seen) (asked_spot (account_by v).memo (step_of recover v.machine x.seen)) acting in
-      let all : steps_made (account_by v2).memo ≡ steps_made v2.seat.memo = ap (λ (e : Account). steps_made e.memo) seat in
+  -- the step
+  abbrev its : Step
+  its = step_of recover v.machine x.seen
+
+  stays : Stays recover v.machine x.seen
+  stays = recovery_laws.steady v.machine x.seen g.going
+
+  seat : account_by v2 ≡ v2.seat
+  seat = begun_account v2.begun v2.seat begun
+
+  account : account_by v2 ≡ account_after (account_by v) its
+  account = seat ∙ x.account
+
+  steps : steps_made (account_by v2).memo ≡ steps_made (account_by v).memo + 1
+  steps = ap (λ (e : Account). steps_made e.memo) account ∙ steps_on (account_by v).memo its (asked_spot (account_by v).memo its) acting
+
+  stepped_by : (over : Bool) → CallsOn over v v2 l.left l2.left → SameTable (account_by v).memo (account_by v2).memo → HasStepped over 1 v v2 l l2
+  stepped_by over call table =
       record {
-        of = same.0 ∙ h.of;
-        who = same.1 ∙ h.who;
-        life = (let b = h.life in omega arith);
-        steps = (let b = h.steps in omega arith);
+        of = same.0;
+        who = same.1;
+        life = sym life;
+        steps = steps;
+        begun = λ h. begun;
+        call = call;
+        table = table;
       }
 
   abbrev Fits : RecoverMachine → Memo → Memo → Type 0
@@ -78,27 +128,92 @@ module _ (p : Its) (v v2 : Rescuing) (l l2 : Life) (t : Turn Answer) (g : GoesOn
   abbrev Gives : RecoverMachine → Memo → Memo → Answer → Type 0
   Gives = gives_now (CallsGives recover_parts recover_plan)
 
-  pub goes : t ≡ More → v2.done ≡ false → recover.finished v2.machine ≡ false → GoesOn p v2
-  goes is undone going =
-      let none = none_of (recover.turns v.machine x.seen) (sym x.turn ∙ is) in
-      let fits : Fits v2.machine g.start v2.seat.memo = goes_on recover Fits Gives v.machine (account_by v) v2.seat t v2.machine g.start g.fits x none in
-      record {
-        of = same.0 ∙ g.of;
-        undone = undone;
-        going = going;
-        me = ap recover.me x.next ∙ ((recovery_laws.steady v.machine x.seen g.going).same_me ∙ (g.me ∙ (λ i. record { geometry = (sym same.0 i).start.geometry; who = sym same.1 i })));
-        start = g.start;
-        fits = subst (λ (e : Account). Fits v2.machine g.start e.memo) (sym (begun_account v2.begun v2.seat begun)) fits;
-      }
+  none_by : t ≡ More → recover.turns v.machine x.seen ≡ None
+  none_by is = none_of (recover.turns v.machine x.seen) (sym x.turn ∙ is)
 
-  gave : (a : Answer) → t ≡ Done a → Gives v.machine g.start v2.seat.memo a
-  gave a is = is_over recover Fits Gives v.machine (account_by v) v2.seat t v2.machine g.start a g.fits x (some_of (recover.turns v.machine x.seen) a (sym x.turn ∙ is))
+  some_by : (a : Answer) → t ≡ Done a → recover.turns v.machine x.seen ≡ Some a
+  some_by a is = some_of (recover.turns v.machine x.seen) a (sym x.turn ∙ is)
+
+  fits_on : t ≡ More → Fits v2.machine g.start (account_by v2).memo
+  fits_on is =
+      subst (λ (e : Account). Fits v2.machine g.start e.memo) (sym seat)
+      (goes_on recover Fits Gives v.machine (account_by v) v2.seat t v2.machine g.start g.fits x (none_by is))
+
+  -- the map of the table is what it was where the call began, and so what it was before the step
+  table_here : SameMap g.start (account_by v).memo
+  table_here = recover_steady v.machine g.start (account_by v).memo (call_before (recover.fresh v.machine) (account_by v).memo.call) g.going g.fits
+
+  table_by : SameMap g.start (account_by v2).memo → SameTable (account_by v).memo (account_by v2).memo
+  table_by now = record { map = λ key. ap (λ f. f key) (now.0 ∙ sym table_here.0); loose = now.1 ∙ sym table_here.1 }
+
+  -- ---- it goes on
+
+  module _ (is : t ≡ More) (undone : v2.done ≡ false) (going : recover.finished v2.machine ≡ false) where
+    pub goes : GoesOn p v2
+    goes =
+        record {
+          of = same.0 ∙ g.of;
+          undone = undone;
+          going = going;
+          me = ap recover.me x.next ∙ (stays.same_me ∙ (g.me ∙ (λ i. record { geometry = (sym same.0 i).start.geometry; who = sym same.1 i })));
+          start = g.start;
+          fits = fits_on is;
+        }
+
+    call_on : CallsOn false v v2 l.left l2.left
+    call_on =
+        record {
+          steps = its ∷ [];
+          going = (record { me = refl; line = refl; first = refl }, stays.ends ∙ ap is_some (none_by is), tt);
+          account = account;
+          life = life;
+          me = ap recover.me x.next ∙ stays.same_me;
+          line = ap recover.line x.next ∙ stays.same_line;
+          first = ap recover.fresh x.next ∙ stays.started;
+        }
+
+    pub goes_stepped : HasStepped false 1 v v2 l l2
+    goes_stepped =
+        stepped_by false call_on (table_by (recover_steady v2.machine g.start (account_by v2).memo (call_before (recover.fresh v2.machine) (account_by v2).memo.call) going (fits_on is)))
+
+  -- ---- its machine has answered
+
+  module _ (a : Answer) (is : t ≡ Done a) where
+    gave : Gives v.machine g.start v2.seat.memo a
+    gave = is_over recover Fits Gives v.machine (account_by v) v2.seat t v2.machine g.start a g.fits x (some_by a is)
+
+    call_over : CallsOn true v v2 l.left l2.left
+    call_over =
+        record {
+          steps = [];
+          last = its ∷ [];
+          going = tt;
+          ends = (record { me = refl; line = refl; first = refl }, stays.ends ∙ ap is_some (some_by a is));
+          account = account;
+          life = life;
+        }
+
+    pub over_stepped : HasStepped true 1 v v2 l l2
+    over_stepped = stepped_by true call_over (table_by (subst (λ (e : Account). SameMap g.start e.memo) (sym seat) (table_left a gave)))
+      where
+        table_left : (b : Answer) → Gives v.machine g.start v2.seat.memo b → SameMap g.start v2.seat.memo
+        table_left (Ok u) h = (h.leaves.map, h.leaves.loose)
+        table_left (Err n) h = (h.leaves.map, h.leaves.loose)
 
   pub ends_gone : t ≡ Done (Ok tt) → v2.seat.memo.status ≡ Gone
   ends_gone is = (gave (Ok tt) is).leaves.status
 
   pub ends_spent : (n : EraSpent) → t ≡ Done (Err n) → HasSpent v2.seat n.era
-  ends_spent n is = record { machine = v.machine; start = g.start; gave = gave (Err n) is }
+  ends_spent n is =
+      let left = (gave (Err n) is).leaves in
+      let who : (recover.me v.machine).who ≡ v2.seat.who = ap (λ (m : Me). m.who) g.me ∙ sym same.1 in
+      record {
+        machine = v.machine;
+        start = g.start;
+        gave = gave (Err n) is;
+        high = left.spent;
+        own = subst (λ (c : ℕ). n.era ≤ own_word v2.seat.memo.own (Era c c)) who left.most;
+      }
 
 -- a word step was left where the answer wasn't that none is
 pub some_left : (t : Turn Answer) (n : ℕ) → (n ≡ 0 → is_died t ≡ true) → is_died t ≡ false → 0 < n

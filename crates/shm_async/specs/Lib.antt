@@ -3,3 +3,5 @@ pub mod Polled
 pub mod Cancelled
 pub mod Rescued
 pub mod Members
+pub mod Limited
+pub mod LimitedMembers

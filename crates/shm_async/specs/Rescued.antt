@@ -1,21 +1,26 @@
 -- the recovery of an identity that is polled, and what a poll of it leaves
-use Rattle.std.specs.Prelude.{◌≡◌, ℕ, ◌+◌, ◌<◌, ◌≤◌, Bool, true, false, Option, Some, None, MatchOption, IfOk, Result, Ok, Err}
+use Rattle.std.specs.Prelude.{◌≡◌, ℕ, ◌+◌, ◌-◌, ◌^◌, ◌<◌, ◌≤◌, ◌⊎◌, Bool, true, false, Option, Some, None, MatchOption, IfOk, Result, Ok, Err}
+use Rattle.shm_calls.specs.CallsControl.{calls_of}
 use Rattle.shm_calls.specs.CallsFit.{CallsFits, CallsGives}
 use Rattle.shm_graph.specs.declared.ask.Life.{Life}
 use Rattle.shm_graph.specs.declared.memo.Memo.{Memo}
 use Rattle.shm_graph.specs.declared.memo.Status.TheVariants.{Gone}
 use Rattle.shm_graph.specs.declared.run.Account.{Account}
+use Rattle.shm_graph.specs.declared.spot.Spot.TheVariants.{Era}
 use Rattle.shm_graph.specs.Agents.{steps_made}
+use Rattle.shm_graph.specs.Views.{own_word}
 use Rattle.shm_graph.specs.Whole.{fits_now, gives_now}
 use Rattle.shm_pool.specs.declared.token.Cause.{Cause}
 use Rattle.shm_pool.specs.declared.token.Cause.TheVariants as cause
 use Rattle.shm_pool.specs.declared.token.Stopped.{Stopped}
+use Rattle.shm_pool.specs.Calls.{Calls, Ongoing, shown}
 use Rattle.shm_pool.specs.Endings.{spent}
 use Rattle.shm_pool.specs.Rescues.{RecoverMachine, Rescuing, account_of}
 use Rattle.shm_pool.specs.Tokens.{Its, Token, me_of}
 use Rattle.shm_recover.specs.Machines.Recovering.{recover}
-use Rattle.shm_recover.specs.Recover.Control.{recover_parts}
+use Rattle.shm_recover.specs.Recover.Control.{recover_parts, recovering as recovery}
 use Rattle.shm_recover.specs.Recover.{recover_plan}
+use Rattle.shm_replay.specs.Closings.{SameTable}
 use Rattle.shm_async.specs.declared.recovery.Over.{Over}
 use Rattle.shm_async.specs.declared.recovery.Over.TheVariants.{Recovered, Stopped as StoppedBy}
 
@@ -49,38 +54,60 @@ MayGoOn p (Some r) = GoesOn p r
 abbrev pub IsRescue : Rescue → Type 0
 IsRescue f = (1 ≤ f.quota) × MayGoOn f.pool f.rescuer
 
+-- a recovery of the corpse t before its first word step
+abbrev pub rescuing_first : Token → Rescuing
+rescuing_first t = record { of = t.of; seat = t.account; begun = false; machine = calls_of recover_plan (recovery (me_of t.of t.account)); done = false }
+
 -- it is that of the corpse t, with a life of n word steps, before the first of them
 pub record IsStarted (t : Token) (q n : ℕ) (f : Rescue) : Type 0 where
   pub pool : f.pool ≡ t.of
   pub quota : f.quota ≡ q
   pub life : f.life.left ≡ n
-  pub rescuer : Rescuing
-  pub is : f.rescuer ≡ Some rescuer
-  pub seat : rescuer.seat ≡ t.account
-  pub begun : rescuer.begun ≡ false
+  pub rescuer : f.rescuer ≡ Some (rescuing_first t)
 
--- v is the recovery u after n word steps
-pub record HasStepped (n : ℕ) (u v : Rescuing) (before left : Life) : Type 0 where
+-- the steps of the recoverer that took u to v are those of its one call, which goes on, or is `over` with the last of them
+abbrev pub CallsOn : Bool → Rescuing → Rescuing → ℕ → ℕ → Type 0
+CallsOn false u v before left = Ongoing (shown recover u.machine) (account_by u) (shown recover v.machine) (account_by v) before left
+CallsOn true u v before left = Calls (shown recover u.machine) (account_by u) (account_by v) true before left
+
+-- v is the recovery u after n word steps, with the last of which its machine has answered where it is `over`; the map of the identity's table is what it was
+pub record HasStepped (over : Bool) (n : ℕ) (u v : Rescuing) (before left : Life) : Type 0 where
   pub of : v.of ≡ u.of
   pub who : v.seat.who ≡ u.seat.who
   pub life : before.left ≡ left.left + n
   pub steps : steps_made (account_by v).memo ≡ steps_made (account_by u).memo + n
+  pub begun : (u.begun ≡ true) ⊎ (0 < n) → v.begun ≡ true
+  pub call : CallsOn over u v before.left left.left
+  pub table : SameTable (account_by u).memo (account_by v).memo
 
--- the machine answered that the own era left no room
+-- the machine answered that the own era left no room: it read n, which is above 2^47 - 3, and the identity's own era is that at least
 pub record HasSpent (e : Account) (n : ℕ) : Type 0 where
   pub machine : RecoverMachine
   pub start : Memo
   pub gave : gives_now (CallsGives recover_parts recover_plan) machine start e.memo (Err (spent n))
+  pub high : 2 ^ 47 - 3 < n
+  pub own : n ≤ own_word e.memo.own (Era e.who e.who)
 
 -- why the recovery v stopped, after n of q turns at most: the last of them was the death of a recoverer with no word step left; or its machine answered
 abbrev pub StopsBy : Cause → ℕ → ℕ → Rescuing → Life → Type 0
 StopsBy cause.Died q n v left = (n < q) × (left.left ≡ 0)
 StopsBy (cause.EraSpent era) q n v left = (n ≤ q) × HasSpent v.seat era
 
+-- whether its machine had answered
+abbrev pub is_answer : Cause → Bool
+is_answer cause.Died = false
+is_answer (cause.EraSpent era) = true
+
 -- whether it has ended so
 abbrev pub is_recovered : Over → Bool
 is_recovered Recovered = true
 is_recovered (StoppedBy c) = false
+
+-- whether its machine has answered
+abbrev pub has_answered : Option Over → Bool
+has_answered None = false
+has_answered (Some Recovered) = true
+has_answered (Some (StoppedBy c)) = is_answer c
 
 -- how it stands after n of q word steps: it goes on after all of them; or it has recovered the identity; or it stopped
 abbrev pub MadeBy : ℕ → Its → ℕ → Option Over → Rescuing → Life → Type 0
@@ -90,7 +117,7 @@ MadeBy q p n (Some (StoppedBy c)) v left = (v.done ≡ false) × StopsBy c q n v
 
 pub record HasMade (q : ℕ) (p : Its) (u : Rescuing) (before : Life) (r : Option Over) (v : Rescuing) (left : Life) : Type 0 where
   pub n : ℕ
-  pub stepped : HasStepped n u v before left
+  pub stepped : HasStepped (has_answered r) n u v before left
   pub by : MadeBy q p n r v left
 
 -- the token of v
@@ -108,11 +135,16 @@ abbrev pub IsOver : ℕ → ℕ → Rescuing → Life → Result Token Stopped �
 IsOver q n v left (Ok t) = (n ≤ q) × (t ≡ token_by v) × (t.account.memo.status ≡ Gone)
 IsOver q n v left (Err s) = (s.corpse ≡ token_by v) × StopsBy s.cause q n v left
 
+-- whether its machine had answered where this is given
+abbrev pub answered_by : Result Token Stopped → Bool
+answered_by (Ok t) = true
+answered_by (Err s) = is_answer s.cause
+
 -- A poll of q turns. Where an earlier one was ready nothing is given and nothing changes. It is pending where the recovery goes on after q word steps. Otherwise it is ready, after at most q turns
 abbrev pub HasPolled : ℕ → Option Rescuing → Life → Option (Result Token Stopped) → Option Rescuing → Life → Type 0
 HasPolled q None before r b left = (r ≡ None) × (b ≡ None) × (left ≡ before)
-HasPolled q (Some u) before None b left = (v : Rescuing) × (b ≡ Some v) × HasStepped q u v before left
-HasPolled q (Some u) before (Some x) b left = (b ≡ None) × ((n : ℕ) × (v : Rescuing) × HasStepped n u v before left × IsOver q n v left x)
+HasPolled q (Some u) before None b left = (v : Rescuing) × (b ≡ Some v) × HasStepped false q u v before left
+HasPolled q (Some u) before (Some x) b left = (b ≡ None) × ((n : ℕ) × (v : Rescuing) × HasStepped (answered_by x) n u v before left × IsOver q n v left x)
 
 pub record HasRescued (f : Rescue) (r : Option (Result Token Stopped)) (g : Rescue) : Type 0 where
   pub pool : g.pool ≡ f.pool

@@ -4,6 +4,8 @@
 
 mod finish;
 mod identity;
+mod limited;
+mod limits;
 mod members;
 mod polls;
 mod recovery;
@@ -12,5 +14,5 @@ mod runs;
 pub use finish::NewStop;
 pub use identity::IdentityFuture;
 pub use recovery::RecoveryFuture;
-pub use runs::{Polled, run_async};
+pub use runs::{Polled, run_async, run_limited};
 pub use shm_team::{Finish, Left as Token};

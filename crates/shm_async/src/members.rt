@@ -23,7 +23,7 @@ pub(crate) enum Member<'p> {
 }
 
 /// What is done of an identity, by what its future gave.
-fn done_of(finish: Finish) -> Done
+pub(crate) fn done_of(finish: Finish) -> Done
     ensures { result ≡ record { log = Some finish.log; left = finish.token } }
 {
     let Finish { log, token } = finish;

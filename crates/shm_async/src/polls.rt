@@ -1,6 +1,6 @@
-//! One future that polls all identities of a trace.
+//! One future over the identities of a trace, which an executor polls in rounds.
 
-ghost use Rattle.std.specs.Prelude.{◌≡◌, IfSome};
+ghost use Rattle.std.specs.Prelude.{IfSome};
 ghost use Rattle.shm_async.specs.Members.{AreMembers};
 
 use crate::members::{Member, poll_each};
@@ -13,6 +13,14 @@ use shm_script::Trace;
 use std::alloc::AllocGlobal;
 use std::random::RandomSource;
 use std::sync::Wait;
+
+/// What is polled in rounds. By its tag it fits a pool and a trace, and it does so after each round.
+pub(crate) trait Rounds: Fits + Drop {
+    /// Polls each identity once, in order, and tells whether anything is left of one of them.
+    fn round(&mut self) -> bool
+        requires { (w : Self.Tag) × Self.fits w self.old }
+        ensures { (w : Self.Tag) → Self.fits w self.old → Self.fits w self.new };
+}
 
 /// Which pool and which trace the identities are of.
 #[derive(Clone, Copy, Drop)]
@@ -33,12 +41,15 @@ impl<'p> Fits for Members<'p> {
     ghost fits = { λ w x. AreMembers w.trace.now w.pool.now x.members.items };
 }
 
-/// Where the identities lie between two polls.
-type Slot<'p> = Counted<Option<Members<'p>>>;
+impl<'p> Rounds for Members<'p> {
+    fn round(&mut self) -> bool {
+        poll_each(&mut self.members)
+    }
+}
 
-/// Takes the identities out, if nobody else has.
-fn take<'p>(slot: &Slot<'p>) -> Option<Members<'p>>
-    ensures { IfSome result (λ x. AreMembers slot.now.trace.now slot.now.pool.now x.members.items) }
+/// Takes out what lies in the slot, if nobody else has.
+fn take<X: Rounds>(slot: &Counted<Option<X>>) -> Option<X>
+    ensures { IfSome result (X.fits slot.now) }
 {
     let (found, claim) = slot.turn(FREE, TAKEN);
     if found != FREE {
@@ -48,9 +59,9 @@ fn take<'p>(slot: &Slot<'p>) -> Option<Members<'p>>
     claim.put(None, FREE)
 }
 
-/// Puts them back.
-fn put_back<'p>(slot: &Slot<'p>, members: Members<'p>)
-    requires { AreMembers slot.now.trace.now slot.now.pool.now members.members.items }
+/// Puts it back.
+fn put_back<X: Rounds>(slot: &Counted<Option<X>>, members: X)
+    requires { X.fits slot.now members }
 {
     let (found, claim) = slot.turn(FREE, TAKEN);
     if found == FREE {
@@ -60,25 +71,25 @@ fn put_back<'p>(slot: &Slot<'p>, members: Members<'p>)
     }
 }
 
-/// Polls each identity of a trace once per poll, in order, and is ready once all is done.
+/// Makes a round per poll, and is ready once nothing is left.
 #[derive(Drop)]
-struct PollEach<'a, 'p> {
-    slot: &'a Slot<'p>,
+struct PollRounds<'a, X: Rounds> {
+    slot: &'a Counted<Option<X>>,
 }
 
-impl<'a, 'p> PollEach<'a, 'p> {
-    /// Polls each identity once, and tells whether one of them has turns left.
+impl<'a, X: Rounds> PollRounds<'a, X> {
+    /// Makes a round, and tells whether anything is left.
     fn advance(&mut self) -> bool {
         let Some(mut members) = take(self.slot) else {
             return false;
         };
-        let left = poll_each(&mut members.members);
+        let left = members.round();
         put_back(self.slot, members);
         left
     }
 }
 
-impl<'a, 'p> Future for PollEach<'a, 'p> {
+impl<'a, X: Rounds> Future for PollRounds<'a, X> {
     type Output = ();
 
     fn poll(&mut self, cx: &mut Context<'_>) -> Poll<()> {
@@ -90,18 +101,18 @@ impl<'a, 'p> Future for PollEach<'a, 'p> {
     }
 }
 
-/// An executor polls the identities until all is done, or it gives up. They are given back.
-pub(crate) fn poll_all<'p, R: Wait + RandomSource + AllocGlobal>(
+/// An executor makes rounds until nothing is left, or it gives up. What was polled is given back.
+pub(crate) fn poll_all<X: Rounds, R: Wait + RandomSource + AllocGlobal>(
     rt: &R,
-    which: Which<'p>,
-    members: Members<'p>,
-) -> Members<'p>
-    requires { AreMembers which.trace.now which.pool.now members.members.items }
-    ensures { AreMembers which.entry.trace.now which.entry.pool.now result.members.items }
+    which: &X::Tag,
+    members: X,
+) -> X
+    requires { X.fits which.now members }
+    ensures { X.fits which.now result }
 {
-    let slot = Counted::new(Some(members), &which);
-    // where it gives up turns are left, which the caller makes
-    let _ = block_on(rt, PollEach { slot: &slot });
+    let slot = Counted::new(Some(members), which);
+    // where it gives up something is left, which the caller does
+    let _ = block_on(rt, PollRounds { slot: &slot });
     match slot.into_inner() {
         Some(members) => members,
         // the future puts back what it takes

@@ -1,12 +1,16 @@
 //! A trace is run by clients that are polled on one thread.
 
-ghost use Rattle.std.specs.Prelude.{◌≡◌, ◌≤◌, IfOk, List, length};
+ghost use Rattle.std.specs.Prelude.{◌≡◌, ◌*◌, ◌≤◌, IfOk, List, length};
 ghost use Rattle.shm_graph.specs.declared.run.Move.{Move as AMove};
 ghost use Rattle.shm_plain.specs.Pools.{pool as pool_of};
+ghost use Rattle.shm_replay.specs.Replays.{start_of};
 ghost use Rattle.shm_team.specs.Dones.{AreDones};
 ghost use Rattle.shm_team.specs.Jobs.{AreJobs};
 ghost use Rattle.shm_team.specs.Rans.{IsTeamRun};
+ghost use Rattle.shm_async.specs.Limited.{IsLimitedRun};
+ghost use Rattle.shm_async.specs.LimitedMembers.{AreLimitedDones};
 
+use crate::limits::{Limit, LimitedMembers};
 use crate::members::{all_members, finish_all};
 use crate::polls::{Members, Which, poll_all};
 use shm_pool::{Closed, SharedPool};
@@ -40,8 +44,31 @@ fn poll_jobs<R: Wait + RandomSource + AllocGlobal>(
 {
     let members = all_members(alloc, pool, trace, jobs, q)?;
     let which = Which { pool, trace };
-    let Members { members } = poll_all(rt, which, Members { members });
+    let Members { members } = poll_all(rt, &which, Members { members });
     finish_all(alloc, pool, trace, members)
+}
+
+/// The same, where those are cut after `limit` polls that have turns left.
+fn poll_limit<R: Wait + RandomSource + AllocGlobal>(
+    rt: &R,
+    alloc: Global,
+    pool: &SharedPool,
+    trace: &Trace,
+    jobs: Vec<Job>,
+    q: u32,
+    limit: u32,
+) -> Result<Vec<Done>, AllocError>
+    requires turns { (1 ≤ q) × (q ≤ 1000000) }
+    requires polls { (1 ≤ limit) × (limit ≤ 1000000) }
+    requires start { pool.now.start ≡ start_of trace.now }
+    requires many { length jobs.items ≡ trace.now.clients }
+    requires jobs { AreJobs trace.now pool.now 0 jobs.items }
+    ensures many { IfOk result (λ v. length v.items ≡ trace.now.clients) }
+    ensures dones { IfOk result (λ v. AreLimitedDones trace.now pool.now 0 (q * limit) v.items) }
+{
+    let turns = q as u64 * limit as u64;
+    let members = LimitedMembers::of(alloc, pool, trace, jobs, q, limit)?;
+    poll_all(rt, &Limit { pool, trace, turns }, members).dones(alloc)
 }
 
 /// Runs a trace by clients that are polled on this thread. There is one future for each script; one future polls each of them that is not
@@ -64,6 +91,30 @@ pub fn run_async<R: Wait + RandomSource + AllocGlobal>(
     trace.in_grammar();
     let (pool, jobs) = begin(alloc, trace)?;
     let dones = poll_jobs(rt, alloc, &pool, trace, jobs, q)?;
+    let Ran { closed, logs } = settle(rt, alloc, trace, pool, dones)?;
+    Ok(Polled { closed, logs })
+}
+
+/// The same, where the future of an identity that is not ready after `limit` polls, from 1 to 1,000,000, is cancelled, and a recovery of
+/// the identity with a life of 2^40 word steps takes its place, which is polled likewise. Further numbers of its life line are not used.
+///
+/// # Errors
+///
+/// Want of memory, and nothing else.
+pub fn run_limited<R: Wait + RandomSource + AllocGlobal>(
+    rt: &R,
+    alloc: Global,
+    trace: &Trace,
+    q: u32,
+    limit: u32,
+) -> Result<Polled, AllocError>
+    requires turns { (1 ≤ q) × (q ≤ 1000000) }
+    requires polls { (1 ≤ limit) × (limit ≤ 1000000) }
+    ensures { IfOk result (λ r. (turns : List AMove) × IsLimitedRun trace.now (q * limit) (pool_of r.closed.start r.closed.words r.closed.accounts turns) r.logs.items) }
+{
+    trace.in_grammar();
+    let (pool, jobs) = begin(alloc, trace)?;
+    let dones = poll_limit(rt, alloc, &pool, trace, jobs, q, limit)?;
     let Ran { closed, logs } = settle(rt, alloc, trace, pool, dones)?;
     Ok(Polled { closed, logs })
 }

@@ -1,5 +1,5 @@
 -- the verdict on the words of a pool
-use Rattle.std.specs.Prelude.{◌≡◌, ◌≢◌, ℕ, ◌<◌, Bool, not, ◌&&◌, ◌||◌, ◌==◌, if◌then◌else◌, List, slice_index, Option, Some, None}
+use Rattle.std.specs.Prelude.{◌≡◌, ℕ, Bool, not, ◌&&◌, ◌||◌, ◌==◌, if◌then◌else◌, Option, Some, None}
 use Rattle.shm_words.specs.declared.geometry.Geometry.{Geometry}
 use Rattle.shm_words.specs.Layout.{total_of}
 use Rattle.shm_graph.specs.declared.spot.Spot.{Spot}
@@ -51,7 +51,3 @@ verdict_of g w = by_client g w (least_below g.clients (is_pending w))
 -- a verdict without anything that is wrong
 abbrev pub IsCleanVerdict : Verdict → Type 0
 IsCleanVerdict v = (live refs : ℕ) × (v ≡ Clean live refs)
-
--- how many of the words name each block
-abbrev pub AreFound : Geometry → (Spot → ℕ) → List ℕ → Type 0
-AreFound g w found = (b : ℕ) → b ≢ 0 → b < total_of g → slice_index found b ≡ found_at g w b

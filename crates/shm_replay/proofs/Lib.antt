@@ -13,7 +13,7 @@ pub mod Gathering
 pub mod Visited
 pub mod Ending
 pub mod WholeRun
-mod Starting
+pub mod Starting
 mod Answering
 mod SomeSteps
 mod SameTurns

@@ -21,7 +21,7 @@ use Rattle.shm_team.specs.Dones.{AreDones, AreGivenBack, IsDone, IsDoneBy, IsFin
 use Rattle.shm_team.specs.Jobs.{AreAgentsOf, AreDone, AreJobs, AreTokens, IsJob, MayHaveAgents}
 use Rattle.shm_team.specs.Lefts.{IsGivenBack, account_in, is_corpse}
 use Rattle.shm_team.specs.Visits.{AreVisits, IsVisited}
-use Rattle.shm_team.proofs.Telling.{script_client}
+use Rattle.shm_replay.proofs.Starting.{script_client}
 
 pub nothing_left : {X : Type 0} (l : List X) → length l ≡ 0 → l ≡ []
 nothing_left [] h = refl

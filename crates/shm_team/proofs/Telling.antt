@@ -26,15 +26,6 @@ aside_told me (x ∷ more) h = (inl h.0, aside_told me more h.1)
 
 -- ---- the log of an identity
 
--- the script of an identity is of its client
-pub script_client : (ss : List Scripted) (c : ℕ) (s : Scripted) → script_in ss c ≡ Some s → s.client ≡ c
-script_client [] c s e = absurd (cc)
-script_client (r ∷ ss) c s e = go (eqb r.client c) refl (script_client ss c s)
-  where
-    go : (b : Bool) → eqb r.client c ≡ b → (script_in ss c ≡ Some s → s.client ≡ c) → s.client ≡ c
-    go true f later = ap (λ (x : Scripted). x.client) (sym (same_some r s (sym (cond-true (eqb r.client c) (Some r) (script_in ss c) f) ∙ e))) ∙ eqb-true r.client c f
-    go false f later = later (sym (cond-false (eqb r.client c) (Some r) (script_in ss c) f) ∙ e)
-
 -- the first one that is of c
 abbrev found : List Logged → ℕ → Option Logged
 found [] c = None

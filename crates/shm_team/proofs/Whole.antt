@@ -28,13 +28,14 @@ use Rattle.shm_agents.specs.Courses.{AreCommandsTold}
 use Rattle.shm_agents.proofs.Courses.{told_aside}
 use Rattle.shm_agents.proofs.Growing.{began_more, first_more, log_on}
 use Rattle.shm_replay.specs.Replays.{fold_in, start_of}
+use Rattle.shm_replay.proofs.Starting.{script_client}
 use Rattle.shm_replay.proofs.WholeRun.{script_at, table_by}
 use Rattle.shm_team.specs.declared.left.Left.{Left}
 use Rattle.shm_team.specs.Dones.{IsDoneBy, logs_in}
 use Rattle.shm_team.specs.Lefts.{account_in, is_corpse}
 use Rattle.shm_team.specs.Rans.{HasAgents, IsTeamRun, MayHaveBegun, entries_in}
 use Rattle.shm_team.specs.Visits.{IsVisited}
-use Rattle.shm_team.proofs.Telling.{aside_told, entries_none, entries_some, fold_none, fold_some, logs_all, logs_are, script_client}
+use Rattle.shm_team.proofs.Telling.{aside_told, entries_none, entries_some, fold_none, fold_some, logs_all, logs_are}
 
 -- the closed pool with the turns of its run
 pub closed_pool : (s : Start) (ws : List ℕ) (es : List Account) (h : shared.IsClosedRun s ws es) → IsClosedRun (pool s ws es h.turns)

@@ -1,10 +1,11 @@
-use Rattle.std.proofs.Common.{◌≡◌, ◌+◌, false, sym, ap, ◌∙◌, arith}
+use Rattle.std.proofs.Common.{◌≡◌, ◌+◌, false, true, sym, ap, ◌∙◌, arith}
 use Rattle.std.specs.Prelude.{Ok, Err}
 use Rattle.shm_graph.specs.declared.ask.Turn.{Turn}
 use Rattle.shm_graph.specs.declared.ask.Turn.TheVariants.{More, Done}
 use Rattle.shm_graph.specs.Laws.{is_died, is_done}
 use Rattle.shm_pool.specs.Endings.{Answer}
-use Rattle.shm_async.proofs.Recovering.{ends_gone, ends_spent, goes, not_true, one_stepped, some_left}
+use Rattle.shm_recover.specs.Machines.Recovering.{recover}
+use Rattle.shm_async.proofs.Recovering.{ends_gone, ends_spent, goes, goes_stepped, not_true, over_stepped, some_left, stepped_then}
 use Rattle.shm_async.proofs.recovery.step_some.Goals as goal
 
 more_ok : (t : Turn Answer) → t ≡ More → t ≡ Done (Ok tt) → ⊥
@@ -19,10 +20,12 @@ loop-made-preserved c =
     let e = c.step.ensures in
     let alive : is_died c.step.result ≡ false = ap is_died c.in-More.is in
     let k = e.turn (some_left c.step.result c.loop-made.life.left e.died.1 alive) in
+    let undone = not_true c.step.new.self.done (c.step.result ≡ Done (Ok tt)) (e.done alive).0 (more_ok c.step.result c.in-More.is) in
+    let going : recover.finished c.step.new.self.machine ≡ false = e.finished ∙ ap is_done c.in-More.is in
     let less = c.loop-made-test.true in (
-      one_stepped c.args.pool.now c.loop-made.rescuer c.step.new.self c.loop-made.life c.step.new.life c.step.result i.1 e.same k.0 k.1 k.2 c.args.rescuer.now c.args.life.now c.loop-made.made i.0,
-      goes c.args.pool.now c.loop-made.rescuer c.step.new.self c.loop-made.life c.step.new.life c.step.result i.1 e.same k.0 k.1 k.2 c.in-More.is
-          (not_true c.step.new.self.done (c.step.result ≡ Done (Ok tt)) (e.done alive).0 (more_ok c.step.result c.in-More.is)) (e.finished ∙ ap is_done c.in-More.is),
+      stepped_then false c.loop-made.made 1 c.args.rescuer.now c.loop-made.rescuer c.step.new.self c.args.life.now c.loop-made.life c.step.new.life i.0
+          (goes_stepped c.args.pool.now c.loop-made.rescuer c.step.new.self c.loop-made.life c.step.new.life c.step.result i.1 e.same k.0 k.1 k.2 c.in-More.is undone going),
+      goes c.args.pool.now c.loop-made.rescuer c.step.new.self c.loop-made.life c.step.new.life c.step.result i.1 e.same k.0 k.1 k.2 c.in-More.is undone going,
       omega arith,
     )
 
@@ -36,7 +39,8 @@ returns-in-Done-Ok c =
     let less = c.loop-made-test.true in
     record {
       n = c.loop-made.made + 1;
-      stepped = one_stepped c.args.pool.now c.loop-made.rescuer c.step.new.self c.loop-made.life c.step.new.life c.step.result i.1 e.same k.0 k.1 k.2 c.args.rescuer.now c.args.life.now c.loop-made.made i.0;
+      stepped = stepped_then true c.loop-made.made 1 c.args.rescuer.now c.loop-made.rescuer c.step.new.self c.args.life.now c.loop-made.life c.step.new.life i.0
+          (over_stepped c.args.pool.now c.loop-made.rescuer c.step.new.self c.loop-made.life c.step.new.life c.step.result i.1 e.same k.0 k.1 k.2 (Ok tt) is);
       by = (omega arith, (e.done alive).1 is, ends_gone c.args.pool.now c.loop-made.rescuer c.step.new.self c.loop-made.life c.step.new.life c.step.result i.1 e.same k.0 k.1 k.2 is);
     }
 
@@ -50,7 +54,8 @@ returns-in-Done-Err c =
     let less = c.loop-made-test.true in
     record {
       n = c.loop-made.made + 1;
-      stepped = one_stepped c.args.pool.now c.loop-made.rescuer c.step.new.self c.loop-made.life c.step.new.life c.step.result i.1 e.same k.0 k.1 k.2 c.args.rescuer.now c.args.life.now c.loop-made.made i.0;
+      stepped = stepped_then true c.loop-made.made 1 c.args.rescuer.now c.loop-made.rescuer c.step.new.self c.args.life.now c.loop-made.life c.step.new.life i.0
+          (over_stepped c.args.pool.now c.loop-made.rescuer c.step.new.self c.loop-made.life c.step.new.life c.step.result i.1 e.same k.0 k.1 k.2 (Err c.in-Done-Err.spent) is);
       by = (
         not_true c.step.new.self.done (c.step.result ≡ Done (Ok tt)) (e.done alive).0 (err_ok c.step.result c.in-Done-Err.spent is),
         (omega arith, ends_spent c.args.pool.now c.loop-made.rescuer c.step.new.self c.loop-made.life c.step.new.life c.step.result i.1 e.same k.0 k.1 k.2 c.in-Done-Err.spent is),

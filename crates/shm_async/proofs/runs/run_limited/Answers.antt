@@ -1,0 +1,15 @@
+use Rattle.std.proofs.Common.{◌*◌, ap}
+use Rattle.shm_graph.specs.declared.run.Start.{Start}
+use Rattle.shm_async.proofs.LimitedRun.{limited_back, limited_run}
+use Rattle.shm_async.proofs.runs.run_limited.Goals as goal
+
+pub settle-requires-clause-clients : goal.settle-requires-clause-clients
+settle-requires-clause-clients g c = ap (λ (s : Start). s.geometry.clients) c.in_ok-pool.ensures.start
+
+pub settle-requires-clause-back : goal.settle-requires-clause-back
+settle-requires-clause-back g c = limited_back c.args.trace.now c.in_grammar.ensures c.in_ok-pool.pool c.in_ok-pool.ensures.start (c.args.q * c.args.limit) c.in_ok-dones.dones.items c.in_ok-dones.ensures.many c.in_ok-dones.ensures.dones
+
+pub returns : goal.returns
+returns g c =
+    let ran = c.in_ok-closed.field-0 in
+    limited_run c.args.trace.now c.in_grammar.ensures c.in_ok-pool.pool c.in_ok-pool.ensures.start (c.args.q * c.args.limit) c.in_ok-dones.dones.items c.in_ok-dones.ensures.many c.in_ok-dones.ensures.dones ran.closed ran.logs.items c.in_ok-closed.ensures
