@@ -27,7 +27,7 @@ done_few : (job : Job) (before after : Option (List ℕ)) (bytes : List ℕ) (ma
 done_few (Replay form) before after bytes made x r (t, a, h) = let short = a.short in omega (arith, short)
 done_few Print before after bytes made x r (t, a, h) = let short = a.short in omega (arith, short)
 done_few (Run form) before after bytes made x r (t, a, h) = let short = a.short in omega (arith, short)
-done_few (Poll q) before after bytes made x r (t, a, h) = let short = a.short in omega (arith, short)
+done_few (Poll q limit) before after bytes made x r (t, a, h) = let short = a.short in omega (arith, short)
 done_few Audit before after bytes made x r h = let short = image_short bytes h.faultless in omega (arith, short)
 done_few Migrate before after bytes made x r h = let short = image_short bytes (unrefused bytes h.allowed) in omega (arith, short)
 done_few (Make start size) before after bytes made x r h = let none : length bytes ≡ 0 = ap length r.0 in omega (arith, none)

@@ -1,5 +1,5 @@
 -- what is told of a trace is the answer of the job that has this trace
-use Rattle.std.proofs.Common.{◌≡◌, ℕ, List, subst, inl}
+use Rattle.std.proofs.Common.{◌≡◌, ℕ, List, Option, subst, inl}
 use Rattle.shm_script.specs.Drawing.{drawn_trace}
 use Rattle.shm_script.specs.Values.{Traced}
 use Rattle.shm_program.specs.declared.outcome.Finished.{Finished}
@@ -15,8 +15,8 @@ read_told form bytes t status finished text s d = inl (d.0, (t, s, d.1))
 pub run_told : (form : Form) (bytes : List ℕ) (t : Traced) (status : ℕ) (finished : Finished) (text : List ℕ) → Spells bytes t → (status ≡ 0) × IsTeamTold form t finished text → Answers (Run form) bytes status finished text
 run_told form bytes t status finished text s d = inl (d.0, (t, s, d.1))
 
-pub poll_told : (q : ℕ) (bytes : List ℕ) (t : Traced) (status : ℕ) (finished : Finished) (text : List ℕ) → Spells bytes t → (status ≡ 0) × IsPollTold t finished text → Answers (Poll q) bytes status finished text
-poll_told q bytes t status finished text s d = inl (d.0, (t, s, d.1))
+pub poll_told : (q : ℕ) (limit : Option ℕ) (bytes : List ℕ) (t : Traced) (status : ℕ) (finished : Finished) (text : List ℕ) → Spells bytes t → (status ≡ 0) × IsPollTold q limit t finished text → Answers (Poll q limit) bytes status finished text
+poll_told q limit bytes t status finished text s d = inl (d.0, (t, s, d.1))
 
 pub read_printed : (bytes : List ℕ) (t : Traced) (status : ℕ) (finished : Finished) (text : List ℕ) → Spells bytes t → (status ≡ 0) × IsPrinted t finished text → Answers Print bytes status finished text
 read_printed bytes t status finished text s p = inl (p.0, (t, s, p.1))

@@ -23,7 +23,7 @@ done_input : (job : Job) (bytes : List ℕ) (finished : Finished) (text : List �
 done_input (Replay form) bytes finished text d = is_text bytes d.0 d.1
 done_input Print bytes finished text d = is_text bytes d.0 d.1
 done_input (Run form) bytes finished text d = is_text bytes d.0 d.1
-done_input (Poll q) bytes finished text d = is_text bytes d.0 d.1
+done_input (Poll q limit) bytes finished text d = is_text bytes d.0 d.1
 done_input Audit bytes finished text d = d.faultless
 done_input Migrate bytes finished text d = d.allowed
 done_input (Make start size) bytes finished text d = tt
@@ -34,7 +34,7 @@ done_read : (job : Job) (before after : Option (List ℕ)) (bytes : List ℕ) �
 done_read (Replay form) before after bytes t few input = let short : length bytes ≤ 1048576 = input.0 in reads_all 1048577 before after bytes t (omega (arith, short))
 done_read Print before after bytes t few input = let short : length bytes ≤ 1048576 = input.0 in reads_all 1048577 before after bytes t (omega (arith, short))
 done_read (Run form) before after bytes t few input = let short : length bytes ≤ 1048576 = input.0 in reads_all 1048577 before after bytes t (omega (arith, short))
-done_read (Poll q) before after bytes t few input = let short : length bytes ≤ 1048576 = input.0 in reads_all 1048577 before after bytes t (omega (arith, short))
+done_read (Poll q limit) before after bytes t few input = let short : length bytes ≤ 1048576 = input.0 in reads_all 1048577 before after bytes t (omega (arith, short))
 done_read Audit before after bytes t few input = reads_all 132185377 before after bytes t (image_short bytes input)
 done_read Migrate before after bytes t few input = reads_all 132185377 before after bytes t (image_short bytes (unrefused bytes input))
 done_read (Make start size) before after bytes t few input = reads_none before after bytes t few
@@ -45,7 +45,7 @@ any_read : (job : Job) (before after : Option (List ℕ)) (bytes : List ℕ) →
 any_read (Replay form) before after bytes t few = reads 1048577 before after bytes t few
 any_read Print before after bytes t few = reads 1048577 before after bytes t few
 any_read (Run form) before after bytes t few = reads 1048577 before after bytes t few
-any_read (Poll q) before after bytes t few = reads 1048577 before after bytes t few
+any_read (Poll q limit) before after bytes t few = reads 1048577 before after bytes t few
 any_read Audit before after bytes t few = reads 132185377 before after bytes t few
 any_read Migrate before after bytes t few = reads 132185377 before after bytes t few
 any_read (Make start size) before after bytes t few = inl (reads_none before after bytes t few)
@@ -81,7 +81,7 @@ no_fault : (job : Job) (bytes text : List ℕ) → IsInput job bytes → IsFault
 no_fault (Replay form) bytes text input f = some_none f.0 (sym f.1 ∙ faultless bytes input)
 no_fault Print bytes text input f = some_none f.0 (sym f.1 ∙ faultless bytes input)
 no_fault (Run form) bytes text input f = some_none f.0 (sym f.1 ∙ faultless bytes input)
-no_fault (Poll q) bytes text input f = some_none f.0 (sym f.1 ∙ faultless bytes input)
+no_fault (Poll q limit) bytes text input f = some_none f.0 (sym f.1 ∙ faultless bytes input)
 no_fault Audit bytes text input f = some_none f.0 (sym f.1 ∙ input)
 no_fault Migrate bytes text input f = some_none f.0 (sym f.1 ∙ input)
 no_fault (Make start size) bytes text input f = f
@@ -102,10 +102,10 @@ input_read (Run form) before after bytes read text left input r refused =
     let short : length bytes ≤ 1048576 = input.0 in
     let same = read_same 1048577 before after read bytes left (omega (arith, short)) r in
     no_fault (Run form) bytes text input (subst (λ (xs : List ℕ). IsFaulty (Run form) xs text) same refused)
-input_read (Poll q) before after bytes read text left input r refused =
+input_read (Poll q limit) before after bytes read text left input r refused =
     let short : length bytes ≤ 1048576 = input.0 in
     let same = read_same 1048577 before after read bytes left (omega (arith, short)) r in
-    no_fault (Poll q) bytes text input (subst (λ (xs : List ℕ). IsFaulty (Poll q) xs text) same refused)
+    no_fault (Poll q limit) bytes text input (subst (λ (xs : List ℕ). IsFaulty (Poll q limit) xs text) same refused)
 input_read Audit before after bytes read text left input r refused =
     let same = read_same 132185377 before after read bytes left (image_short bytes input) r in
     no_fault Audit bytes text input (subst (λ (xs : List ℕ). IsFaulty Audit xs text) same refused)
@@ -130,7 +130,7 @@ done_all : (job : Job) (before after : Option (List ℕ)) (bytes read text : Lis
 done_all (Replay form) before after bytes read text left r input f = no_fault (Replay form) bytes text (subst (λ (xs : List ℕ). IsInput (Replay form) xs) (read_all before after bytes read left r) input) f
 done_all Print before after bytes read text left r input f = no_fault Print bytes text (subst (λ (xs : List ℕ). IsInput Print xs) (read_all before after bytes read left r) input) f
 done_all (Run form) before after bytes read text left r input f = no_fault (Run form) bytes text (subst (λ (xs : List ℕ). IsInput (Run form) xs) (read_all before after bytes read left r) input) f
-done_all (Poll q) before after bytes read text left r input f = no_fault (Poll q) bytes text (subst (λ (xs : List ℕ). IsInput (Poll q) xs) (read_all before after bytes read left r) input) f
+done_all (Poll q limit) before after bytes read text left r input f = no_fault (Poll q limit) bytes text (subst (λ (xs : List ℕ). IsInput (Poll q limit) xs) (read_all before after bytes read left r) input) f
 done_all Audit before after bytes read text left r input f = no_fault Audit bytes text (subst (λ (xs : List ℕ). IsInput Audit xs) (read_all before after bytes read left r) input) f
 done_all Migrate before after bytes read text left r input f = no_fault Migrate bytes text (subst (λ (xs : List ℕ). IsInput Migrate xs) (read_all before after bytes read left r) input) f
 done_all (Make start size) before after bytes read text left r input f = f

@@ -29,7 +29,7 @@ use Rattle.shm_program.specs.declared.words.Job.TheVariants.{Replay, Print, Run,
 
 -- the line that is written where the words aren't accepted
 abbrev pub usage_text : List ℕ
-usage_text = codes "usage: cxlshm replay [--image|--print] | run [--image] | audit | make START SIZE [--print] | migrate | poll Q\n"
+usage_text = codes "usage: cxlshm replay [--image|--print] | run [--image] | audit | make START SIZE [--print] | migrate | poll Q [--limit P]\n"
 
 -- ---- what a job is asked for
 
@@ -74,7 +74,7 @@ IsDone Audit bytes finished text = IsAudited bytes finished text
 IsDone Migrate bytes finished text = IsMigrated bytes finished text
 IsDone (Make start size) bytes finished text = IsTold Summary (drawn_trace start size) finished text
 IsDone (Draw start size) bytes finished text = IsPrinted (drawn_trace start size) finished text
-IsDone (Poll q) bytes finished text = (t : Traced) × Spells bytes t × IsPollTold t finished text
+IsDone (Poll q limit) bytes finished text = (t : Traced) × Spells bytes t × IsPollTold q limit t finished text
 
 -- the bytes are no trace, or no image, and the line names their first fault; or it names what stands against their migration
 abbrev pub IsFaulty : Job → List ℕ → List ℕ → Type 0

@@ -1,5 +1,5 @@
 -- the replay of a trace, its run by threads or its run by polls, and what is written of it
-use Rattle.std.specs.Prelude.{◌≡◌, ℕ, List, ◌++◌, codes}
+use Rattle.std.specs.Prelude.{◌≡◌, ℕ, ◌*◌, List, ◌++◌, Option, Some, None, codes}
 use Rattle.std.specs.Fmt.{decimal}
 use Rattle.shm_words.specs.declared.geometry.Geometry.{Geometry}
 use Rattle.shm_audit.specs.Images.{image_of}
@@ -15,6 +15,7 @@ use Rattle.shm_report.specs.Report.{report_of, summary_of}
 use Rattle.shm_script.specs.Logged.{Logged}
 use Rattle.shm_script.specs.Values.{Traced}
 use Rattle.shm_async.specs.declared.runs.Polled.{Polled as Polls}
+use Rattle.shm_async.specs.Limited.{IsLimitedRun}
 use Rattle.shm_team.specs.declared.team.Ran.{Ran as Team}
 use Rattle.shm_team.specs.Rans.{IsTeamRun}
 use Rattle.shm_program.specs.declared.outcome.Finished.{Finished}
@@ -50,6 +51,13 @@ pub record IsPolled (t : Traced) (finished : Finished) : Type 0 where
   pub turns : List Move
   pub team : IsTeamRun t (polled_pool run turns) run.logs.items
 
+-- it was run by clients that were polled so many times at most, with so many turns a poll; those that were left then were given up and recovered
+pub record IsLimited (q most : ℕ) (t : Traced) (finished : Finished) : Type 0 where
+  pub run : Polls
+  pub kept : finished ≡ Polled run
+  pub turns : List Move
+  pub limited : IsLimitedRun t (q * most) (polled_pool run turns) run.logs.items
+
 -- what is written of a closed pool with these words, which hold this table, and of these logs: the report or the summary of both, or the image of the words
 abbrev pub written : Form → Geometry → List ℕ → (ℕ → ℕ → List Entry) → List Logged → List ℕ
 written Report g ws table ls = report_of g (see g ws) table ls
@@ -64,9 +72,10 @@ IsTold form t finished text = (r : IsRan t finished) × (text ≡ written form r
 abbrev pub IsTeamTold : Form → Traced → Finished → List ℕ → Type 0
 IsTeamTold form t finished text = (r : IsTeam t finished) × (text ≡ written form r.run.closed.start.geometry r.run.closed.words r.team.table r.run.logs.items)
 
--- the trace was run by clients that were polled, and the text is the report of that
-abbrev pub IsPollTold : Traced → Finished → List ℕ → Type 0
-IsPollTold t finished text = (r : IsPolled t finished) × (text ≡ written Report r.run.closed.start.geometry r.run.closed.words r.team.table r.run.logs.items)
+-- the trace was run by clients that were polled, with a limit or without one, and the text is the report of that
+abbrev pub IsPollTold : ℕ → Option ℕ → Traced → Finished → List ℕ → Type 0
+IsPollTold q None t finished text = (r : IsPolled t finished) × (text ≡ written Report r.run.closed.start.geometry r.run.closed.words r.team.table r.run.logs.items)
+IsPollTold q (Some most) t finished text = (r : IsLimited q most t finished) × (text ≡ written Report r.run.closed.start.geometry r.run.closed.words r.limited.run.table r.run.logs.items)
 
 -- the last line of the report of this closed pool, `live L refs F`: how many of its blocks are live, and how many of its words name one
 abbrev pub last_line : Pool → List ℕ

@@ -1,5 +1,6 @@
 -- which words are accepted, and what they ask for
-use Rattle.std.specs.Prelude.{◌≡◌, ◌≤◌, ℕ, Bool, true, false, nat_le, ◌&&◌, if◌then◌else◌, List, [], ◌∷◌, codes, Option, Some, None, option_and_then}
+use Rattle.std.specs.Prelude.{◌≡◌, ◌≤◌, ℕ, Bool, true, false, nat_le, ◌&&◌, if◌then◌else◌, List, [], ◌∷◌, codes, Option, Some, None, IfSome, option_and_then}
+use Rattle.std.specs.Option.{is_some}
 use Rattle.std.specs.Str.{bytes_eq}
 use Rattle.clap.specs.Words.{App, Kinds, Row, Rule, fault_of, first_of, found_of, matches_of, new_app, new_rule, rows_of, with_rule}
 use Rattle.clap.specs.declared.builder.action.ArgAction.TheVariants.{SetTrue}
@@ -21,6 +22,10 @@ flag id = record (new_rule id) { long = Some id; action = Some SetTrue }
 abbrev pub required : List ℕ → Rule
 required id = record (new_rule id) { required = true }
 
+-- two dashes and its name, and a word behind them
+abbrev pub valued : List ℕ → Rule
+valued id = record (new_rule id) { long = Some id }
+
 -- `replay` has two flags
 abbrev pub replay_command : App
 replay_command = with_rule (with_rule (new_app (codes "replay")) (flag (codes "image"))) (flag (codes "print"))
@@ -41,9 +46,9 @@ migrate_command = new_app (codes "migrate")
 abbrev pub make_command : App
 make_command = with_rule (with_rule (with_rule (new_app (codes "make")) (required (codes "start"))) (required (codes "size"))) (flag (codes "print"))
 
--- `poll` has a word
+-- `poll` has a word, and one behind a flag
 abbrev pub poll_command : App
-poll_command = with_rule (new_app (codes "poll")) (required (codes "turns"))
+poll_command = with_rule (with_rule (new_app (codes "poll")) (required (codes "turns"))) (valued (codes "limit"))
 
 -- ---- what a command reads
 
@@ -111,17 +116,25 @@ make_of print _ _ = None
 abbrev pub make_in : List Row → Option Job
 make_in rows = make_of (is_true (first_of (codes "print") rows)) (option_and_then number_in (first_of (codes "start") rows)) (option_and_then number_in (first_of (codes "size") rows))
 
--- how many turns a poll may give
-abbrev pub is_quota : ℕ → Bool
-is_quota n = nat_le 1 n && nat_le n 1000000
+-- how many turns a poll may give, and how many polls there may be
+abbrev pub is_count : ℕ → Bool
+is_count n = nat_le 1 n && nat_le n 1000000
 
--- `poll` by its number
-abbrev pub poll_of : Option ℕ → Option Job
-poll_of None = None
-poll_of (Some q) = if is_quota q then Some (Poll q) else None
+abbrev pub count_of : Option ℕ → Option ℕ
+count_of None = None
+count_of (Some n) = if is_count n then Some n else None
+
+-- `poll` by its two numbers, of which the second one may be missing
+abbrev pub poll_by : Option ℕ → Bool → Option ℕ → Option Job
+poll_by (Some q) false limit = Some (Poll q None)
+poll_by (Some q) true (Some p) = Some (Poll q (Some p))
+poll_by _ _ _ = None
+
+abbrev pub poll_of : Option ℕ → Bool → Option ℕ → Option Job
+poll_of turns limited limit = poll_by (count_of turns) limited (count_of limit)
 
 abbrev pub poll_in : List Row → Option Job
-poll_in rows = poll_of (option_and_then number_in (first_of (codes "turns") rows))
+poll_in rows = poll_of (option_and_then number_in (first_of (codes "turns") rows)) (is_some (first_of (codes "limit") rows)) (option_and_then number_in (first_of (codes "limit") rows))
 
 -- what the words of a command ask for: nothing where it refuses them
 abbrev pub asked : App → (List Row → Option Job) → List (List ℕ) → Option Job
@@ -155,21 +168,21 @@ job_of (word ∷ words) = option_and_then (λ n. job_by n (word ∷ words)) (nam
 abbrev pub NamesCommand : List (List ℕ) → Type 0
 NamesCommand words = (n : Name) × (first : List ℕ) × (rest : List (List ℕ)) × (words ≡ first ∷ rest) × (name_of first ≡ Some n)
 
--- turns of a poll, 1 to 1,000,000
-abbrev pub IsQuota : ℕ → Type 0
-IsQuota n = (1 ≤ n) × (n ≤ 1000000)
+-- turns or polls, 1 to 1,000,000
+abbrev pub IsCount : ℕ → Type 0
+IsCount n = (1 ≤ n) × (n ≤ 1000000)
 
 -- a trace is drawn with 1 to 4,000 commands for each client
 abbrev pub JobFits : Job → Type 0
 JobFits (Make start size) = (1 ≤ size) × (size ≤ 4000)
 JobFits (Draw start size) = (1 ≤ size) × (size ≤ 4000)
-JobFits (Poll q) = IsQuota q
+JobFits (Poll q limit) = IsCount q × IfSome limit IsCount
 JobFits _ = Unit {0}
 
 -- the text that a job writes follows from the bytes that it reads: of all but runs by threads and by polls, whose turns come in any lawful order. These alone may wait
 abbrev pub is_determined : Job → Bool
 is_determined (Run form) = false
-is_determined (Poll q) = false
+is_determined (Poll q limit) = false
 is_determined _ = true
 
 -- and so it does for what the words ask for

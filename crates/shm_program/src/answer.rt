@@ -1,17 +1,17 @@
 //! What is answered to the bytes that a job read.
 
-ghost use Rattle.std.specs.Prelude.{◌≡◌, true, false, ℕ, List, IfOk};
+ghost use Rattle.std.specs.Prelude.{◌≡◌, true, false, ℕ, List, IfOk, IfSome};
 ghost use Rattle.shm_audit.specs.Faults.{image_fault_of};
 ghost use Rattle.shm_script.specs.declared.fault.ParseStop.{ParseStop as AStop};
 ghost use Rattle.shm_script.specs.declared.fault.TraceFault.{TraceFault as AFault};
 ghost use Rattle.shm_stream.specs.Audits.{IsJudged};
 ghost use Rattle.shm_program.specs.Outcomes.{Answers, IsPrinted};
 ghost use Rattle.shm_program.specs.Refusals.{fault_line};
-ghost use Rattle.shm_program.specs.Words.{IsQuota, JobFits, is_determined};
+ghost use Rattle.shm_program.specs.Words.{IsCount, JobFits, is_determined};
 
 use crate::outcome::Finished;
 use crate::refusals::fault_line;
-use crate::telling::{tell, tell_polls, tell_team};
+use crate::telling::{tell, tell_limited, tell_polls, tell_team};
 use crate::words::{Form, Job};
 use shm_audit::{AuditStop, ImageFault, Verdict, audit, fault_text, verdict_text};
 use shm_migrate::{MigrateStop, migrate, stop_text};
@@ -67,7 +67,7 @@ pub fn answer_waiting<R: Threads + Wait + Sync + RandomSource + AllocGlobal, G: 
 {
     match job {
         Job::Run(form) => answer_run(rt, alloc, form, bytes, gate),
-        Job::Poll { turns } => answer_poll(rt, alloc, turns, bytes),
+        Job::Poll { turns, limit } => answer_poll(rt, alloc, turns, limit, bytes),
         _ => unreachable!(),
     }
 }
@@ -77,13 +77,18 @@ fn answer_poll<R: Wait + RandomSource + AllocGlobal>(
     rt: &R,
     alloc: Global,
     turns: u32,
+    limit: Option<u32>,
     bytes: &[u8],
 ) -> Result<Reply, AllocError>
-    requires { IsQuota turns }
-    ensures { IfOk result (λ r. Answers (Job.Poll turns) bytes.now r.status r.finished r.text.items) }
+    requires turns { IsCount turns }
+    requires limit { IfSome limit IsCount }
+    ensures { IfOk result (λ r. Answers (Job.Poll turns limit) bytes.now r.status r.finished r.text.items) }
 {
     match parse(alloc, bytes) {
-        Ok(trace) => tell_polls(rt, alloc, &trace, turns),
+        Ok(trace) => match limit {
+            None => tell_polls(rt, alloc, &trace, turns),
+            Some(limit) => tell_limited(rt, alloc, &trace, turns, limit),
+        },
         Err(stop) => refuse(alloc, stop),
     }
 }

@@ -1,18 +1,18 @@
 //! Replays and runs of traces, and what is written of them.
 
-ghost use Rattle.std.specs.Prelude.{◌≡◌, ℕ, List, IfOk, length};
+ghost use Rattle.std.specs.Prelude.{◌≡◌, ℕ, List, IfOk, None, Some, length};
 ghost use Rattle.shm_words.specs.Layout.{GeometryFits, total_of};
 ghost use Rattle.shm_graph.specs.declared.table.Entry.{Entry as AnEntry};
 ghost use Rattle.shm_graph.specs.Spots.{see};
 ghost use Rattle.shm_graph.specs.Tables.{IsTable};
 ghost use Rattle.shm_report.specs.PoolWords.{IsCleanPool};
 ghost use Rattle.shm_program.specs.Replays.{IsPollTold, IsTeamTold, IsTold, written};
-ghost use Rattle.shm_program.specs.Words.{IsQuota};
+ghost use Rattle.shm_program.specs.Words.{IsCount};
 
 use crate::answer::Reply;
 use crate::outcome::Finished;
 use crate::words::Form;
-use shm_async::run_async;
+use shm_async::{run_async, run_limited};
 use shm_audit::write_image;
 use shm_replay::replay;
 use shm_report::{report, summary};
@@ -65,10 +65,38 @@ pub fn tell_polls<R: Wait + RandomSource + AllocGlobal>(
     trace: &Trace,
     turns: u32,
 ) -> Result<Reply, AllocError>
-    requires { IsQuota turns }
-    ensures { IfOk result (λ r. (r.status ≡ 0) × IsPollTold trace.now r.finished r.text.items) }
+    requires { IsCount turns }
+    ensures { IfOk result (λ r. (r.status ≡ 0) × IsPollTold turns None trace.now r.finished r.text.items) }
 {
     let run = run_async(rt, alloc, trace, turns)?;
+    let closed = &run.closed;
+    let text = written(
+        alloc,
+        Form::Report,
+        closed.geometry(),
+        closed.words(),
+        &run.logs,
+    )?;
+    Ok(Reply {
+        status: 0,
+        text,
+        finished: Finished::Polled(run),
+    })
+}
+
+/// The same with a limit: what isn't done after so many polls is given up, and recovered.
+pub fn tell_limited<R: Wait + RandomSource + AllocGlobal>(
+    rt: &R,
+    alloc: Global,
+    trace: &Trace,
+    turns: u32,
+    limit: u32,
+) -> Result<Reply, AllocError>
+    requires turns { IsCount turns }
+    requires limit { IsCount limit }
+    ensures { IfOk result (λ r. (r.status ≡ 0) × IsPollTold turns (Some limit) trace.now r.finished r.text.items) }
+{
+    let run = run_limited(rt, alloc, trace, turns, limit)?;
     let closed = &run.closed;
     let text = written(
         alloc,

@@ -24,7 +24,7 @@ const TRACE_LIMIT: usize = 1_048_577;
 const IMAGE_LIMIT: usize = 132_185_377;
 
 const USAGE: &str =
-    "usage: cxlshm replay [--image|--print] | run [--image] | audit | make START SIZE [--print] | migrate | poll Q\n";
+    "usage: cxlshm replay [--image|--print] | run [--image] | audit | make START SIZE [--print] | migrate | poll Q [--limit P]\n";
 
 /// Does what the words say.
 ///
@@ -38,7 +38,7 @@ const USAGE: &str =
 /// - `make START SIZE` reads nothing. It replays the trace that is drawn from START, 0 to 2^64 - 1, with SIZE commands, 1 to 4,000, for each
 ///   of four clients, and writes the summary; with `--print` it writes that trace, without a replay.
 /// - `poll Q` reads a trace to its end, has its clients run it as futures on one thread, of which each poll gives an identity Q turns, 1 to
-///   1,000,000, closes the pool and writes the report.
+///   1,000,000, closes the pool and writes the report. With `--limit P`, 1 to 1,000,000, what isn't done after P polls is given up and recovered.
 ///
 /// The whole text is made before the first write. At most 1,048,577 bytes of a trace and 132,185,377 bytes of an image are read.
 ///

@@ -1,10 +1,11 @@
 //! What the words of a call ask for.
 
 ghost use Rattle.std.specs.Prelude.{◌≡◌, ◌≢◌, ◌∷◌, [], true, false, not, slice_index, IfErr, IfOk, IfSome, List, None, Some, codes, map, option_and_then, option_map, ℕ};
+ghost use Rattle.std.specs.Option.{is_some};
 ghost use Rattle.std.specs.String.{string_bytes};
 ghost use Rattle.clap.specs.Words.{app_of, first_value, found_of, is_simple_and_free};
 ghost use Rattle.shm_script.specs.Numbers.{is_numeral, leads_well};
-ghost use Rattle.shm_program.specs.Words.{JobFits, NamesCommand, asked, audit_command, audit_in, is_determined, is_true, job_by, job_of, make_command, make_in, make_of, migrate_command, migrate_in, name_of, number_in, poll_command, poll_in, poll_of, read_by, replay_command, replay_in, replay_of, rows_in, run_command, run_in, run_of};
+ghost use Rattle.shm_program.specs.Words.{IsCount, JobFits, NamesCommand, asked, audit_command, audit_in, count_of, is_determined, is_true, job_by, job_of, make_command, make_in, make_of, migrate_command, migrate_in, name_of, number_in, poll_command, poll_in, poll_of, read_by, replay_command, replay_in, replay_of, rows_in, run_command, run_in, run_of};
 
 use clap::error::ErrorKind;
 use clap::{Arg, ArgAction, ArgMatches, Command};
@@ -38,8 +39,8 @@ pub enum Job {
     Make { start: u64, size: u32 },
     /// `make START SIZE --print`: that trace is written.
     Draw { start: u64, size: u32 },
-    /// `poll Q`: a trace is read and run by clients that are polled, each poll with Q turns of one identity.
-    Poll { turns: u32 },
+    /// `poll Q [--limit P]`: a trace is read and run by clients that are polled, each poll with Q turns of one identity, at most P polls.
+    Poll { turns: u32, limit: Option<u32> },
 }
 
 /// The commands that the first word names.
@@ -265,32 +266,51 @@ fn poll_job(alloc: Global, words: &[String]) -> Result<Option<Job>, AllocError>
     ensures fits { IfOk result (λ job. IfSome job JobFits) }
 {
     match read(poll_command(alloc)?, words)? {
-        Some(matches) => Ok(poll_of(number_of(&matches, "turns"))),
+        Some(matches) => Ok(poll_of(
+            number_of(&matches, "turns"),
+            is_given(&matches, "limit"),
+            number_of(&matches, "limit"),
+        )),
         None => Ok(None),
     }
 }
 
-/// The command `poll`, which has a word.
+/// The command `poll`, which has a word, and one behind a flag.
 fn poll_command<'a>(alloc: Global) -> Result<Command<'a>, AllocError>
     ensures { IfOk result (λ c. app_of c ≡ poll_command) }
 {
     let turns = Arg::new(alloc, "turns").required(true);
-    let command = Command::new(alloc, "poll").arg(turns)?;
+    let limit = Arg::new(alloc, "limit").long("limit");
+    let command = Command::new(alloc, "poll").arg(turns)?.arg(limit)?;
     Ok(command)
 }
 
-/// What `poll` is asked for by its number.
-fn poll_of(turns: Option<u64>) -> Option<Job>
-    ensures job { result ≡ poll_of turns }
+/// What `poll` is asked for by its two numbers, of which the second one may be missing.
+fn poll_of(turns: Option<u64>, limited: bool, limit: Option<u64>) -> Option<Job>
+    ensures job { result ≡ poll_of turns limited limit }
     ensures fits { IfSome result JobFits }
 {
-    let turns = turns?;
-    if turns < 1 || 1_000_000 < turns {
+    let turns = count_of(turns)?;
+    if !limited {
+        return Some(Job::Poll { turns, limit: None });
+    }
+    let limit = count_of(limit)?;
+    Some(Job::Poll {
+        turns,
+        limit: Some(limit),
+    })
+}
+
+/// A number of turns or of polls.
+fn count_of(number: Option<u64>) -> Option<u32>
+    ensures count { result ≡ count_of number }
+    ensures fits { IfSome result IsCount }
+{
+    let number = number?;
+    if number < 1 || 1_000_000 < number {
         return None;
     }
-    Some(Job::Poll {
-        turns: turns as u32,
-    })
+    Some(number as u32)
 }
 
 /// What the command reads in the words, and nothing where it refuses them.
@@ -310,6 +330,13 @@ fn is_set(matches: &ArgMatches, flag: &str) -> bool
     ensures { result ≡ is_true (first_value (found_of matches.now) flag.now) }
 {
     matches.get_str(flag) == Some("true")
+}
+
+/// Whether there is an argument of this name.
+fn is_given(matches: &ArgMatches, id: &str) -> bool
+    ensures { result ≡ is_some (first_value (found_of matches.now) id.now) }
+{
+    matches.get_str(id).is_some()
 }
 
 /// The number that the text of an argument spells.
@@ -363,10 +390,12 @@ pub fn words_of_jobs()
     ensures zero { job_of (codes "make" ∷ codes "0" ∷ codes "0" ∷ []) ≡ None }
     ensures many { job_of (codes "make" ∷ codes "0" ∷ codes "4001" ∷ []) ≡ None }
     ensures leading { job_of (codes "make" ∷ codes "00" ∷ codes "1" ∷ []) ≡ None }
-    ensures poll { job_of (codes "poll" ∷ codes "7" ∷ []) ≡ Some (Job.Poll 7) }
+    ensures poll { job_of (codes "poll" ∷ codes "7" ∷ []) ≡ Some (Job.Poll 7 None) }
+    ensures poll_limit { job_of (codes "poll" ∷ codes "8" ∷ codes "--limit" ∷ codes "11" ∷ []) ≡ Some (Job.Poll 8 (Some 11)) }
     ensures poll_none { job_of (codes "poll" ∷ []) ≡ None }
     ensures poll_zero { job_of (codes "poll" ∷ codes "0" ∷ []) ≡ None }
     ensures poll_many { job_of (codes "poll" ∷ codes "1000001" ∷ []) ≡ None }
+    ensures poll_no_limit { job_of (codes "poll" ∷ codes "7" ∷ codes "--limit" ∷ codes "0" ∷ []) ≡ None }
     ensures other { (rest : List (List ℕ)) → job_of (codes "Replay" ∷ rest) ≡ None }
     ensures none { job_of [] ≡ None }
 {}

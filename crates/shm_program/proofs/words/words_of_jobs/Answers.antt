@@ -86,6 +86,10 @@ pub returns-clause-poll : goal.returns-clause-poll
 unfolding clap_on_literals
 returns-clause-poll c = refl
 
+pub returns-clause-poll_limit : goal.returns-clause-poll_limit
+unfolding clap_on_literals
+returns-clause-poll_limit c = refl
+
 pub returns-clause-poll_none : goal.returns-clause-poll_none
 unfolding clap_on_literals
 returns-clause-poll_none c = refl
@@ -97,3 +101,7 @@ returns-clause-poll_zero c = refl
 pub returns-clause-poll_many : goal.returns-clause-poll_many
 unfolding clap_on_literals
 returns-clause-poll_many c = refl
+
+pub returns-clause-poll_no_limit : goal.returns-clause-poll_no_limit
+unfolding clap_on_literals
+returns-clause-poll_no_limit c = refl
