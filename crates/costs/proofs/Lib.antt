@@ -1,3 +1,5 @@
 pub mod Stepping
 pub mod Jobs
 pub mod Puts
+pub mod Polled
+pub mod Lists

@@ -4,3 +4,4 @@ pub mod Watched
 pub mod Flats
 pub mod Putting
 pub mod Soaking
+pub mod Polling

@@ -5,12 +5,13 @@
 //! the one is the other; and nothing to standard output. With status 1 something failed, and the figures say nothing.
 //!
 //! `rt run costs -- soak SECONDS` plays rounds of clients that die and are recovered (soak.rt), and ends with status 1 where one left a pool that
-//! isn't clean.
+//! isn't clean. `rt run costs -- polls SECONDS` does so with clients that are polled (polls.rt).
 #![tactic(auto)]
 
 mod audit;
 mod commands;
 mod leaving;
+mod polls;
 mod script;
 mod shared;
 mod soak;
@@ -57,11 +58,17 @@ fn time_parts<R: Threads + Sync>(rt: &HostRuntime, threads: &R) -> io::Result<bo
     Ok(true)
 }
 
-/// Soaks for so many seconds; false where the text is no number.
-fn soak_for<R: Threads + Sync>(rt: &HostRuntime, threads: &R, seconds: &str) -> io::Result<bool> {
-    match seconds.parse::<u64>() {
-        Ok(seconds) => soak::soak(rt, threads, seconds),
-        Err(_) => Ok(false),
+/// Soaks for so many seconds in the way that is named; false where there is none of this name, or the text is no number.
+fn soak_for<R: Threads + Sync>(
+    rt: &HostRuntime,
+    threads: &R,
+    name: &str,
+    seconds: &str,
+) -> io::Result<bool> {
+    match (name, seconds.parse::<u64>()) {
+        ("soak", Ok(seconds)) => soak::soak(rt, threads, seconds),
+        ("polls", Ok(seconds)) => polls::soak(rt, seconds),
+        _ => Ok(false),
     }
 }
 
@@ -71,7 +78,7 @@ fn time_named<R: Threads + Sync>(rt: &HostRuntime, threads: &R) -> io::Result<bo
     let _name = words.next();
     match (words.next(), words.next()) {
         (Some(word), None) => time_part(rt, threads, word.as_str()),
-        (Some(_soak), Some(seconds)) => soak_for(rt, threads, seconds.as_str()),
+        (Some(name), Some(seconds)) => soak_for(rt, threads, name.as_str(), seconds.as_str()),
         (None, _) => time_parts(rt, threads),
     }
 }

@@ -4,21 +4,19 @@
 
 ghost use Rattle.std.specs.Prelude.{◌≡◌, ◌<◌, ℕ, IfOk, IfSome, length, slice_index_or};
 ghost use Rattle.shm_words.specs.Layout.{GeometryFits};
-ghost use Rattle.shm_script.specs.Ranges.{LineFits};
 ghost use Rattle.shm_pool.specs.Tokens.{AllOf, Token as AToken};
 ghost use Rattle.pool_calls.specs.Tables.{IsFirst, IsOpen};
 ghost use Rattle.costs.specs.Soaking.{AllBack, AreBack, IsBack};
 
 mod draw;
 
-use draw::Draw;
+pub(crate) use draw::Draw;
 use pool_calls::recovering::bury;
 use pool_calls::tables::{open, run_line};
 use pool_calls::team::put_back;
 use shm_audit::{Verdict, audit, write_image};
 use shm_graph::Life;
 use shm_pool::{Client, Closed, Corpse, SharedPool, Vacant};
-use shm_script::Line;
 use shm_words::Geometry;
 use std::alloc::{AllocError, Global};
 use std::thread::Threads;
@@ -68,29 +66,6 @@ impl Told {
     }
 }
 
-/// A random command of the client `who`.
-fn draw_line(draw: &mut Draw, who: u8) -> Line
-    requires { who < 8 }
-    ensures { LineFits 8 who result }
-{
-    let (key, other) = (draw.below(32), draw.another(who));
-    match draw.below(8) {
-        0 => Line::Del { key },
-        1 => Line::Get { author: other, key },
-        2 => Line::Copy {
-            key,
-            author: other,
-            other: key,
-        },
-        3 => Line::Send { to: other, key },
-        4 => Line::Recv { from: other, key },
-        _ => Line::Put {
-            key,
-            number: u64::from(key),
-        },
-    }
-}
-
 /// Runs random commands until one isn't answered; how many were.
 fn play(pool: &SharedPool, client: &mut Client, draw: &mut Draw, life: &mut Life) -> u32
     requires pool { client.old.of ≡ pool.now }
@@ -101,7 +76,7 @@ fn play(pool: &SharedPool, client: &mut Client, draw: &mut Draw, life: &mut Life
 {
     let who = client.client();
     for n in 0..COMMANDS {
-        let line = draw_line(draw, who);
+        let line = draw.line(8, who);
         if run_line(client, pool, life, &line).is_none() {
             return n;
         }
@@ -159,7 +134,11 @@ fn work(pool: &SharedPool, token: Vacant, seed: u64) -> Done
 }
 
 /// Whether the image of a closed pool is that of a clean pool of these sizes.
-fn is_clean(alloc: Global, geometry: Geometry, closed: &Closed) -> Result<bool, AllocError>
+pub(crate) fn is_clean(
+    alloc: Global,
+    geometry: Geometry,
+    closed: &Closed,
+) -> Result<bool, AllocError>
     requires { GeometryFits geometry }
 {
     let words = closed.words();

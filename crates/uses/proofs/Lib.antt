@@ -5,3 +5,4 @@ mod Pairs
 mod Auditing
 mod Attempts
 mod Quiet
+mod Polls

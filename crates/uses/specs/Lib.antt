@@ -1,4 +1,5 @@
 pub mod Blocks
 pub mod Compare
 pub mod Images
+pub mod Polling
 pub mod Sharing

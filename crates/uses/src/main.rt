@@ -1,12 +1,13 @@
 //! Callers of the library, each with the contract that its user would want, and what comes of them by the lines of standard input.
 //!
-//! A line is a name and how many word steps there are: `memory STEPS`, `table STEPS`, `machine STEPS`, `threads STEPS`. Lines that begin with `#` are printed
-//! again. docs/CALLING.md reads the callers aloud.
+//! A line is a name and how many word steps there are: `memory STEPS`, `table STEPS`, `machine STEPS`, `threads STEPS`; or `polled TURNS`, how many turns there are.
+//! Lines that begin with `#` are printed again. docs/CALLING.md reads the callers aloud.
 #![tactic(auto)]
 
 mod image;
 mod machine;
 mod memory;
+mod polled;
 mod stop;
 mod table;
 mod threads;
@@ -14,11 +15,15 @@ mod threads;
 use image::{judged, judged_shared};
 use machine::shared_root;
 use memory::closed_pair;
+use polled::{one_put, played_and_closed};
 use shm_audit::verdict_text;
 use shm_graph::Life;
-use shm_script::Answer;
+use shm_script::{Answer, End};
 use shm_words::Geometry;
+use std::alloc::AllocGlobal;
 use std::process::ExitCode;
+use std::random::RandomSource;
+use std::sync::Wait;
 use std::thread::Threads;
 use std::{io, str};
 use table::{put_copy_die, two_clients};
@@ -92,8 +97,48 @@ fn tell_threads<R: Threads + Sync>(rt: &HostRuntime, threads: &R, steps: u64) ->
     }
 }
 
+/// How the client of one command ended, and where it died whether that command was done.
+fn ending(end: End) -> &'static str {
+    match end {
+        End::Ended => "ended",
+        End::Died {
+            finished: 0,
+            done: false,
+        } => "died undone",
+        End::Died { .. } => "died done",
+    }
+}
+
+/// `polled TURNS`: a put whose client is given so many turns, ten a poll, and is given up then; how it ended, and the verdict on the image of the closed
+/// pool. Its first recoverer dies after 5 word steps.
+fn tell_polled<R: Wait + RandomSource + AllocGlobal>(
+    rt: &HostRuntime,
+    wait: &R,
+    turns: u64,
+) -> io::Result<()> {
+    let geometry = Geometry::new(1, 1).map_err(|_| refusal())?;
+    let polls = u32::try_from(turns / 10).map_err(|_| refusal())?;
+    let script = one_put(rt.alloc())?;
+    match played_and_closed(wait, geometry, &script, (10, polls), 5)? {
+        Some((log, closed)) => {
+            let verdict = judged_shared(rt.alloc(), &closed).map_err(|_| refusal())?;
+            let text = verdict_text(rt.alloc(), &verdict)?;
+            print!(rt;
+                "{} {}",
+                ending(log.end),
+                str::from_utf8(text.as_slice()).map_err(|_| refusal())?
+            )
+        }
+        None => println!(rt; "not closed"),
+    }
+}
+
 /// Does what a line asks for.
-fn answer<R: Threads + Sync>(rt: &HostRuntime, threads: &R, line: &str) -> io::Result<()> {
+fn answer<R: Threads + Sync + Wait + RandomSource + AllocGlobal>(
+    rt: &HostRuntime,
+    threads: &R,
+    line: &str,
+) -> io::Result<()> {
     let (name, rest) = line.split_once(' ').unwrap_or((line, ""));
     if name == "#" {
         return println!(rt; "{line}");
@@ -104,12 +149,16 @@ fn answer<R: Threads + Sync>(rt: &HostRuntime, threads: &R, line: &str) -> io::R
         "table" => tell_table(rt, steps),
         "machine" => tell_machine(rt, steps),
         "threads" => tell_threads(rt, threads, steps),
+        "polled" => tell_polled(rt, threads, steps),
         _ => Err(refusal()),
     }
 }
 
 /// Does what all lines ask for.
-fn answer_all<R: Threads + Sync>(rt: &HostRuntime, threads: &R) -> io::Result<()> {
+fn answer_all<R: Threads + Sync + Wait + RandomSource + AllocGlobal>(
+    rt: &HostRuntime,
+    threads: &R,
+) -> io::Result<()> {
     for line in rt.lines(rt.alloc()) {
         answer(rt, threads, line?.as_str())?;
     }

@@ -1,6 +1,9 @@
 //! Random numbers.
 
 ghost use Rattle.std.specs.Prelude.{◌≢◌, ◌<◌};
+ghost use Rattle.shm_script.specs.Ranges.{LineFits};
+
+use shm_script::Line;
 
 /// A sequence of numbers that look random.
 #[derive(Drop)]
@@ -32,12 +35,38 @@ impl Draw {
         (self.next() % u64::from(n)) as u32
     }
 
-    /// One of 8 clients, but not this one.
-    pub fn another(&mut self, who: u8) -> u8
-        requires { who < 8 }
-        ensures below { result < 8 }
+    /// One of so many clients, but not this one.
+    fn another(&mut self, clients: u8, who: u8) -> u8
+        requires more { 1 < clients }
+        requires who { who < clients }
+        ensures below { result < clients }
         ensures other { result ≢ who }
     {
-        (who + 1 + self.below(7) as u8) % 8
+        let other = self.below(u32::from(clients - 1)) as u8;
+        if other < who { other } else { other + 1 }
+    }
+
+    /// A command of the client `who`, one of so many.
+    pub fn line(&mut self, clients: u8, who: u8) -> Line
+        requires more { 1 < clients }
+        requires who { who < clients }
+        ensures { LineFits clients who result }
+    {
+        let (key, other) = (self.below(32), self.another(clients, who));
+        match self.below(8) {
+            0 => Line::Del { key },
+            1 => Line::Get { author: other, key },
+            2 => Line::Copy {
+                key,
+                author: other,
+                other: key,
+            },
+            3 => Line::Send { to: other, key },
+            4 => Line::Recv { from: other, key },
+            _ => Line::Put {
+                key,
+                number: u64::from(key),
+            },
+        }
     }
 }
