@@ -6,3 +6,10 @@ pub mod Seen
 pub mod Cutting
 pub mod Gathering
 pub mod Emptying
+pub mod Mending
+pub mod Recovered
+pub mod Parting
+pub mod Leaving
+pub mod Slotting
+pub mod Lives
+pub mod Loops

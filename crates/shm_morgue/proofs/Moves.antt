@@ -1,5 +1,5 @@
 -- each step of a pass keeps the rule of the queue
-use Rattle.std.proofs.Common.{◌≡◌, ◌≢◌, ℕ, zero, suc, ◌+◌, ◌<◌, ◌≤◌, Bool, true, false, true≢false, List, [], ◌∷◌, ◌++◌, length, set, take, drop, sym, refl, ap, ◌∙◌, subst, append-nil, arith, length-append, inl, inr, ne_eqb, if◌then◌else◌}
+use Rattle.std.proofs.Common.{◌≡◌, ◌≢◌, ℕ, zero, suc, ◌+◌, ◌<◌, ◌≤◌, false, true≢false, List, [], ◌∷◌, ◌++◌, length, set, take, drop, sym, refl, ap, ◌∙◌, subst, append-nil, arith, length-append, inl, inr, ne_eqb, if◌then◌else◌}
 use mathlib.Core.Logic.{dite}
 use native.Mathlib.Decide.{ℕ_discrete}
 use mathlib.Core.Option.{some, some-injective, some-ne-none}
@@ -15,9 +15,9 @@ use Rattle.shm_morgue.specs.declared.rule.Desk.{Desk}
 use Rattle.shm_morgue.specs.declared.rule.Hands.{Hands}
 use Rattle.shm_morgue.specs.declared.rule.Taken.{Taken}
 use Rattle.shm_morgue.specs.Entries.{client_of, IsBefore, IsInOrder, IsOf, MayHold}
-use Rattle.shm_morgue.specs.Hands.{hands, newborn, spent, whole, desk, blank_desks, blank_lists, put_first, take_first}
+use Rattle.shm_morgue.specs.Hands.{hands, newborn, spent, whole, desk, blank_desks, blank_lists}
 use Rattle.shm_morgue.specs.Keeps.{Holds, IsBelow, IsMade, Keeps, Knows, KnowsAll, MayWait, PutsOne, TakesOne, all_desks, all_lists, is_desk_of, on_desks, in_lists}
-use Rattle.shm_morgue.proofs.Alike.{Alike, Parted, parted, alike_same, alike_back, alike_on, alike_both, alike_swap, alike_forked, alike_merged}
+use Rattle.shm_morgue.proofs.Alike.{Alike, parted, alike_same, alike_back, alike_on, alike_swap, alike_forked, alike_merged}
 use Rattle.shm_morgue.proofs.Order.{all_front}
 use Rattle.shm_morgue.proofs.Holding.{entries_on, entries_in, grown, holds_alike, holds_put, holds_take, taken_behind, desk_is}
 

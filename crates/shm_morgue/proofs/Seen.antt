@@ -1,6 +1,5 @@
 -- porters and medics as contracts see them
-use Rattle.std.proofs.Common.{◌≡◌, ℕ, List, [], ◌∷◌, length, subst}
-use Rattle.std.specs.List.{All}
+use Rattle.std.proofs.Common.{◌≡◌, ℕ, List, [], length, subst}
 use Rattle.std.proofs.lemmas.List.Elements.{All-head}
 use Rattle.crossbeam_queue.specs.Passes.{view}
 use Rattle.shm_pool.specs.Tokens.{Its}

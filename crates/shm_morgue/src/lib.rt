@@ -2,11 +2,18 @@
 #![tactic(auto)]
 
 mod closing;
+mod gate;
 mod making;
+mod medic;
 mod morgue;
+mod rescue;
 mod rule;
+mod run;
+mod worker;
 
 pub use closing::{MorgueCause, MorgueStop};
+pub use gate::{Gate, NoGate};
 pub use making::Made3;
 pub use morgue::{Medic, Morgue, NoRoom, Porter};
 pub use rule::{Pools, Taken};
+pub use run::{Rescued, run_morgue};

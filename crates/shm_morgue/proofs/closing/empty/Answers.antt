@@ -1,6 +1,5 @@
 use Rattle.std.proofs.Common.{◌≡◌, ℕ, ◌+◌, ◌<◌, ◌≤◌, List, [], ◌∷◌, ◌++◌, length, vec_capacity, sym, ap, ◌∙◌, subst, arith, length-append}
 use Rattle.crossbeam_queue.specs.Passes.{view}
-use Rattle.shm_morgue.specs.declared.rule.Desk.{Desk}
 use Rattle.shm_morgue.specs.declared.rule.Hands.{Hands}
 use Rattle.shm_morgue.specs.declared.rule.Taken.{Taken}
 use Rattle.shm_morgue.specs.Entries.{Which}

@@ -1,4 +1,4 @@
-use Rattle.std.proofs.Common.{◌≡◌, ◌++◌, [], vec_len}
+use Rattle.std.proofs.Common.{◌≡◌, ◌++◌, vec_len}
 use Rattle.std.specs.List.{AllByRecursion}
 use Rattle.crossbeam_queue.specs.Passes.{view}
 use Rattle.shm_morgue.specs.Closing.{IsPlaceOf, desks_of}

@@ -1,6 +1,5 @@
-use Rattle.std.proofs.Common.{◌≡◌, ℕ, ◌+◌, ◌-◌, List, [], ◌∷◌, ◌++◌, drop, take, sym, refl, ap, ◌∙◌}
+use Rattle.std.proofs.Common.{◌≡◌, ℕ, ◌+◌, ◌-◌, List, [], ◌∷◌, ◌++◌, drop, take, sym, ap, ◌∙◌}
 use Rattle.crossbeam_queue.specs.Passes.{view}
-use Rattle.shm_morgue.specs.declared.rule.Hands.{Hands}
 use Rattle.shm_morgue.specs.declared.rule.Taken.{Taken}
 use Rattle.shm_morgue.specs.Hands.{blank_lists, first_list, hands, takes_of, which}
 use Rattle.shm_morgue.proofs.Cutting.{lists_cut, more_medics, new_medic}

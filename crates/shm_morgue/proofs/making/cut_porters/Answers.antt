@@ -1,8 +1,6 @@
-use Rattle.std.proofs.Common.{◌≡◌, ℕ, ◌+◌, ◌-◌, List, [], ◌∷◌, ◌++◌, drop, take, sym, refl, ap, ◌∙◌, arith}
+use Rattle.std.proofs.Common.{◌≡◌, ℕ, ◌+◌, ◌-◌, List, [], ◌∷◌, ◌++◌, drop, take, sym, ap, ◌∙◌, arith}
 use Rattle.crossbeam_queue.specs.Passes.{view}
 use Rattle.shm_morgue.specs.declared.rule.Desk.{Desk}
-use Rattle.shm_morgue.specs.declared.rule.Hands.{Hands}
-use Rattle.shm_morgue.specs.Entries.{Puts, Which}
 use Rattle.shm_morgue.specs.Hands.{blank_desks, blank_lists, desk, first_entries, hands, puts_of, which}
 use Rattle.shm_morgue.proofs.Cutting.{blank_cut, blank_end, more_porters, new_porter}
 use Rattle.shm_morgue.proofs.Moves.{cuts_porter_one}

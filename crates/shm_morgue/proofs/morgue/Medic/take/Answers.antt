@@ -1,4 +1,4 @@
-use Rattle.std.proofs.Common.{◌≡◌, ap, refl, []}
+use Rattle.std.proofs.Common.{ap, []}
 use Rattle.crossbeam_queue.specs.Passes.{view}
 use Rattle.shm_morgue.specs.declared.rule.Hands.{Hands}
 use Rattle.shm_morgue.specs.Hands.{first_list}

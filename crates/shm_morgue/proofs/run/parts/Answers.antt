@@ -1,0 +1,56 @@
+use Rattle.std.proofs.Common.{◌≡◌, ◌+◌, ℕ, List, [], ◌∷◌, ◌++◌, length, sym, ap, ◌∙◌, subst, arith}
+use Rattle.std.specs.Vec.Iter.{into_iter_items}
+use Rattle.shm_team.proofs.Gathering.{all_yielded}
+use Rattle.shm_morgue.specs.declared.worker.Outcome.{Outcome}
+use Rattle.shm_morgue.specs.Crew.{HasWorked, HaveWorked}
+use Rattle.shm_morgue.specs.Entries.{Puts}
+use Rattle.shm_morgue.proofs.Loops.{one_more, seam_at, seam_inside, seam_next}
+use Rattle.shm_morgue.proofs.Slotting.{worked_more}
+use Rattle.shm_morgue.proofs.run.parts.Goals as goal
+
+pub loop-worked-init : goal.loop-worked-init
+loop-worked-init g c =
+    let (items, len, small, runs) = c.into_iter-worked-iterator.ensures.into_iter_gives in
+    record {
+      items = items;
+      len = (let whole = c.args.works.ok.0 in let same = ap length items in omega (arith, len));
+      many = ap length c.new-porters.ensures.items;
+      worked = subst (λ (os : List Outcome). HaveWorked c.args.trace.now c.args.pool.now c.args.morgue.now 0 c.new-porters.result.items os) (sym c.new-outcomes.ensures.items)
+          (subst (λ (qs : List Puts). HaveWorked c.args.trace.now c.args.pool.now c.args.morgue.now 0 qs []) (sym c.new-porters.ensures.items) tt);
+    }
+
+pub loop-worked-preserved : goal.loop-worked-preserved
+loop-worked-preserved g c =
+    let at = c.loop-worked in
+    let i = at.invariant in
+    let x = c.in-Some.worked in
+    let steps : into_iter_items at.worked-iterator ≡ x ∷ into_iter_items c.next.new.self = c.in-Some.ensures.steps.0 in
+    let whole = subst (λ zs. at.yielded ++ zs ≡ c.args.works.items) steps i.items in
+    let many = i.many in
+    let inside = seam_inside at.yielded (into_iter_items c.next.new.self) c.args.works.items x whole in
+    let here = seam_at at.yielded (into_iter_items c.next.new.self) c.args.works.items x x whole in
+    let count : length at.yielded ≡ 0 + length at.porters.items = omega arith in
+    let one = subst (λ (n : ℕ). HasWorked c.args.trace.now c.args.pool.now c.args.morgue.now n x.porter x.outcome) count (subst (λ y. HasWorked c.args.trace.now c.args.pool.now c.args.morgue.now (length at.yielded) y.porter y.outcome) here (c.requires (length at.yielded) x inside)) in
+    record {
+      items = seam_next at.yielded (into_iter_items c.next.new.self) c.args.works.items x whole;
+      len =
+          let was = i.len in
+          let gone = c.in-Some.ensures.steps.1 in
+          let short = ap length steps in
+          omega arith;
+      many =
+          let a = ap length c.in_ok-push.ensures.items in
+          let b = one_more at.porters.items x.porter in
+          let d = one_more at.yielded x in
+          omega arith;
+      worked =
+          subst (λ (os : List Outcome). HaveWorked c.args.trace.now c.args.pool.now c.args.morgue.now 0 c.push.new.self.items os) (sym c.in_ok-push-2.ensures.items)
+          (subst (λ (qs : List Puts). HaveWorked c.args.trace.now c.args.pool.now c.args.morgue.now 0 qs (at.outcomes.items ++ x.outcome ∷ [])) (sym c.in_ok-push.ensures.items)
+          (worked_more c.args.trace.now c.args.pool.now c.args.morgue.now 0 at.porters.items at.outcomes.items x.porter x.outcome i.worked one));
+    }
+
+pub returns-clause-many : goal.returns-clause-many
+returns-clause-many g c =
+    let at = c.loop-worked in
+    let all = all_yielded at.yielded _ _ _ at.invariant.items at.invariant.len c.in-None.ensures.steps.0 in
+    at.invariant.many ∙ ap length all
