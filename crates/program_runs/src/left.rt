@@ -10,6 +10,7 @@ pub fn words(rt: &HostRuntime, finished: &Finished) -> io::Result<()> {
         Finished::Neither => println!(rt; "no replay"),
         Finished::Replayed(run) => words_of(rt, run.closed.words()),
         Finished::Ran(run) => words_of(rt, run.closed.words()),
+        Finished::Rescued(run) => words_of(rt, run.closed.words()),
         Finished::Polled(run) => words_of(rt, run.closed.words()),
     }
 }
@@ -31,6 +32,7 @@ pub fn answers(rt: &HostRuntime, finished: &Finished) -> io::Result<()> {
         Finished::Neither => println!(rt; "no replay"),
         Finished::Replayed(run) => answers_of(rt, run.logs.as_slice()),
         Finished::Ran(run) => answers_of(rt, run.logs.as_slice()),
+        Finished::Rescued(run) => answers_of(rt, run.logs.as_slice()),
         Finished::Polled(run) => answers_of(rt, run.logs.as_slice()),
     }
 }

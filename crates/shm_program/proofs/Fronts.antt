@@ -5,7 +5,7 @@ use Rattle.std.specs.Prelude.{Option, Some, None}
 use Rattle.shm_io.specs.Writing.{Appends, AppendsFront}
 use Rattle.shm_program.specs.declared.outcome.Finished.{Finished}
 use Rattle.shm_program.specs.declared.words.Job.{Job}
-use Rattle.shm_program.specs.declared.words.Job.TheVariants.{Replay, Print, Run, Audit, Migrate, Make, Draw, Poll}
+use Rattle.shm_program.specs.declared.words.Job.TheVariants.{Replay, Print, Run, Rescue, Audit, Migrate, Make, Draw, Poll}
 use Rattle.shm_program.specs.Outcomes.{Answers, Decided, Done, IsCall, IsDone, IsStatus, Misused, Refused, Sides}
 use Rattle.shm_program.specs.Reads.{Reads, limit_of, most_of}
 use Rattle.shm_program.specs.Streams.{AreFirst, Grows, IsAnswered, IsStopped, IsTextOf, WritesFrontOf}
@@ -27,6 +27,7 @@ done_few : (job : Job) (before after : Option (List ℕ)) (bytes : List ℕ) (ma
 done_few (Replay form) before after bytes made x r (t, a, h) = let short = a.short in omega (arith, short)
 done_few Print before after bytes made x r (t, a, h) = let short = a.short in omega (arith, short)
 done_few (Run form) before after bytes made x r (t, a, h) = let short = a.short in omega (arith, short)
+done_few (Rescue form medics) before after bytes made x r (t, a, h) = let short = a.short in omega (arith, short)
 done_few (Poll q limit) before after bytes made x r (t, a, h) = let short = a.short in omega (arith, short)
 done_few Audit before after bytes made x r h = let short = image_short bytes h.faultless in omega (arith, short)
 done_few Migrate before after bytes made x r h = let short = image_short bytes (unrefused bytes h.allowed) in omega (arith, short)

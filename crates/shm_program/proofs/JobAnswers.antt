@@ -5,15 +5,18 @@ use Rattle.shm_script.specs.Values.{Traced}
 use Rattle.shm_program.specs.declared.outcome.Finished.{Finished}
 use Rattle.shm_program.specs.declared.words.Form.{Form}
 use Rattle.shm_program.specs.declared.words.Form.TheVariants.{Summary}
-use Rattle.shm_program.specs.declared.words.Job.TheVariants.{Replay, Print, Run, Make, Poll}
+use Rattle.shm_program.specs.declared.words.Job.TheVariants.{Replay, Print, Run, Rescue, Make, Poll}
 use Rattle.shm_program.specs.Outcomes.{Answers, IsPrinted, Spells}
-use Rattle.shm_program.specs.Replays.{IsPollTold, IsTeamTold, IsTold}
+use Rattle.shm_program.specs.Replays.{IsPollTold, IsRescueTold, IsTeamTold, IsTold}
 
 pub read_told : (form : Form) (bytes : List ℕ) (t : Traced) (status : ℕ) (finished : Finished) (text : List ℕ) → Spells bytes t → (status ≡ 0) × IsTold form t finished text → Answers (Replay form) bytes status finished text
 read_told form bytes t status finished text s d = inl (d.0, (t, s, d.1))
 
 pub run_told : (form : Form) (bytes : List ℕ) (t : Traced) (status : ℕ) (finished : Finished) (text : List ℕ) → Spells bytes t → (status ≡ 0) × IsTeamTold form t finished text → Answers (Run form) bytes status finished text
 run_told form bytes t status finished text s d = inl (d.0, (t, s, d.1))
+
+pub rescue_told : (form : Form) (medics : ℕ) (bytes : List ℕ) (t : Traced) (status : ℕ) (finished : Finished) (text : List ℕ) → Spells bytes t → (status ≡ 0) × IsRescueTold form t finished text → Answers (Rescue form medics) bytes status finished text
+rescue_told form medics bytes t status finished text s d = inl (d.0, (t, s, d.1))
 
 pub poll_told : (q : ℕ) (limit : Option ℕ) (bytes : List ℕ) (t : Traced) (status : ℕ) (finished : Finished) (text : List ℕ) → Spells bytes t → (status ≡ 0) × IsPollTold q limit t finished text → Answers (Poll q limit) bytes status finished text
 poll_told q limit bytes t status finished text s d = inl (d.0, (t, s, d.1))

@@ -4,7 +4,7 @@ use Rattle.std.proofs.lemmas.List.{take_all}
 use Rattle.std.specs.Prelude.{Option, Some, None}
 use Rattle.shm_program.specs.declared.outcome.Finished.{Finished}
 use Rattle.shm_program.specs.declared.words.Job.{Job}
-use Rattle.shm_program.specs.declared.words.Job.TheVariants.{Replay, Print, Run, Audit, Migrate, Make, Draw, Poll}
+use Rattle.shm_program.specs.declared.words.Job.TheVariants.{Replay, Print, Run, Rescue, Audit, Migrate, Make, Draw, Poll}
 use Rattle.shm_program.specs.Outcomes.{Asks, Decided, Done, IsDone, IsFaulty, Refused}
 use Rattle.shm_program.specs.Reads.{Reads, ReadsLimit, limit_of}
 use Rattle.shm_program.specs.Words.{AreDetermined, is_determined, job_of}
@@ -21,6 +21,7 @@ pub done_bytes : (job : Job) (left bytes : List ℕ) (after : Option (List ℕ))
 done_bytes (Replay form) left bytes after one x r (t, a, h) = all_of 1048577 left bytes r.0 (let short = a.short in omega (arith, short))
 done_bytes Print left bytes after one x r (t, a, h) = all_of 1048577 left bytes r.0 (let short = a.short in omega (arith, short))
 done_bytes (Run form) left bytes after one x r (t, a, h) = all_of 1048577 left bytes r.0 (let short = a.short in omega (arith, short))
+done_bytes (Rescue form medics) left bytes after one x r (t, a, h) = all_of 1048577 left bytes r.0 (let short = a.short in omega (arith, short))
 done_bytes (Poll q limit) left bytes after one x r (t, a, h) = all_of 1048577 left bytes r.0 (let short = a.short in omega (arith, short))
 done_bytes Audit left bytes after one x r h = all_of 132185377 left bytes r.0 (let short = image_short bytes h.faultless in omega (arith, short))
 done_bytes Migrate left bytes after one x r h = all_of 132185377 left bytes r.0 (let short = image_short bytes (unrefused bytes h.allowed) in omega (arith, short))
@@ -33,6 +34,7 @@ refused_bytes job left bytes x after few (inr r) f = r.1.0
 refused_bytes (Replay form) left bytes x after few (inl r) f = all_of 1048577 left bytes r.0 few
 refused_bytes Print left bytes x after few (inl r) f = all_of 1048577 left bytes r.0 few
 refused_bytes (Run form) left bytes x after few (inl r) f = all_of 1048577 left bytes r.0 few
+refused_bytes (Rescue form medics) left bytes x after few (inl r) f = all_of 1048577 left bytes r.0 few
 refused_bytes (Poll q limit) left bytes x after few (inl r) f = all_of 1048577 left bytes r.0 few
 refused_bytes Audit left bytes x after few (inl r) f = all_of 132185377 left bytes r.0 few
 refused_bytes Migrate left bytes x after few (inl r) f = all_of 132185377 left bytes r.0 few

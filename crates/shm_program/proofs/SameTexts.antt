@@ -30,7 +30,7 @@ use Rattle.shm_program.specs.declared.outcome.Finished.{Finished}
 use Rattle.shm_program.specs.declared.words.Form.{Form}
 use Rattle.shm_program.specs.declared.words.Form.TheVariants.{Report, Image, Summary}
 use Rattle.shm_program.specs.declared.words.Job.{Job}
-use Rattle.shm_program.specs.declared.words.Job.TheVariants.{Replay, Print, Run, Audit, Migrate, Make, Draw, Poll}
+use Rattle.shm_program.specs.declared.words.Job.TheVariants.{Replay, Print, Run, Rescue, Audit, Migrate, Make, Draw, Poll}
 use Rattle.shm_program.specs.Words.{is_determined}
 
 -- ---- tables
@@ -101,6 +101,7 @@ pub done_same : (job : Job) (bytes : List ℕ) (one other : Finished) (x y : Lis
 done_same (Replay form) bytes one other x y e (s, a, h) (t, b, k) = told_same form s one other x y h (subst (λ (z : Traced). IsTold form z other y) (trace_same bytes t s b a) k)
 done_same Print bytes one other x y e (s, a, h) (t, b, k) = h.1 ∙ (ap text_of (trace_same bytes s t a b) ∙ sym k.1)
 done_same (Run form) bytes one other x y e h k = cc
+done_same (Rescue form medics) bytes one other x y e h k = cc
 done_same (Poll q limit) bytes one other x y e h k = cc
 done_same Audit bytes one other x y e h k = h.verdict ∙ sym k.verdict
 done_same Migrate bytes one other x y e h k = h.image ∙ sym k.image
@@ -120,6 +121,7 @@ pub faulty_same : (job : Job) (bytes x y : List ℕ) → IsFaulty job bytes x �
 faulty_same (Replay form) bytes x y a b = trace_fault_same bytes x y a b
 faulty_same Print bytes x y a b = trace_fault_same bytes x y a b
 faulty_same (Run form) bytes x y a b = trace_fault_same bytes x y a b
+faulty_same (Rescue form medics) bytes x y a b = trace_fault_same bytes x y a b
 faulty_same (Poll q limit) bytes x y a b = trace_fault_same bytes x y a b
 faulty_same Audit bytes x y (f, e, h) (k, d, l) = h ∙ (ap image_fault_line (some_same _ f k e d) ∙ sym l)
 faulty_same Migrate bytes x y (f, e, h) (k, d, l) = h ∙ (ap stop_line (some_same _ f k e d) ∙ sym l)
@@ -134,6 +136,7 @@ pub done_or_faulty : (job : Job) (bytes : List ℕ) (one : Finished) (x y : List
 done_or_faulty (Replay form) bytes one x y (t, a, h) (f, e, l) = some_none (fault_of bytes) f e (spelled_faultless bytes t a)
 done_or_faulty Print bytes one x y (t, a, h) (f, e, l) = some_none (fault_of bytes) f e (spelled_faultless bytes t a)
 done_or_faulty (Run form) bytes one x y (t, a, h) (f, e, l) = some_none (fault_of bytes) f e (spelled_faultless bytes t a)
+done_or_faulty (Rescue form medics) bytes one x y (t, a, h) (f, e, l) = some_none (fault_of bytes) f e (spelled_faultless bytes t a)
 done_or_faulty (Poll q limit) bytes one x y (t, a, h) (f, e, l) = some_none (fault_of bytes) f e (spelled_faultless bytes t a)
 done_or_faulty Audit bytes one x y h (f, e, l) = some_none _ f e h.faultless
 done_or_faulty Migrate bytes one x y h (f, e, l) = some_none _ f e h.allowed

@@ -7,7 +7,7 @@ use Rattle.shm_script.specs.Values.{Traced}
 use Rattle.shm_script.proofs.Complete.{faultless}
 use Rattle.shm_program.specs.declared.outcome.Finished.{Finished}
 use Rattle.shm_program.specs.declared.words.Job.{Job}
-use Rattle.shm_program.specs.declared.words.Job.TheVariants.{Replay, Print, Run, Audit, Migrate, Make, Draw, Poll}
+use Rattle.shm_program.specs.declared.words.Job.TheVariants.{Replay, Print, Run, Rescue, Audit, Migrate, Make, Draw, Poll}
 use Rattle.shm_program.specs.Outcomes.{Answers, Done, IsDone, IsFaulty, IsInput, Refused, Spells}
 use Rattle.shm_program.specs.Reads.{IsRead, Reads, ReadsAll, ReadsLimit, input_of, limit_of}
 use Rattle.shm_program.proofs.ImageSizes.{image_short, unrefused}
@@ -23,6 +23,7 @@ done_input : (job : Job) (bytes : List ℕ) (finished : Finished) (text : List �
 done_input (Replay form) bytes finished text d = is_text bytes d.0 d.1
 done_input Print bytes finished text d = is_text bytes d.0 d.1
 done_input (Run form) bytes finished text d = is_text bytes d.0 d.1
+done_input (Rescue form medics) bytes finished text d = is_text bytes d.0 d.1
 done_input (Poll q limit) bytes finished text d = is_text bytes d.0 d.1
 done_input Audit bytes finished text d = d.faultless
 done_input Migrate bytes finished text d = d.allowed
@@ -34,6 +35,7 @@ done_read : (job : Job) (before after : Option (List ℕ)) (bytes : List ℕ) �
 done_read (Replay form) before after bytes t few input = let short : length bytes ≤ 1048576 = input.0 in reads_all 1048577 before after bytes t (omega (arith, short))
 done_read Print before after bytes t few input = let short : length bytes ≤ 1048576 = input.0 in reads_all 1048577 before after bytes t (omega (arith, short))
 done_read (Run form) before after bytes t few input = let short : length bytes ≤ 1048576 = input.0 in reads_all 1048577 before after bytes t (omega (arith, short))
+done_read (Rescue form medics) before after bytes t few input = let short : length bytes ≤ 1048576 = input.0 in reads_all 1048577 before after bytes t (omega (arith, short))
 done_read (Poll q limit) before after bytes t few input = let short : length bytes ≤ 1048576 = input.0 in reads_all 1048577 before after bytes t (omega (arith, short))
 done_read Audit before after bytes t few input = reads_all 132185377 before after bytes t (image_short bytes input)
 done_read Migrate before after bytes t few input = reads_all 132185377 before after bytes t (image_short bytes (unrefused bytes input))
@@ -45,6 +47,7 @@ any_read : (job : Job) (before after : Option (List ℕ)) (bytes : List ℕ) →
 any_read (Replay form) before after bytes t few = reads 1048577 before after bytes t few
 any_read Print before after bytes t few = reads 1048577 before after bytes t few
 any_read (Run form) before after bytes t few = reads 1048577 before after bytes t few
+any_read (Rescue form medics) before after bytes t few = reads 1048577 before after bytes t few
 any_read (Poll q limit) before after bytes t few = reads 1048577 before after bytes t few
 any_read Audit before after bytes t few = reads 132185377 before after bytes t few
 any_read Migrate before after bytes t few = reads 132185377 before after bytes t few
@@ -81,6 +84,7 @@ no_fault : (job : Job) (bytes text : List ℕ) → IsInput job bytes → IsFault
 no_fault (Replay form) bytes text input f = some_none f.0 (sym f.1 ∙ faultless bytes input)
 no_fault Print bytes text input f = some_none f.0 (sym f.1 ∙ faultless bytes input)
 no_fault (Run form) bytes text input f = some_none f.0 (sym f.1 ∙ faultless bytes input)
+no_fault (Rescue form medics) bytes text input f = some_none f.0 (sym f.1 ∙ faultless bytes input)
 no_fault (Poll q limit) bytes text input f = some_none f.0 (sym f.1 ∙ faultless bytes input)
 no_fault Audit bytes text input f = some_none f.0 (sym f.1 ∙ input)
 no_fault Migrate bytes text input f = some_none f.0 (sym f.1 ∙ input)
@@ -102,6 +106,10 @@ input_read (Run form) before after bytes read text left input r refused =
     let short : length bytes ≤ 1048576 = input.0 in
     let same = read_same 1048577 before after read bytes left (omega (arith, short)) r in
     no_fault (Run form) bytes text input (subst (λ (xs : List ℕ). IsFaulty (Run form) xs text) same refused)
+input_read (Rescue form medics) before after bytes read text left input r refused =
+    let short : length bytes ≤ 1048576 = input.0 in
+    let same = read_same 1048577 before after read bytes left (omega (arith, short)) r in
+    no_fault (Rescue form medics) bytes text input (subst (λ (xs : List ℕ). IsFaulty (Rescue form medics) xs text) same refused)
 input_read (Poll q limit) before after bytes read text left input r refused =
     let short : length bytes ≤ 1048576 = input.0 in
     let same = read_same 1048577 before after read bytes left (omega (arith, short)) r in
@@ -130,6 +138,7 @@ done_all : (job : Job) (before after : Option (List ℕ)) (bytes read text : Lis
 done_all (Replay form) before after bytes read text left r input f = no_fault (Replay form) bytes text (subst (λ (xs : List ℕ). IsInput (Replay form) xs) (read_all before after bytes read left r) input) f
 done_all Print before after bytes read text left r input f = no_fault Print bytes text (subst (λ (xs : List ℕ). IsInput Print xs) (read_all before after bytes read left r) input) f
 done_all (Run form) before after bytes read text left r input f = no_fault (Run form) bytes text (subst (λ (xs : List ℕ). IsInput (Run form) xs) (read_all before after bytes read left r) input) f
+done_all (Rescue form medics) before after bytes read text left r input f = no_fault (Rescue form medics) bytes text (subst (λ (xs : List ℕ). IsInput (Rescue form medics) xs) (read_all before after bytes read left r) input) f
 done_all (Poll q limit) before after bytes read text left r input f = no_fault (Poll q limit) bytes text (subst (λ (xs : List ℕ). IsInput (Poll q limit) xs) (read_all before after bytes read left r) input) f
 done_all Audit before after bytes read text left r input f = no_fault Audit bytes text (subst (λ (xs : List ℕ). IsInput Audit xs) (read_all before after bytes read left r) input) f
 done_all Migrate before after bytes read text left r input f = no_fault Migrate bytes text (subst (λ (xs : List ℕ). IsInput Migrate xs) (read_all before after bytes read left r) input) f

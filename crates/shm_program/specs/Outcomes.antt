@@ -19,17 +19,17 @@ use Rattle.shm_script.specs.Text.{text_of}
 use Rattle.shm_script.specs.Values.{Traced}
 use Rattle.shm_program.specs.Reads.{Reads, ReadsLimit, input_of, limit_of, most_of}
 use Rattle.shm_program.specs.Refusals.{fault_line}
-use Rattle.shm_program.specs.Replays.{IsPollTold, IsTeamTold, IsTold}
+use Rattle.shm_program.specs.Replays.{IsPollTold, IsRescueTold, IsTeamTold, IsTold}
 use Rattle.shm_program.specs.Words.{NamesCommand, job_of}
 use Rattle.shm_program.specs.declared.outcome.Finished.{Finished}
 use Rattle.shm_program.specs.declared.outcome.Finished.TheVariants.{Neither}
 use Rattle.shm_program.specs.declared.words.Form.TheVariants.{Summary}
 use Rattle.shm_program.specs.declared.words.Job.{Job}
-use Rattle.shm_program.specs.declared.words.Job.TheVariants.{Replay, Print, Run, Audit, Migrate, Make, Draw, Poll}
+use Rattle.shm_program.specs.declared.words.Job.TheVariants.{Replay, Print, Run, Rescue, Audit, Migrate, Make, Draw, Poll}
 
 -- the line that is written where the words aren't accepted
 abbrev pub usage_text : List ℕ
-usage_text = codes "usage: cxlshm replay [--image|--print] | run [--image] | audit | make START SIZE [--print] | migrate | poll Q [--limit P]\n"
+usage_text = codes "usage: cxlshm replay [--image|--print] | run [--image] [--medics K] | audit | make START SIZE [--print] | migrate | poll Q [--limit P]\n"
 
 -- ---- what a job is asked for
 
@@ -74,6 +74,7 @@ IsDone Audit bytes finished text = IsAudited bytes finished text
 IsDone Migrate bytes finished text = IsMigrated bytes finished text
 IsDone (Make start size) bytes finished text = IsTold Summary (drawn_trace start size) finished text
 IsDone (Draw start size) bytes finished text = IsPrinted (drawn_trace start size) finished text
+IsDone (Rescue form medics) bytes finished text = (t : Traced) × Spells bytes t × IsRescueTold form t finished text
 IsDone (Poll q limit) bytes finished text = (t : Traced) × Spells bytes t × IsPollTold q limit t finished text
 
 -- the bytes are no trace, or no image, and the line names their first fault; or it names what stands against their migration

@@ -16,10 +16,11 @@ use Rattle.shm_script.specs.Logged.{Logged}
 use Rattle.shm_script.specs.Values.{Traced}
 use Rattle.shm_async.specs.declared.runs.Polled.{Polled as Polls}
 use Rattle.shm_async.specs.Limited.{IsLimitedRun}
+use Rattle.shm_morgue.specs.declared.run.Rescued.{Rescued as Rescue}
 use Rattle.shm_team.specs.declared.team.Ran.{Ran as Team}
 use Rattle.shm_team.specs.Rans.{IsTeamRun}
 use Rattle.shm_program.specs.declared.outcome.Finished.{Finished}
-use Rattle.shm_program.specs.declared.outcome.Finished.TheVariants.{Replayed, Ran, Polled}
+use Rattle.shm_program.specs.declared.outcome.Finished.TheVariants.{Replayed, Ran, Rescued, Polled}
 use Rattle.shm_program.specs.declared.words.Form.{Form}
 use Rattle.shm_program.specs.declared.words.Form.TheVariants.{Report, Image, Summary}
 
@@ -58,6 +59,17 @@ pub record IsLimited (q most : ℕ) (t : Traced) (finished : Finished) : Type 0 
   pub turns : List Move
   pub limited : IsLimitedRun t (q * most) (polled_pool run turns) run.logs.items
 
+-- the pool that threads closed, of whose clients other threads recovered those that died, with turns that lead to it
+abbrev pub rescued_pool : Rescue → List Move → Pool
+rescued_pool run turns = pool run.closed.start run.closed.words run.closed.accounts turns
+
+-- the trace was run by clients on threads, and who died was recovered by other threads
+pub record IsRescued (t : Traced) (finished : Finished) : Type 0 where
+  pub run : Rescue
+  pub kept : finished ≡ Rescued run
+  pub turns : List Move
+  pub team : IsTeamRun t (rescued_pool run turns) run.logs.items
+
 -- what is written of a closed pool with these words, which hold this table, and of these logs: the report or the summary of both, or the image of the words
 abbrev pub written : Form → Geometry → List ℕ → (ℕ → ℕ → List Entry) → List Logged → List ℕ
 written Report g ws table ls = report_of g (see g ws) table ls
@@ -71,6 +83,10 @@ IsTold form t finished text = (r : IsRan t finished) × (text ≡ written form r
 -- the trace was run by clients on threads, and the text is what is written of that
 abbrev pub IsTeamTold : Form → Traced → Finished → List ℕ → Type 0
 IsTeamTold form t finished text = (r : IsTeam t finished) × (text ≡ written form r.run.closed.start.geometry r.run.closed.words r.team.table r.run.logs.items)
+
+-- the trace was run by clients on threads with others that recover, and the text is what is written of that
+abbrev pub IsRescueTold : Form → Traced → Finished → List ℕ → Type 0
+IsRescueTold form t finished text = (r : IsRescued t finished) × (text ≡ written form r.run.closed.start.geometry r.run.closed.words r.team.table r.run.logs.items)
 
 -- the trace was run by clients that were polled, with a limit or without one, and the text is the report of that
 abbrev pub IsPollTold : ℕ → Option ℕ → Traced → Finished → List ℕ → Type 0

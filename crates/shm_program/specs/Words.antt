@@ -6,9 +6,10 @@ use Rattle.clap.specs.Words.{App, Kinds, Row, Rule, fault_of, first_of, found_of
 use Rattle.clap.specs.declared.builder.action.ArgAction.TheVariants.{SetTrue}
 use Rattle.clap.specs.declared.parser.matches.ArgMatches.{ArgMatches}
 use Rattle.shm_script.specs.Numbers.{is_numeral, small, value_after}
+use Rattle.shm_program.specs.declared.words.Form.{Form}
 use Rattle.shm_program.specs.declared.words.Form.TheVariants.{Report, Image}
 use Rattle.shm_program.specs.declared.words.Job.{Job}
-use Rattle.shm_program.specs.declared.words.Job.TheVariants.{Replay, Print, Run, Audit, Migrate, Make, Draw, Poll}
+use Rattle.shm_program.specs.declared.words.Job.TheVariants.{Replay, Print, Run, Rescue, Audit, Migrate, Make, Draw, Poll}
 use Rattle.shm_program.specs.declared.words.Name.{Name}
 use Rattle.shm_program.specs.declared.words.Name.TheVariants as name
 
@@ -30,9 +31,9 @@ valued id = record (new_rule id) { long = Some id }
 abbrev pub replay_command : App
 replay_command = with_rule (with_rule (new_app (codes "replay")) (flag (codes "image"))) (flag (codes "print"))
 
--- `run` has one
+-- `run` has one, and a word behind another one
 abbrev pub run_command : App
-run_command = with_rule (new_app (codes "run")) (flag (codes "image"))
+run_command = with_rule (with_rule (new_app (codes "run")) (flag (codes "image"))) (valued (codes "medics"))
 
 -- `audit` has nothing but what each command has
 abbrev pub audit_command : App
@@ -86,13 +87,30 @@ replay_of true true = None
 abbrev pub replay_in : List Row → Option Job
 replay_in rows = replay_of (is_true (first_of (codes "image") rows)) (is_true (first_of (codes "print") rows))
 
--- `run` by its flag `--image`
-abbrev pub run_of : Bool → Job
-run_of false = Run Report
-run_of true = Run Image
+-- the form that the flag `--image` asks for
+abbrev pub form_of : Bool → Form
+form_of false = Report
+form_of true = Image
+
+-- how many threads may recover who dies
+abbrev pub is_medics : ℕ → Bool
+is_medics n = nat_le 1 n && nat_le n 4
+
+abbrev pub medics_of : Option ℕ → Option ℕ
+medics_of None = None
+medics_of (Some n) = if is_medics n then Some n else None
+
+-- `run` by its form and its number, which may be missing
+abbrev pub run_by : Form → Bool → Option ℕ → Option Job
+run_by form false medics = Some (Run form)
+run_by form true (Some k) = Some (Rescue form k)
+run_by form true None = None
+
+abbrev pub run_of : Bool → Bool → Option ℕ → Option Job
+run_of image rescued medics = run_by (form_of image) rescued (medics_of medics)
 
 abbrev pub run_in : List Row → Option Job
-run_in rows = Some (run_of (is_true (first_of (codes "image") rows)))
+run_in rows = run_of (is_true (first_of (codes "image") rows)) (is_some (first_of (codes "medics") rows)) (option_and_then number_in (first_of (codes "medics") rows))
 
 abbrev pub audit_in : List Row → Option Job
 audit_in rows = Some Audit
@@ -172,16 +190,22 @@ NamesCommand words = (n : Name) × (first : List ℕ) × (rest : List (List ℕ)
 abbrev pub IsCount : ℕ → Type 0
 IsCount n = (1 ≤ n) × (n ≤ 1000000)
 
+-- threads that recover, 1 to 4
+abbrev pub AreMedics : ℕ → Type 0
+AreMedics n = (1 ≤ n) × (n ≤ 4)
+
 -- a trace is drawn with 1 to 4,000 commands for each client
 abbrev pub JobFits : Job → Type 0
 JobFits (Make start size) = (1 ≤ size) × (size ≤ 4000)
 JobFits (Draw start size) = (1 ≤ size) × (size ≤ 4000)
 JobFits (Poll q limit) = IsCount q × IfSome limit IsCount
+JobFits (Rescue form medics) = AreMedics medics
 JobFits _ = Unit {0}
 
 -- the text that a job writes follows from the bytes that it reads: of all but runs by threads and by polls, whose turns come in any lawful order. These alone may wait
 abbrev pub is_determined : Job → Bool
 is_determined (Run form) = false
+is_determined (Rescue form medics) = false
 is_determined (Poll q limit) = false
 is_determined _ = true
 

@@ -7,11 +7,11 @@ ghost use Rattle.shm_script.specs.declared.fault.TraceFault.{TraceFault as AFaul
 ghost use Rattle.shm_stream.specs.Audits.{IsJudged};
 ghost use Rattle.shm_program.specs.Outcomes.{Answers, IsPrinted};
 ghost use Rattle.shm_program.specs.Refusals.{fault_line};
-ghost use Rattle.shm_program.specs.Words.{IsCount, JobFits, is_determined};
+ghost use Rattle.shm_program.specs.Words.{AreMedics, IsCount, JobFits, is_determined};
 
 use crate::outcome::Finished;
 use crate::refusals::fault_line;
-use crate::telling::{tell, tell_limited, tell_polls, tell_team};
+use crate::telling::{tell, tell_limited, tell_polls, tell_rescue, tell_team};
 use crate::words::{Form, Job};
 use shm_audit::{AuditStop, ImageFault, Verdict, audit, fault_text, verdict_text};
 use shm_migrate::{MigrateStop, migrate, stop_text};
@@ -45,7 +45,7 @@ pub fn answer(alloc: Global, job: Job, bytes: &[u8]) -> Result<Reply, AllocError
             Ok(trace) => print_of(alloc, &trace),
             Err(stop) => refuse(alloc, stop),
         },
-        Job::Run(_) | Job::Poll { .. } => unreachable!(),
+        Job::Run(_) | Job::Rescue { .. } | Job::Poll { .. } => unreachable!(),
         Job::Audit => audit_of(alloc, bytes),
         Job::Migrate => migration_of(alloc, bytes),
         Job::Make { start, size } => tell(alloc, &generate(alloc, start, size)?, Form::Summary),
@@ -67,6 +67,7 @@ pub fn answer_waiting<R: Threads + Wait + Sync + RandomSource + AllocGlobal, G: 
 {
     match job {
         Job::Run(form) => answer_run(rt, alloc, form, bytes, gate),
+        Job::Rescue { form, medics } => answer_rescue(rt, alloc, form, medics, bytes, gate),
         Job::Poll { turns, limit } => answer_poll(rt, alloc, turns, limit, bytes),
         _ => unreachable!(),
     }
@@ -89,6 +90,24 @@ fn answer_poll<R: Wait + RandomSource + AllocGlobal>(
             None => tell_polls(rt, alloc, &trace, turns),
             Some(limit) => tell_limited(rt, alloc, &trace, turns, limit),
         },
+        Err(stop) => refuse(alloc, stop),
+    }
+}
+
+/// What `run --medics K` answers to the bytes that it read: those of a trace are run by clients on threads, and others recover who dies.
+fn answer_rescue<R: Threads + Wait + Sync, G: Gate>(
+    rt: &R,
+    alloc: Global,
+    form: Form,
+    medics: u8,
+    bytes: &[u8],
+    gate: &G,
+) -> Result<Reply, AllocError>
+    requires { AreMedics medics }
+    ensures { IfOk result (λ r. Answers (Job.Rescue form medics) bytes.now r.status r.finished r.text.items) }
+{
+    match parse(alloc, bytes) {
+        Ok(trace) => tell_rescue(rt, alloc, &trace, form, medics, gate),
         Err(stop) => refuse(alloc, stop),
     }
 }

@@ -9,6 +9,7 @@
 mod answer;
 mod auditing;
 pub mod command;
+mod gate;
 pub mod image_laws;
 pub mod laws;
 pub mod outcome;

@@ -1,6 +1,7 @@
 //! What a call of the program comes to.
 
 use shm_async::Polled;
+use shm_morgue::Rescued;
 use shm_replay::Replayed;
 use shm_team::Ran;
 
@@ -21,6 +22,8 @@ pub enum Finished {
     Replayed(Replayed),
     /// The run of a trace by clients on threads.
     Ran(Ran),
+    /// The run of a trace by clients on threads, of which those that died were recovered by other threads.
+    Rescued(Rescued),
     /// The run of a trace by clients that were polled.
     Polled(Polled),
 }

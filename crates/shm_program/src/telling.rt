@@ -6,14 +6,16 @@ ghost use Rattle.shm_graph.specs.declared.table.Entry.{Entry as AnEntry};
 ghost use Rattle.shm_graph.specs.Spots.{see};
 ghost use Rattle.shm_graph.specs.Tables.{IsTable};
 ghost use Rattle.shm_report.specs.PoolWords.{IsCleanPool};
-ghost use Rattle.shm_program.specs.Replays.{IsPollTold, IsTeamTold, IsTold, written};
-ghost use Rattle.shm_program.specs.Words.{IsCount};
+ghost use Rattle.shm_program.specs.Replays.{IsPollTold, IsRescueTold, IsTeamTold, IsTold, written};
+ghost use Rattle.shm_program.specs.Words.{AreMedics, IsCount};
 
 use crate::answer::Reply;
+use crate::gate::ByGate;
 use crate::outcome::Finished;
 use crate::words::Form;
 use shm_async::{run_async, run_limited};
 use shm_audit::write_image;
+use shm_morgue::run_morgue;
 use shm_replay::replay;
 use shm_report::{report, summary};
 use shm_script::{Log, Trace};
@@ -55,6 +57,28 @@ pub fn tell_team<R: Threads + Wait + Sync, G: Gate>(
         status: 0,
         text,
         finished: Finished::Ran(run),
+    })
+}
+
+/// Runs a trace by clients on threads, with others that recover who dies, and answers with what is to be written of the run.
+pub fn tell_rescue<R: Threads + Wait + Sync, G: Gate>(
+    rt: &R,
+    alloc: Global,
+    trace: &Trace,
+    form: Form,
+    medics: u8,
+    gate: &G,
+) -> Result<Reply, AllocError>
+    requires { AreMedics medics }
+    ensures { IfOk result (λ r. (r.status ≡ 0) × IsRescueTold form trace.now r.finished r.text.items) }
+{
+    let run = run_morgue(rt, alloc, trace, medics, &ByGate { gate })?;
+    let closed = &run.closed;
+    let text = written(alloc, form, closed.geometry(), closed.words(), &run.logs)?;
+    Ok(Reply {
+        status: 0,
+        text,
+        finished: Finished::Rescued(run),
     })
 }
 

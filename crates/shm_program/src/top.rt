@@ -24,14 +24,14 @@ const TRACE_LIMIT: usize = 1_048_577;
 const IMAGE_LIMIT: usize = 132_185_377;
 
 const USAGE: &str =
-    "usage: cxlshm replay [--image|--print] | run [--image] | audit | make START SIZE [--print] | migrate | poll Q [--limit P]\n";
+    "usage: cxlshm replay [--image|--print] | run [--image] [--medics K] | audit | make START SIZE [--print] | migrate | poll Q [--limit P]\n";
 
 /// Does what the words say.
 ///
 /// - `replay` reads a trace to its end, replays it, closes the pool and writes the report; `replay --image` writes the image of the closed
 ///   pool; `replay --print` writes the trace as it is printed, without a replay.
 /// - `run` reads a trace to its end, has clients on threads run it, closes the pool and writes the report; `run --image` writes the image of
-///   the closed pool.
+///   the closed pool. With `--medics K`, 1 to 4, who dies is recovered by K threads beside those of the clients.
 /// - `audit` reads an image to its end and writes the verdict on it. Each verdict has status 0.
 /// - `migrate` reads an image of format 1 to its end, whose verdict must be that its pool is clean, and writes the image of that pool in
 ///   format 2.
@@ -132,7 +132,9 @@ fn limit_of(job: Job) -> usize
     ensures { result ≡ limit_of job }
 {
     match job {
-        Job::Replay(_) | Job::Print | Job::Run(_) | Job::Poll { .. } => TRACE_LIMIT,
+        Job::Replay(_) | Job::Print | Job::Run(_) | Job::Rescue { .. } | Job::Poll { .. } => {
+            TRACE_LIMIT
+        }
         Job::Audit | Job::Migrate => IMAGE_LIMIT,
         Job::Make { .. } | Job::Draw { .. } => 0,
     }

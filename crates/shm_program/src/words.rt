@@ -5,7 +5,7 @@ ghost use Rattle.std.specs.Option.{is_some};
 ghost use Rattle.std.specs.String.{string_bytes};
 ghost use Rattle.clap.specs.Words.{app_of, first_value, found_of, is_simple_and_free};
 ghost use Rattle.shm_script.specs.Numbers.{is_numeral, leads_well};
-ghost use Rattle.shm_program.specs.Words.{IsCount, JobFits, NamesCommand, asked, audit_command, audit_in, count_of, is_determined, is_true, job_by, job_of, make_command, make_in, make_of, migrate_command, migrate_in, name_of, number_in, poll_command, poll_in, poll_of, read_by, replay_command, replay_in, replay_of, rows_in, run_command, run_in, run_of};
+ghost use Rattle.shm_program.specs.Words.{AreMedics, IsCount, JobFits, NamesCommand, asked, audit_command, audit_in, count_of, is_determined, is_true, job_by, job_of, make_command, make_in, make_of, medics_of, migrate_command, migrate_in, name_of, number_in, poll_command, poll_in, poll_of, read_by, replay_command, replay_in, replay_of, rows_in, run_command, run_in, run_of};
 
 use clap::error::ErrorKind;
 use clap::{Arg, ArgAction, ArgMatches, Command};
@@ -31,6 +31,8 @@ pub enum Job {
     Print,
     /// `run` and `run --image`: a trace is read and run by clients on threads.
     Run(Form),
+    /// `run --medics K`, with `--image` or without: the same, and who dies is recovered by K threads of their own.
+    Rescue { form: Form, medics: u8 },
     /// `audit`: an image is read, and the verdict on it is written.
     Audit,
     /// `migrate`: an image of format 1 is read, and that of its pool in format 2 is written.
@@ -59,7 +61,7 @@ impl Job {
     pub fn may_wait(&self) -> bool
         ensures { result ≡ not (is_determined self.now) }
     {
-        matches!(self, Job::Run(_) | Job::Poll { .. })
+        matches!(self, Job::Run(_) | Job::Rescue { .. } | Job::Poll { .. })
     }
 }
 
@@ -160,32 +162,50 @@ fn run_job(alloc: Global, words: &[String]) -> Result<Option<Job>, AllocError>
     ensures fits { IfOk result (λ job. IfSome job JobFits) }
 {
     match read(run_command(alloc)?, words)? {
-        Some(matches) => Ok(Some(run_of(is_set(&matches, "image")))),
+        Some(matches) => Ok(run_of(
+            is_set(&matches, "image"),
+            is_given(&matches, "medics"),
+            number_of(&matches, "medics"),
+        )),
         None => Ok(None),
     }
 }
 
-/// The command `run`, which has one flag.
+/// The command `run`, which has a flag, and a word behind another one.
 fn run_command<'a>(alloc: Global) -> Result<Command<'a>, AllocError>
     ensures { IfOk result (λ c. app_of c ≡ run_command) }
 {
     let image = Arg::new(alloc, "image")
         .long("image")
         .action(ArgAction::SetTrue);
-    let command = Command::new(alloc, "run").arg(image)?;
+    let medics = Arg::new(alloc, "medics").long("medics");
+    let command = Command::new(alloc, "run").arg(image)?.arg(medics)?;
     Ok(command)
 }
 
-/// What `run` is asked for by its flag.
-fn run_of(image: bool) -> Job
-    ensures job { result ≡ run_of image }
-    ensures fits { JobFits result }
+/// What `run` is asked for by its flag and its number, which may be missing.
+fn run_of(image: bool, rescued: bool, medics: Option<u64>) -> Option<Job>
+    ensures job { result ≡ run_of image rescued medics }
+    ensures fits { IfSome result JobFits }
 {
-    if image {
-        Job::Run(Form::Image)
-    } else {
-        Job::Run(Form::Report)
+    let form = if image { Form::Image } else { Form::Report };
+    if !rescued {
+        return Some(Job::Run(form));
     }
+    let medics = medics_of(medics)?;
+    Some(Job::Rescue { form, medics })
+}
+
+/// A number of threads that recover.
+fn medics_of(number: Option<u64>) -> Option<u8>
+    ensures medics { result ≡ medics_of number }
+    ensures fits { IfSome result AreMedics }
+{
+    let number = number?;
+    if number < 1 || 4 < number {
+        return None;
+    }
+    Some(number as u8)
 }
 
 /// What the words of `audit` ask for.
@@ -379,6 +399,11 @@ pub fn words_of_jobs()
     ensures more { job_of (codes "replay" ∷ codes "replay" ∷ []) ≡ None }
     ensures run { job_of (codes "run" ∷ []) ≡ Some (Job.Run Form.Report) }
     ensures run_image { job_of (codes "run" ∷ codes "--image" ∷ []) ≡ Some (Job.Run Form.Image) }
+    ensures run_medics { job_of (codes "run" ∷ codes "--medics" ∷ codes "2" ∷ []) ≡ Some (Job.Rescue Form.Report 2) }
+    ensures run_rescued { job_of (codes "run" ∷ codes "--image" ∷ codes "--medics" ∷ codes "4" ∷ []) ≡ Some (Job.Rescue Form.Image 4) }
+    ensures run_equals { job_of (codes "run" ∷ codes "--medics=3" ∷ []) ≡ Some (Job.Rescue Form.Report 3) }
+    ensures run_none { job_of (codes "run" ∷ codes "--medics" ∷ codes "0" ∷ []) ≡ None }
+    ensures run_many { job_of (codes "run" ∷ codes "--medics" ∷ codes "5" ∷ []) ≡ None }
     ensures run_print { job_of (codes "run" ∷ codes "--print" ∷ []) ≡ None }
     ensures audit { job_of (codes "audit" ∷ []) ≡ Some Job.Audit }
     ensures audit_more { job_of (codes "audit" ∷ codes "--print" ∷ []) ≡ None }

@@ -38,6 +38,26 @@ pub returns-clause-run_image : goal.returns-clause-run_image
 unfolding clap_on_literals
 returns-clause-run_image c = refl
 
+pub returns-clause-run_medics : goal.returns-clause-run_medics
+unfolding clap_on_literals
+returns-clause-run_medics c = refl
+
+pub returns-clause-run_rescued : goal.returns-clause-run_rescued
+unfolding clap_on_literals
+returns-clause-run_rescued c = refl
+
+pub returns-clause-run_equals : goal.returns-clause-run_equals
+unfolding clap_on_literals
+returns-clause-run_equals c = refl
+
+pub returns-clause-run_none : goal.returns-clause-run_none
+unfolding clap_on_literals
+returns-clause-run_none c = refl
+
+pub returns-clause-run_many : goal.returns-clause-run_many
+unfolding clap_on_literals
+returns-clause-run_many c = refl
+
 pub returns-clause-run_print : goal.returns-clause-run_print
 unfolding clap_on_literals
 returns-clause-run_print c = refl
