@@ -5,12 +5,14 @@
 //! the one is the other; and nothing to standard output. With status 1 something failed, and the figures say nothing.
 //!
 //! `rt run costs -- soak SECONDS` plays rounds of clients that die and are recovered (soak.rt), and ends with status 1 where one left a pool that
-//! isn't clean. `rt run costs -- polls SECONDS` does so with clients that are polled (polls.rt).
+//! isn't clean. `rt run costs -- polls SECONDS` does so with clients that are polled (polls.rt), and `rt run costs -- medics SECONDS` with clients
+//! that other threads recover (medics.rt).
 #![tactic(auto)]
 
 mod audit;
 mod commands;
 mod leaving;
+mod medics;
 mod polls;
 mod script;
 mod shared;
@@ -22,6 +24,7 @@ mod wide;
 
 use shm_words::Geometry;
 use std::process::ExitCode;
+use std::sync::Wait;
 use std::thread::Threads;
 use std::{env, io};
 
@@ -59,7 +62,7 @@ fn time_parts<R: Threads + Sync>(rt: &HostRuntime, threads: &R) -> io::Result<bo
 }
 
 /// Soaks for so many seconds in the way that is named; false where there is none of this name, or the text is no number.
-fn soak_for<R: Threads + Sync>(
+fn soak_for<R: Threads + Wait + Sync>(
     rt: &HostRuntime,
     threads: &R,
     name: &str,
@@ -68,12 +71,13 @@ fn soak_for<R: Threads + Sync>(
     match (name, seconds.parse::<u64>()) {
         ("soak", Ok(seconds)) => soak::soak(rt, threads, seconds),
         ("polls", Ok(seconds)) => polls::soak(rt, seconds),
+        ("medics", Ok(seconds)) => medics::soak(rt, threads, seconds),
         _ => Ok(false),
     }
 }
 
 /// Times the part that the word behind the program's name names, and without one all of them.
-fn time_named<R: Threads + Sync>(rt: &HostRuntime, threads: &R) -> io::Result<bool> {
+fn time_named<R: Threads + Wait + Sync>(rt: &HostRuntime, threads: &R) -> io::Result<bool> {
     let mut words = env::args(rt)?;
     let _name = words.next();
     match (words.next(), words.next()) {
