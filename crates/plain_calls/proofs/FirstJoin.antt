@@ -1,5 +1,5 @@
 -- an identity of a pool that nobody has joined may join
-use Rattle.std.proofs.Common.{◌≡◌, ℕ, ◌+◌, ◌<◌, ◌&&◌, Bool, false, refl, sym, ap, ◌∙◌, subst, arith, inl, cond}
+use Rattle.std.proofs.Common.{◌≡◌, ℕ, ◌+◌, ◌<◌, ◌&&◌, Bool, true, false, refl, sym, ap, ◌∙◌, subst, arith, inl, cond, length}
 use Rattle.std.proofs.lemmas.Bool.{eq-eqb}
 use Rattle.shm_words.specs.Layout.{GeometryFits}
 use Rattle.shm_graph.specs.declared.ask.Me.{Me}
@@ -8,13 +8,18 @@ use Rattle.shm_graph.specs.declared.run.Account.{Account}
 use Rattle.shm_graph.specs.declared.run.Start.{Start}
 use Rattle.shm_graph.specs.declared.spot.Spot.TheVariants.{Era}
 use Rattle.shm_graph.specs.Views.{own_word}
-use Rattle.shm_graph.specs.Asks.{call_before}
-use Rattle.shm_graph.specs.Agents.{acts, entered}
+use Rattle.shm_graph.specs.Asks.{Trail, call_before}
+use Rattle.shm_graph.specs.Agents.{acts, entered, steps_made}
 use Rattle.shm_graph.specs.Runs.{MayBegin, first_account, first_memo}
+use Rattle.shm_graph.proofs.Memos.MemoSteps.{steps_entered}
 use Rattle.shm_graph.proofs.States.FirstHeld.{at-accounts_from, length-accounts_from}
-use Rattle.shm_recover.specs.Join.{JoinFits, is_start, join_fresh}
+use Rattle.shm_recover.specs.declared.join.JoinPoint.{JoinPoint}
+use Rattle.shm_recover.specs.declared.join.JoinPoint.TheVariants.{Over, Start as Begun}
+use Rattle.shm_recover.specs.declared.join.JoinState.{JoinState}
+use Rattle.shm_recover.specs.Join.{JoinFits, is_over, is_start, join_fresh}
 use Rattle.shm_recover.specs.Join.Keeps.{join_begins}
-use Rattle.shm_plain.specs.Pools.{first_pool, memo_of, readied, MayStep}
+use Rattle.shm_plain.specs.Calls.{Ran}
+use Rattle.shm_plain.specs.Pools.{Pool, first_pool, memo_of, readied, MayStep}
 use Rattle.shm_plain.specs.Tracks.{kind_next}
 use Rattle.shm_plain.proofs.Turning.{ready_memo}
 
@@ -37,3 +42,28 @@ pub join_fits : (s : Start) (c : ℕ) → GeometryFits s.geometry → c < s.geom
 join_fits s c fits l =
     let me : Me = record { geometry = s.geometry; who = c } in
     join_begins me (memo_of (readied (first_pool s) c) c) (record { member = record { geometry = fits; who = l }; status = inl (ap (λ (m : Memo). m.status) (ready_first s c l)) })
+
+pub long_first : (s : Start) (c : ℕ) → c < s.geometry.clients → c < length (first_pool s).accounts
+long_first s c l = subst (λ (n : ℕ). c < n) (sym (length-accounts_from s 0 s.geometry.clients)) l
+
+-- the agent that begins has made no word step
+ready_steps : (p : Pool) (c : ℕ) → c < length p.accounts → steps_made (memo_of (readied p c) c) ≡ steps_made (memo_of p c)
+ready_steps p c l = ap steps_made (ready_memo p c l) ∙ by (acts (memo_of p c))
+  where
+    by : (b : Bool) → let m = memo_of p c in steps_made (cond b m (entered (kind_next m) m)) ≡ steps_made m
+    by true = refl
+    by false = steps_entered (kind_next (memo_of p c)) (memo_of p c)
+
+-- a join that isn't over has made no word step, so that none was left
+pub join_over : (c : ℕ) (p q : Pool) (x y : ℕ) (fresh : Bool) (m : JoinState) (tr : Trail) → c < length p.accounts → c < length q.accounts → Ran c fresh false p q x y → is_over m.point ≡ false → JoinFits m (memo_of (readied p c) c) (memo_of (readied q c) c) tr → x ≡ 0
+join_over c p q x y fresh m tr before after ran going fits =
+    let same : steps_made (memo_of (readied q c) c) ≡ steps_made (memo_of (readied p c) c) = ap steps_made (fits.start (started m.point going)).0 in
+    let old = ready_steps p c before in
+    let new = ready_steps q c after in
+    let made = ran.made in
+    let none = ran.died refl in
+    omega (arith, same, old, new, made, none)
+  where
+    started : (z : JoinPoint) → is_over z ≡ false → z ≡ Begun
+    started Begun e = refl
+    started Over e = cc

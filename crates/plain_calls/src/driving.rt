@@ -1,6 +1,6 @@
 //! Pools that an identity has just joined.
 
-ghost use Rattle.std.specs.Prelude.{◌≡◌, ◌≢◌, ℕ, ◌+◌, ◌<◌, false, true, [], IfOk, IfSome, IsNone};
+ghost use Rattle.std.specs.Prelude.{◌≡◌, ◌≢◌, ℕ, ◌+◌, ◌<◌, false, true, [], IfOk, IfSome, IsNone, IsSome};
 ghost use Rattle.shm_words.specs.Layout.{GeometryFits};
 ghost use Rattle.shm_graph.specs.declared.spot.Spot.TheVariants.{Era, Root};
 ghost use Rattle.shm_graph.specs.declared.memo.Kind.TheVariants.{Client};
@@ -18,7 +18,7 @@ use shm_recover::Join;
 use shm_words::Geometry;
 use std::alloc::{AllocError, Global};
 
-/// Makes a pool and runs a join of `who` on it; none where no word step was left.
+/// Makes a pool and runs a join of `who` on it; none exactly where no word step was left.
 pub fn joined(
     alloc: Global,
     geometry: Geometry,
@@ -37,6 +37,7 @@ pub fn joined(
     ensures gives { IfOk result (λ o. IfSome o (λ p. JoinGives (join_fresh (record { geometry = geometry; who = who })) (entered Client (first_memo p.start who)) (memo_of p who) (memo_of p who).call tt)) }
     ensures others { IfOk result (λ o. IfSome o (λ p. (d : ℕ) → d < geometry.clients → d ≢ who → memo_of p d ≡ first_memo p.start d)) }
     ensures died { IfOk result (λ o. IsNone o → life.new.left ≡ 0) }
+    ensures answers { IfOk result (λ o. 0 < life.old.left → IsSome o) }
     ensures spent { IfOk result (λ o. IfSome o (λ p. life.new.left + 1 ≡ life.old.left)) }
     ensures run { IfOk result (λ o. IfSome o IsRun) }
     ensures at_work { IfOk result (λ o. IfSome o (λ p. IsAtWork who p)) }

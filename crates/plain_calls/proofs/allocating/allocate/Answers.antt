@@ -30,7 +30,7 @@ knows c = search rules
 asked : (c : In_ok-alloc) → IsAsked c.args.pool.now.start.geometry c.args.who c.args.refs c.args.plain.now c.in_ok-alloc.alloc
 asked c =
     let q = c.in_ok-alloc.ensures.request in
-    record { me = c.in_ok-alloc.ensures.fresh.0 ∙ c.me.ensures.is; point = c.in_ok-alloc.ensures.fresh.1; refs = q.0; count = q.1; plain = q.2 }
+    record { me = c.in_ok-alloc.ensures.fresh.0 ∙ c.me.ensures.is; point = c.in_ok-alloc.ensures.fresh.1; refs = q.0; count = q.1; plain = q.2; fits = (knows c).request }
 
 pub run-requires-clause-me : goal.run-requires-clause-me
 run-requires-clause-me c = (asked (goal.at.run-requires-clause-me c).In_ok-alloc).me

@@ -1,4 +1,4 @@
-use Rattle.std.proofs.Common.{◌≡◌, ℕ, ◌+◌, ◌<◌, Bool, true, [], List, length, refl, sym, ap, ◌∙◌, subst}
+use Rattle.std.proofs.Common.{◌≡◌, ℕ, ◌+◌, ◌<◌, Bool, true, [], List, length, refl, sym, ap, ◌∙◌, subst, arith}
 use Rattle.shm_graph.specs.declared.memo.Kind.TheVariants.{Client}
 use Rattle.shm_graph.specs.declared.memo.Memo.{Memo}
 use Rattle.shm_graph.specs.declared.memo.Status.TheVariants.{Live, Gone}
@@ -16,8 +16,9 @@ use Rattle.shm_plain.specs.Pools.{Pool, first_pool, memo_of, readied, MayStep}
 use Rattle.shm_plain.specs.Calls.{Did, Ran}
 use Rattle.shm_words.specs.Layout.{GeometryFits}
 use Rattle.shm_graph.specs.Events.{Event}
+use Rattle.plain_calls.proofs.Cut.{long}
 use Rattle.plain_calls.proofs.JoinEvents.{join_tells, none_along, none_of}
-use Rattle.plain_calls.proofs.FirstJoin.{may_first, join_fits, memo_first, ready_first, first_own_era}
+use Rattle.plain_calls.proofs.FirstJoin.{may_first, join_fits, join_over, long_first, memo_first, ready_first, first_own_era}
 use Rattle.plain_calls.proofs.driving.joined.Goals.{After-new-join, In-Some}
 use Rattle.plain_calls.proofs.driving.joined.Goals as goal
 
@@ -130,3 +131,17 @@ returns-in-Some-clause-spent c =
     let at = (goal.at.returns-in-Some-clause-spent c).In-Some in
     let one : length (memo_of c.call.new.self c.args.who).call ≡ 1 = ap (λ (tr : Trail). length tr) (gives at).trail in
     ap (λ (n : ℕ). c.call.new.life.left + n) (sym one) ∙ (ran at).spent refl refl
+
+pub returns-in-None-clause-answers : goal.returns-in-None-clause-answers
+returns-in-None-clause-answers c some =
+    let s : Start = record { geometry = c.args.geometry; first_era = c.args.first_era; tables = c.args.tables } in
+    let who = c.args.who in
+    let p = c.in_ok-pool.pool in
+    let q = c.call.new.self in
+    let ran = c.in-None.ensures.ran in
+    let cut = c.in-None.ensures.cut refl in
+    let before : who < length p.accounts = subst (λ (z : Pool). who < length z.accounts) (sym c.in_ok-pool.ensures.first) (long_first s who c.requires.who) in
+    let there : who < p.start.geometry.clients = subst (λ (z : Pool). who < z.start.geometry.clients) (sym c.in_ok-pool.ensures.first) c.requires.who in
+    let fits = cut.1 (memo_of (readied p who) who) (fit (goal.at.returns-in-None-clause-answers c).After-new-join) in
+    let none = join_over who p q c.args.life.now.left c.call.new.life.left (join_control.fresh c.new-join.result) c.call.new.m _ before (long who p q ran.start ran.run there) ran cut.0 fits in
+    absurd (omega (arith, none, some))
