@@ -1,0 +1,224 @@
+-- One level of a tree without a key, over what stays below it, if anything.
+use Rattle.std.proofs.Common.{◌≡◌, ◌≢◌, ◌==◌, ℕ, zero, suc, cond, ◌+◌, ◌*◌, ◌-◌, ◌≤◌, nat_lt, refl, sym, ap, ◌∙◌, subst, arith, inl, inr}
+use Rattle.std.specs.Prelude.{IfSome, Option, None, Some}
+use Rattle.std.proofs.lemmas.Bool.{cases_eq, cond-true, eq-eqb}
+use Rattle.shm_graph.specs.declared.spot.Spot.TheVariants.{Body}
+use Rattle.shm_graph.specs.References.{one_if, sum_below}
+use Rattle.shm_plain.specs.Pools.{IsRun, Pool}
+use Rattle.shm_count.specs.declared.answer.Made.{Made}
+use Rattle.shm_tree.specs.declared.node.Content.{Content}
+use Rattle.shm_tree.specs.declared.node.Side.{Side}
+use Rattle.shm_tree.specs.declared.node.Side.TheVariants.{Left, Right}
+use Rattle.shm_tree.specs.Bounds.{fall_steps}
+use Rattle.shm_tree.specs.Building.{IsAtHand, IsBuilt, IsCut, IsHeld, IsRebuilt, StandsOf, block_of, joined_by, named_by, rooms}
+use Rattle.shm_tree.specs.Inserting.{IsRegistered, side_of}
+use Rattle.shm_tree.specs.Keeping.{IsShared, IsStill, KeepsTrees, child_of, node_by, other_side}
+use Rattle.shm_tree.specs.Living.{KeepsLives}
+use Rattle.shm_tree.specs.Removing.{IsKept, StandsAgain, StandsMoved, content_in, content_or, rest, side_tree}
+use Rattle.shm_tree.specs.Sharing.{IsSharingOver, KeepsBlocks, weight}
+use Rattle.shm_tree.specs.Spending.{HasSpent}
+use Rattle.shm_tree.specs.Standing.{Stands, word_of}
+use Rattle.shm_tree.specs.Trees.{Tree, Empty, Node, IsSearch, found}
+use Rattle.shm_tree.specs.Ways.{IsEnd, IsLast, IsPlace, IsSome, down}
+use Rattle.shm_tree.specs.Working.{AreSameRoots, IsSameLatch, IsWorking, Went}
+use Rattle.shm_tree.proofs.Building.{built_after, built_cut, made_more, none_stands, root_reached, rooms_rooted, still_cut, cut_then}
+use Rattle.shm_tree.proofs.Inserting.{built_held, built_up, held_kept, sided}
+use Rattle.shm_tree.proofs.Levels.{IsWay, down_more, way_is}
+use Rattle.shm_tree.proofs.Lights.{blocks_up}
+use Rattle.shm_tree.proofs.Nodes.{made_then}
+use Rattle.shm_tree.proofs.Rotations.{content_is, parts}
+use Rattle.shm_tree.proofs.Growing.{down_tree}
+use Rattle.shm_tree.proofs.Ways.{down_found, tree_is}
+use Rattle.shm_tree.proofs.Weights.{weight_nodes}
+
+-- ---- a tree or none
+
+pub kept_cut : {n : ℕ} {p q : Pool} (o : Option Made) → IsKept n o p q → IsCut n p q
+kept_cut None h = h.0
+kept_cut (Some m) h = built_cut h
+
+pub kept_none : {p q : Pool} → IsStill p q → IsKept 0 None p q
+kept_none s = (still_cut s, s.roots)
+
+pub kept_share : {m : Made} {p q : Pool} (b : ℕ) → m.block ≡ b → b ≢ 0 → IsShared m.root b p q → IsKept 0 (Some m) p q
+kept_share {m = m} {p = p} {q = q} b is some s =
+    record {
+      rooted = record { low = s.rooted.low; empty = s.rooted.empty; names = s.rooted.names ∙ sym is; others = s.rooted.others };
+      some = λ e. some (sym is ∙ e);
+      trees = λ j t low h. s.trees (named_by p j) t h;
+      made = s.made;
+    }
+
+-- as many blocks, or more
+pub kept_more : (p q : Pool) (n k : ℕ) (o : Option Made) → n ≤ k → IsKept n o p q → IsKept k o p q
+kept_more p q n k None le h = (record { trees = h.0.trees; roots = h.0.roots; made = made_more n k p q h.0.made le }, h.1)
+kept_more p q n k (Some m) le h = record { rooted = h.rooted; some = h.some; trees = h.trees; made = made_more n k p q h.made le }
+
+-- after calls that read
+pub kept_after : (n : ℕ) (p q r : Pool) (o : Option Made) → IsRun p → IsRun q → q.start ≡ p.start → IsStill p q → IsKept n o q r → IsKept n o p r
+kept_after n p q r None hp hq start a h =
+    (let c = cut_then hp hq start (still_cut a) h.0 in record { trees = c.trees; roots = c.roots; made = made_more (0 + n) n p r c.made (omega arith) }, λ k. h.1 k ∙ a.roots k)
+kept_after n p q r (Some m) hp hq start a h = built_after hp hq start a h
+
+pub kept_held : (n : ℕ) (p q : Pool) (o : Option Made) (u : Tree) → IsKept n o p q → Stands q (block_of o) u → IfSome o (IsHeld q)
+kept_held n p q None u h st = tt
+kept_held n p q (Some m) u h st = built_held u h st
+
+pub some_held : {p q : Pool} (o : Option Made) → IsStill p q → IfSome o (IsHeld p) → IfSome o (IsHeld q)
+some_held None s h = tt
+some_held (Some m) s h = held_kept s h
+
+same_below : (p q : Pool) (n : ℕ) → AreSameRoots p q → sum_below n (λ j. one_if (named_by q j == 0)) ≡ sum_below n (λ j. one_if (named_by p j == 0))
+same_below p q zero h = refl
+same_below p q (suc n) h =
+    let a = same_below p q n h in
+    let e : one_if (named_by q n == 0) ≡ one_if (named_by p n == 0) = ap (λ (x : ℕ). one_if (x == 0)) (h n) in
+    omega arith
+
+same_rooms : (p q : Pool) → AreSameRoots p q → rooms q ≡ rooms p
+unfolding rooms
+same_rooms p q s = same_below p q 16 s
+
+-- rooms for three more where there were four
+pub kept_rooms : (n : ℕ) (p q : Pool) (o : Option Made) → IsKept n o p q → 4 ≤ rooms p → 3 ≤ rooms q
+kept_rooms n p q None h room = let same = same_rooms p q h.1 in omega (arith, same, room)
+kept_rooms n p q (Some m) h room = let less = rooms_rooted h.rooted in omega (arith, less, room)
+
+-- what a root names stands once calls were cut, and is at hand
+pub cut_stands : {p q : Pool} {b n : ℕ} (t : Tree) → IsRegistered p b → IsCut n p q → Stands p b t → Stands q b t
+cut_stands {p = p} {q = q} {b = b} t g h s =
+    elim (cases_eq b 0) [
+      | inl e ↦ none_stands p q b t e s
+      | inr d ↦ (let k = g.named d in subst (λ (d : ℕ). Stands q d t) k.2 (h.trees k.0 t k.1 (subst (λ (d : ℕ). Stands p d t) (sym k.2) s)))
+    ]
+
+pub cut_at_hand : {p q : Pool} {b n : ℕ} → IsRegistered p b → IsCut n p q → IsWorking q → IsAtHand q b
+cut_at_hand {p = p} {q = q} {b = b} g h w =
+    ((g.tree.0, cut_stands g.tree.0 g h g.tree.1.stands), λ some. (let k = g.named some in root_reached q k.0 b w k.1 (h.roots k.0 (λ e. some (sym k.2 ∙ e)) ∙ k.2) some))
+
+-- ---- one level more
+
+-- over what stays below it, if anything, after calls that read
+pub kept_up : (n : ℕ) {m : Made} {p q r s : Pool} (o : Option Made) → IsRun p → IsRun q → q.start ≡ p.start → IsRun r → r.start ≡ q.start → IsKept n o p q → IsStill q r → IsRebuilt 3 o m r s → IsBuilt (n + 3) m p s
+kept_up n (Some low) hp hq start hr onward a i b = built_up hp hq start hr onward a i b
+kept_up n {m = m} {p = p} {q = q} {r = r} {s = s} None hp hq start hr onward a i b =
+    let same : (j : ℕ) → named_by r j ≡ named_by p j = λ j. i.roots j ∙ a.1 j in
+    let all = cut_then hp hq start a.0 (still_cut i) in
+    record {
+      rooted = record { low = b.low; empty = sym (same m.root) ∙ b.empty; names = b.names; others = λ j h. b.others j h tt ∙ same j };
+      some = b.some;
+      trees = λ j t h st. subst (λ (k : ℕ). Stands s k t) (same j) (b.trees j t h tt (subst (λ (k : ℕ). Stands r k t) (sym (same j)) (all.trees j t h st)));
+      made = made_more ((n + 0) + 3) (n + 3) p s (made_then (n + 0) 3 p r s hp hr (onward ∙ start) all.made b.made) (omega arith);
+    }
+
+pub kept_blocks_up : (n : ℕ) {m : Made} {p q r s : Pool} (o : Option Made) → IsKept n o p q → KeepsBlocks p q → IsStill q r → IsSharingOver o m r s → KeepsBlocks p s
+kept_blocks_up n (Some low) a blocks i b = blocks_up a blocks i b
+kept_blocks_up n {p = p} {q = q} {r = r} {s = s} None a blocks i b =
+    λ f j t h st.
+    let same : named_by r j ≡ named_by p j = i.roots j ∙ a.1 j in
+    let there : Stands q (named_by p j) t = a.0.trees j t h st in
+    let more : weight f s (named_by p j) t ≡ weight f r (named_by p j) t = subst (λ (k : ℕ). weight f s k t ≡ weight f r k t) same (b.blocks f j t h tt (subst (λ (k : ℕ). Stands r k t) (sym same) (i.trees (named_by p j) t there))) in
+    more ∙ (weight_nodes f q r i.nodes (named_by p j) t there ∙ blocks f j t h st)
+
+-- ---- the call for one level
+
+pub rebuilt_over_after : {n : ℕ} {m : Made} {p q r : Pool} (o : Option Made) → IsRun p → IsRun q → q.start ≡ p.start → IsStill p q → IsRebuilt n o m q r → IsRebuilt n o m p r
+rebuilt_over_after {n = n} {p = p} {q = q} {r = r} o hp hq start a b =
+    record {
+      low = b.low;
+      some = b.some;
+      empty = sym (a.roots _) ∙ b.empty;
+      names = b.names;
+      left = b.left;
+      others = λ j h i. b.others j h i ∙ a.roots j;
+      trees = λ j t low i s. subst (λ (k : ℕ). Stands r k t) (a.roots j) (b.trees j t low i (subst (λ (k : ℕ). Stands q k t) (sym (a.roots j)) (a.trees (named_by p j) t s)));
+      made = made_more (0 + n) n p r (made_then 0 n p q r hp hq start a.made b.made) (omega arith);
+    }
+
+pub sharing_after_read : {m : Made} {p q r : Pool} (o : Option Made) → IsStill p q → IsSharingOver o m q r → IsSharingOver o m p r
+sharing_after_read {m = m} {p = p} {q = q} {r = r} o still b =
+    record {
+      fresh = sym (still.lives m.block) ∙ b.fresh;
+      blocks =
+          λ f j t low i st.
+          (let there : Stands q (named_by q j) t = subst (λ (d : ℕ). Stands q d t) (sym (still.roots j)) (still.trees (named_by p j) t st) in
+          subst (λ (d : ℕ). weight f r d t ≡ weight f q d t) (still.roots j) (b.blocks f j t low i there) ∙ weight_nodes f p q still.nodes (named_by p j) t st);
+    }
+
+-- a node made again, of which own and side were read
+pub again_up : {p q : Pool} (r : Pool) (x node below m : ℕ) (o : Option Content) (own c : Content) (s : Side) → node ≢ 0 → c ≡ content_or o own → s ≡ side_of x own.key → own.key ≡ word_of p (Body node 2) → own.number ≡ word_of p (Body node 3) → KeepsTrees p q
+    → StandsOf (joined_by s c) (record { near = below; far = child_of q node (other_side s) }) m q r → StandsAgain x o node below m p r
+again_up r x node below m o own c s some told side key number keeps b Empty u sn su = absurd (some sn)
+again_up {p = p} {q = q} r x node below m o own c s some told side key number keeps b (Node k n l w) u sn su =
+    let d : Content = record { key = k; number = n } in
+    let is : own ≡ d = content_is (key ∙ sn.0.key) (number ∙ sn.0.number) in
+    let i : s ≡ side_of x k = side ∙ ap (λ (e : Content). side_of x e.key) is in
+    let near : Tree = cond (nat_lt x k) l w in
+    let far : Tree = cond (nat_lt x k) w l in
+    let here : Stands q node (node_by s d near far) = subst (λ (e : Side). Stands q node (node_by e d near far)) (sym i) (subst (Stands q node) (sided (nat_lt x k) k n l w) (keeps node (Node k n l w) sn)) in
+    let made = b u far (keeps below u su) (parts q node s d near far here).far in
+    subst (λ (e : Content). Stands r m (joined_by (side_of x k) e u far)) (told ∙ ap (content_or o) is) (subst (λ (e : Side). Stands r m (joined_by e c u far)) i made)
+
+-- ---- the lowest level
+
+pub side_stands : (p : Pool) (b : ℕ) (s : Side) (t : Tree) → b ≢ 0 → Stands p b t → Stands p (child_of p b s) (side_tree s t)
+side_stands p b s Empty some st = absurd (some st)
+side_stands p b Left (Node k n l r) some st = st.1
+side_stands p b Right (Node k n l r) some st = st.2
+
+-- ---- how far the levels below came
+
+pub record Falling (x a e d : ℕ) (top : ℕ) (o : Option Made) (p q : Pool) (u v : ℕ) : Type 0 where
+  pub went : Went p q u v
+  pub spent : HasSpent (fall_steps (e - d) e p.start.geometry) p q u v
+  pub working : IsWorking q
+  pub latch : IsSameLatch p q
+  pub low : d ≤ e
+  pub kept : IsKept (3 * (e - d)) o p q
+  pub way : (t : Tree) → Stands p top t → IsWay x a e t
+  pub stands : (t : Tree) → Stands p top t → Stands q (block_of o) (rest x a t d)
+  pub blocks : KeepsBlocks p q
+  pub rests : KeepsLives p q
+
+-- a node stands at a block
+pub some_block : (p : Pool) (b : ℕ) (t : Tree) → Stands p b t → IsSome t → b ≢ 0
+some_block p b Empty st some = absurd some
+some_block p b (Node k n l r) st some = st.0.some
+
+found_here : (x : ℕ) (t : Tree) → IsEnd x t → IsSome t → found x t ≢ None
+found_here x Empty e some = absurd some
+found_here x (Node k n l r) e some =
+    λ none. absurd (some≢none (sym (cond-true (x == k) (Some n) (cond (nat_lt x k) (found x l) (found x r)) (eq-eqb x k e)) ∙ none))
+  where
+    some≢none : Some n ≡ None → ⊥
+    some≢none s = cc
+
+-- the key is there whose node is passed
+pub way_found : {x a e : ℕ} (t : Tree) → IsWay x a e t → found x t ≢ None
+way_found {x = x} {a = a} t w = let low = w.low in λ none. found_here x (down x t a) w.here (w.deep a (omega (arith, low))) (sym (down_found x t a w.on) ∙ none)
+
+-- the way of a key, and where its lowest node stands
+pub lowest_way : {p q r : Pool} {top : ℕ} (x a e node b : ℕ) → IsRegistered p top → a ≤ e → ((t : Tree) → Stands p top t → IsPlace q node x a t) → ((y : ℕ) (u : Tree) → Stands q node u → IsSearch u → IsEnd y u → IsLast r b y (e - a) u) → (t : Tree) → Stands p top t → IsWay x a e t × Stands r b (down x t e)
+lowest_way {p = p} {r = r} {top = top} x a e node b g le place last t st =
+    let i = tree_is p top g.tree.0 t g.tree.1 st in
+    let d = down_tree x t a i.search i.balanced in
+    let w = place t st in
+    let l = last x (down x t a) w.stands d.0 w.end in
+    let is : a + (e - a) ≡ e = omega (arith, le) in
+    (way_is x a e t le d.0 w.on w.end l.deep l.end, subst (Stands r b) (sym (down_more x t a (e - a)) ∙ ap (down x t) is) l.stands)
+
+-- a tree that got a further root
+pub moved_none : (p : Pool) (b : ℕ) → b ≡ 0 → StandsMoved b 0 p p
+moved_none p b e = λ t st. subst (λ (k : ℕ). Stands p k t) e st
+
+pub moved_share : {p q : Pool} (k b m : ℕ) → m ≡ b → IsShared k b p q → StandsMoved b m p q
+moved_share {p = p} {q = q} k b m is s = λ t st. subst (λ (d : ℕ). Stands q d t) (sym is) (s.trees b t st)
+
+-- after calls that read
+pub moved_after : {p q : Pool} (r : Pool) (top from b : ℕ) → IsStill p q → from ≡ top → StandsMoved from b q r → StandsMoved top b p r
+moved_after {p = p} r top from b still is m = λ t st. m t (still.trees from t (subst (λ (k : ℕ). Stands p k t) (sym is) st))
+
+-- the content that was read of a tree's node
+pub content_read : (p : Pool) (b : ℕ) (c : Content) (t : Tree) → b ≢ 0 → c.key ≡ word_of p (Body b 2) → c.number ≡ word_of p (Body b 3) → Stands p b t → c ≡ content_in t
+content_read p b c Empty some key number st = absurd (some st)
+content_read p b c (Node k n l r) some key number st = content_is (key ∙ st.0.key) (number ∙ st.0.number)

@@ -1,0 +1,268 @@
+-- How many blocks a drop of a root tears down: of a tree that stood at the root at most the nodes that are gone.
+use Rattle.std.proofs.Common.{◌≡◌, ◌≢◌, ℕ, zero, suc, ◌+◌, ◌≤◌, add-one, Bool, true, false, List, [], ◌∷◌, ◌++◌, append-nil, length, refl, sym, ap, ◌∙◌, subst, arith, inl, inr, eqb}
+use Rattle.std.specs.Prelude.{Ok, Err}
+use Rattle.std.specs.Cmp.{nat_eq_equiv}
+use Rattle.std.specs.List.{All, Contains, list_any}
+use Rattle.std.proofs.lemmas.Bool.{cases_Bool, eqb-true}
+use Rattle.std.proofs.lemmas.List.Elements.{Contains-append_cases, Contains-append_left, Contains-append_right}
+use Rattle.std.proofs.lemmas.Map.Views.{Contains-from_any, list_any-from_Contains}
+use Rattle.shm_graph.specs.declared.memo.Memo.{Memo}
+use Rattle.shm_graph.specs.declared.spot.Spot.{Spot}
+use Rattle.shm_graph.specs.declared.spot.Spot.TheVariants.{Body, Root}
+use Rattle.shm_graph.specs.Events.{Event, Down, Free}
+use Rattle.shm_graph.proofs.States.Holders.{target_counted}
+use Rattle.shm_plain.specs.Calls.{Did}
+use Rattle.shm_plain.specs.Pools.{Pool, memo_of}
+use Rattle.shm_count.specs.declared.answer.EraSpent.{EraSpent}
+use Rattle.shm_count.specs.Roots.{member, root_word}
+use Rattle.shm_count.specs.Tear.Events.{InOrder, Visit, Walk, Walks, events_of, frees, frees_of}
+use Rattle.shm_count.specs.Tear.Events.Walk.{Fell, Freed, Kept}
+use Rattle.shm_count.proofs.TearWalks.{walk_stopped}
+use Rattle.shm_ref.specs.DropRoot.Control.{dropping}
+use Rattle.shm_ref.specs.DropRoot.{DropLeaves}
+use Rattle.shm_ref.specs.Leaving.{frees-append}
+use Rattle.shm_ref.specs.Lefts.{RootEvents}
+use Rattle.shm_ref.proofs.RefusedDrops.{spent_emptied}
+use Rattle.shm_tree.specs.Keeping.{IsDropped, IsStill, is_live}
+use Rattle.shm_tree.specs.Sharing.{weight}
+use Rattle.shm_tree.specs.Standing.{IsNode, Stands, word_of}
+use Rattle.shm_tree.specs.Tearing.{HasTorn, IsGone}
+use Rattle.shm_tree.specs.Trees.{Tree, Empty, Node, size}
+use Rattle.shm_tree.specs.Working.{IsWorking}
+use Rattle.shm_tree.proofs.Alive.{IsOn, before}
+use Rattle.shm_tree.proofs.Drops.{torn_gone, torn_loses}
+use Rattle.shm_tree.proofs.Losses.{lost_named}
+use Rattle.shm_tree.proofs.Nodes.{IsCalm, body_names, body_past, calm_first, calm_held, names, working_calm}
+use Rattle.shm_tree.proofs.Turns.{did_then}
+
+-- ---- sums
+
+-- of what the two words of a node have, that from word n on
+abbrev from_word : ℕ → ℕ → ℕ → ℕ
+from_word a b zero = a + b
+from_word a b (suc zero) = b
+from_word a b (suc (suc n)) = 0
+
+kept_less : (a b n i : ℕ) → n ≤ i → from_word a b (i + 1) ≤ from_word a b n
+kept_less a b zero zero l = omega arith
+kept_less a b (suc n) zero l = absurd (omega arith)
+kept_less a b n (suc j) l = rw (add-one (suc j)) (omega arith)
+
+fell_first : (a b n : ℕ) → n ≤ 0 → a + from_word a b (0 + 1) ≤ from_word a b n
+fell_first a b zero l = omega arith
+fell_first a b (suc n) l = absurd (omega arith)
+
+fell_second : (a b n : ℕ) → n ≤ 1 → b + from_word a b (1 + 1) ≤ from_word a b n
+fell_second a b zero l = omega arith
+fell_second a b (suc zero) l = omega arith
+fell_second a b (suc (suc n)) l = absurd (omega arith)
+
+-- ---- a walk over a tree
+
+module _ (p : Pool) (calm : IsCalm p) (f : ℕ → ℕ) (es : List Event) (named : (s : Spot) (t : ℕ) → Contains es (Down 0 s t) → (names p s ≡ t) × (t ≢ 0)) (gone : (b : ℕ) → Contains es (Free 0 b) → f b ≡ 1) where
+  -- what the nodes of a tree weigh but for those that its first n words name
+  abbrev tree_from : ℕ → ℕ → Tree → ℕ
+  tree_from n b Empty = 0
+  tree_from n b (Node k m l r) = f b + from_word (weight f p (word_of p (Body b 0)) l) (weight f p (word_of p (Body b 1)) r) n
+
+  tree_whole : (b : ℕ) (t : Tree) → tree_from 0 b t ≤ weight f p b t
+  tree_whole b Empty = omega arith
+  tree_whole b (Node k m l r) = omega arith
+
+  -- by which word it is that named a block that fell
+  fell_by : (i b t n c : ℕ) (k m h : ℕ) (l r : Tree) → IsNode p b k m h → Stands p (word_of p (Body b 0)) l → Stands p (word_of p (Body b 1)) r → (names p (Body b i) ≡ t) × (t ≢ 0) → n ≤ i → ((u : Tree) → Stands p t u → c ≤ weight f p t u)
+      → c + from_word (weight f p (word_of p (Body b 0)) l) (weight f p (word_of p (Body b 1)) r) (i + 1) ≤ from_word (weight f p (word_of p (Body b 0)) l) (weight f p (word_of p (Body b 1)) r) n
+  fell_by zero b t n c k m h l r node left right (is, some) low most =
+      let two = node.refs in
+      let e : t ≡ word_of p (Body b 0) = sym is ∙ body_names p calm b 0 node.live (omega (arith, two)) in
+      let few : c ≤ weight f p (word_of p (Body b 0)) l = subst (λ z. (u : Tree) → Stands p z u → c ≤ weight f p z u) e most l left in
+      let sum = fell_first (weight f p (word_of p (Body b 0)) l) (weight f p (word_of p (Body b 1)) r) n low in
+      omega (arith, few, sum)
+  fell_by (suc zero) b t n c k m h l r node left right (is, some) low most =
+      let two = node.refs in
+      let e : t ≡ word_of p (Body b 1) = sym is ∙ body_names p calm b 1 node.live (omega (arith, two)) in
+      let few : c ≤ weight f p (word_of p (Body b 1)) r = subst (λ z. (u : Tree) → Stands p z u → c ≤ weight f p z u) e most r right in
+      let sum = fell_second (weight f p (word_of p (Body b 0)) l) (weight f p (word_of p (Body b 1)) r) n low in
+      omega (arith, few, sum)
+  fell_by (suc (suc j)) b t n c k m h l r node left right (is, some) low most =
+      let two = node.refs in
+      absurd (some (sym is ∙ body_past p calm b (suc (suc j)) node.live (omega (arith, two))))
+
+  -- a walk over a tree frees at most what weighs in it
+  walk_weighs : (x : Walk) (n b : ℕ) (t : Tree) → Stands p b t → b ≢ 0 → InOrder n x → ((e : Event) → Contains (events_of 0 b x) e → Contains es e) → frees (events_of 0 b x) ≤ tree_from n b t
+  walk_weighs Freed n b Empty y some o among = absurd (some y)
+  walk_weighs Freed n b (Node k m l r) y some o among =
+      let one = gone b (among (Free 0 b) (0, omega arith, refl)) in
+      omega (arith, one)
+  walk_weighs (Kept i t rest) n b Empty y some o among = absurd (some y)
+  walk_weighs (Kept i t rest) n b (Node k m l r) y some o among =
+      let more = walk_weighs rest (i + 1) b (Node k m l r) y some o.1 (λ e c. among e (Contains-append_right (Down 0 (Body b i) t ∷ []) (events_of 0 b rest) e c)) in
+      let less = kept_less (weight f p (word_of p (Body b 0)) l) (weight f p (word_of p (Body b 1)) r) n i o.0 in
+      omega (arith, more, less)
+  walk_weighs (Fell i t inner rest) n b Empty y some o among = absurd (some y)
+  walk_weighs (Fell i t inner rest) n b (Node k m l r) y some o among =
+      let xs : List Event = events_of 0 t inner in
+      let ys : List Event = events_of 0 b rest in
+      let first : List Event = Down 0 (Body b i) t ∷ [] in
+      let is = named (Body b i) t (among (Down 0 (Body b i) t) (0, omega arith, refl)) in
+      let most : (u : Tree) → Stands p t u → frees xs ≤ weight f p t u = λ u z. (let v = walk_weighs inner 0 t u z is.1 o.1 (λ e c. among e (Contains-append_right first (xs ++ ys) e (Contains-append_left xs ys e c))) in let w = tree_whole t u in omega (arith, v, w)) in
+      let more = walk_weighs rest (i + 1) b (Node k m l r) y some o.2 (λ e c. among e (Contains-append_right first (xs ++ ys) e (Contains-append_right xs ys e c))) in
+      let sum = fell_by i b t n (frees xs) k m _ l r y.0 y.1 y.2 is o.0 most in
+      let both = frees-append xs ys in
+      omega (arith, more, sum, both)
+
+-- ---- a drop
+
+frees_left : (vs : List Visit) → frees (frees_of 0 vs) ≡ length vs
+frees_left [] = refl
+frees_left (v ∷ vs) = let e = frees_left vs in omega (arith, e)
+
+module _ (p q : Pool) (es : List Event) (on : IsOn p q es) (k x : ℕ) (ds : List Event) (vs : List Visit) (told : es ≡ Down 0 (Root 0 k) x ∷ ds) (left : All (λ (v : Visit). Contains (memo_of q 0).dying v.block) vs) where
+  -- blocks were torn down from x on
+  walked : (walk : Walks 0 x ds vs) (f : ℕ → ℕ) (t : Tree) → Stands p x t → x ≢ 0 → ((b : ℕ) → IsGone q b → f b ≡ 1) → frees ds + length vs ≤ weight f p x t
+  walked walk f t y some all =
+      let (z, order, is) = walk_stopped 0 x ds vs walk in
+      let whole : List Event = ds ++ frees_of 0 vs in
+      let named : (s : Spot) (u : ℕ) → Contains whole (Down 0 s u) → (names p s ≡ u) × (u ≢ 0) = λ s u c. lost_named p q (Down 0 (Root 0 k) x ∷ ds) on.working.run on.run on.start (subst (Did 0 p q) told on.did) (torn_loses p q es on k x ds vs told (inr walk) left) s u (Contains-append_right (Down 0 (Root 0 k) x ∷ []) ds (Down 0 s u) (only ds vs s u c)) in
+      let weighs = walk_weighs p (before p q es on) f whole named (λ b c. all b (torn_gone p q es on k x ds vs told (inr walk) left b c)) z 0 x t y some order (λ e c. subst (λ us. Contains us e) (sym is) c) in
+      let sum = frees-append ds (frees_of 0 vs) in
+      let same = ap frees is in
+      let n = frees_left vs in
+      let w = tree_whole p (before p q es on) f whole named (λ b c. all b (torn_gone p q es on k x ds vs told (inr walk) left b c)) x t in
+      omega (arith, weighs, sum, same, n, w)
+    where
+      none : (us : List Visit) (s : Spot) (u : ℕ) → Contains (frees_of 0 us) (Down 0 s u) → ⊥
+      none [] s u c = let l = c.1 in omega arith
+      none (v ∷ us) s u c = elim (Contains-append_cases (Free 0 v.block ∷ []) (frees_of 0 us) (Down 0 s u) c) [
+        | inl h ↦ head h
+        | inr h ↦ none us s u h
+      ]
+        where
+          head : Contains (Free 0 v.block ∷ []) (Down 0 s u) → ⊥
+          head (zero, l, e) = cc
+          head (suc j, l, e) = omega arith
+
+      only : (xs : List Event) (us : List Visit) (s : Spot) (u : ℕ) → Contains (xs ++ frees_of 0 us) (Down 0 s u) → Contains xs (Down 0 s u)
+      only xs us s u c = elim (Contains-append_cases xs (frees_of 0 us) (Down 0 s u) c) [
+        | inl h ↦ h
+        | inr h ↦ absurd (none us s u h)
+      ]
+
+module _ (p q : Pool) (es : List Event) (on : IsOn p q es) (k : ℕ) where
+  abbrev r0 : Memo
+  r0 = memo_of p 0
+
+  abbrev r : Memo
+  r = memo_of q 0
+
+  -- it was done
+  pub done_torn : (z : Bool) → DropLeaves (dropping (member p.start.geometry 0) k) r0 r r.call es (Ok z) → HasTorn k (frees es) p q
+  done_torn z h =
+      record {
+        told = es;
+        did = on.did;
+        left = [];
+        dying = λ i d l. absurd (omega arith);
+        many = omega arith;
+        nodes = λ f t y all. by f t all (root_word 0 r0 k) h.events y;
+      }
+    where
+      by : (f : ℕ → ℕ) (t : Tree) → ((b : ℕ) → IsGone q b → f b ≡ 1) → (x : ℕ) → RootEvents 0 k x es → Stands p x t → frees es ≤ weight f p x t
+      by f t all zero none y = let e = ap frees none in omega (arith, e)
+      by f t all (suc x) (ds, told, inl none) y = let e = ap frees told in let d = ap frees none in omega (arith, e, d)
+      by f t all (suc x) (ds, told, inr walk) y =
+          let e = ap frees told in
+          let w = walked p q es on k (suc x) ds [] told (λ i d l. absurd (omega arith)) walk f t y (λ n. cc) all in
+          omega (arith, e, w)
+
+  -- it was refused in what followed
+  pub stopped_torn : (e : EraSpent) (h : DropLeaves (dropping (member p.start.geometry 0) k) r0 r r.call es (Err e)) → root_word 0 r k ≡ 0 → root_word 0 r0 k ≢ 0 → HasTorn k (frees es + length h.0) p q
+  stopped_torn e h empty some =
+      let t = spent_emptied 0 k r0 r es e.era h.0 h.1.at empty in
+      record {
+        told = es;
+        did = on.did;
+        left = h.0;
+        dying = h.1.stopped.left;
+        many = refl;
+        nodes = λ f u y all. (let w = walked p q es on k (root_word 0 r0 k) t.0 h.0 t.1 h.1.stopped.left t.2 f u y some all in let e = ap frees t.1 in omega (arith, e, w));
+      }
+
+-- and what was torn down is what it was where nothing was done then
+pub torn_then : (k n : ℕ) (p m q : Pool) → IsWorking p → IsWorking m → m.start ≡ p.start → HasTorn k n p m → Did 0 m q [] → IsStill m q → HasTorn k n p q
+torn_then k n p m q hp hm start h quiet s =
+    record {
+      told = h.told;
+      did = subst (Did 0 p q) (append-nil h.told) (did_then 0 p m q h.told [] hp.run hm.run start h.did quiet);
+      left = h.left;
+      dying = subst (λ (ds : List ℕ). All (λ (v : Visit). Contains ds v.block) h.left) (sym s.dying) h.dying;
+      many = h.many;
+      nodes = λ f t y all. h.nodes f t y (λ b g. all b (still_gone b g));
+    }
+  where
+    still_gone : (b : ℕ) → IsGone m b → IsGone q b
+    still_gone b (inl dead) = inl (s.lives b ∙ dead)
+    still_gone b (inr d) = inr (subst (λ (ds : List ℕ). Contains ds b) (sym s.dying) d)
+
+-- ---- what a drop of a root tears down of a tree
+
+-- at most all its nodes
+all_weigh : (p : Pool) (b : ℕ) (t : Tree) → weight (λ x. 1) p b t ≡ size t
+all_weigh p b Empty = refl
+all_weigh p b (Node k m l r) = let x = all_weigh p (word_of p (Body b 0)) l in let y = all_weigh p (word_of p (Body b 1)) r in omega (arith, x, y)
+
+pub torn_most : (k n : ℕ) (p q : Pool) (t : Tree) → HasTorn k n p q → Stands p (root_word 0 (memo_of p 0) k) t → n ≤ size t
+torn_most k n p q t h y =
+    let w = h.nodes (λ x. 1) t y (λ b g. refl) in
+    let e = all_weigh p (root_word 0 (memo_of p 0) k) t in
+    omega (arith, w, e)
+
+-- a block that a word names is live, and no zero-count block
+counted : (q : Pool) → IsCalm q → (b : ℕ) (s : Spot) → b ≢ 0 → names q s ≡ b → (is_live q b ≡ true) × (Contains (memo_of q 0).dying b → ⊥)
+counted q calm b s some e =
+    let h = calm_held q calm in
+    let c = target_counted q.start.geometry _ _ h s b some e in
+    (c.0, λ d. c.1 ((h.dying 0 (calm_first q calm)).listed b d).1)
+
+-- 1 for a block that is gone, by whether it is live and a zero-count block
+abbrev gone_by : Bool → Bool → ℕ
+gone_by true false = 0
+gone_by true true = 1
+gone_by false d = 1
+
+abbrev gone_of : Pool → ℕ → ℕ
+gone_of q b = gone_by (is_live q b) (list_any (eqb b) (memo_of q 0).dying)
+
+gone_once : (q : Pool) (b : ℕ) → IsGone q b → gone_of q b ≡ 1
+gone_once q b (inl dead) = ap (λ l. gone_by l (list_any (eqb b) (memo_of q 0).dying)) dead
+gone_once q b (inr c) = ap (gone_by (is_live q b)) (list_any-from_Contains nat_eq_equiv b (memo_of q 0).dying c) ∙ by (is_live q b)
+  where
+    by : (l : Bool) → gone_by l true ≡ 1
+    by true = refl
+    by false = refl
+
+there_none : (q : Pool) (b : ℕ) → is_live q b ≡ true → (Contains (memo_of q 0).dying b → ⊥) → gone_of q b ≡ 0
+there_none q b live counted =
+    elim (cases_Bool (list_any (eqb b) (memo_of q 0).dying)) [
+      | inl e ↦ absurd (counted (Contains-from_any eqb-true b (memo_of q 0).dying e))
+      | inr e ↦ ap (λ l. gone_by l (list_any (eqb b) (memo_of q 0).dying)) live ∙ ap (gone_by true) e
+    ]
+
+-- nothing of a tree that a word names, and that stands still
+none_weighs : (p q : Pool) (calm : IsCalm q) (k : ℕ) (t : Tree) (b : ℕ) (s : Spot) → IsDropped k p q → names q s ≡ b → Stands p b t → Stands q b t → weight (gone_of q) p b t ≡ 0
+none_weighs p q calm k Empty b s d is y z = refl
+none_weighs p q calm k (Node i m l r) b s d is y z =
+    let c = counted q calm b s z.0.some is in
+    let kept = d.nodes b i m _ c.0 c.1 y.0 in
+    let here = there_none q b c.0 c.1 in
+    let two = z.0.refs in
+    let left = none_weighs p q calm k l (word_of p (Body b 0)) (Body b 0) d (body_names q calm b 0 z.0.live (omega (arith, two)) ∙ kept.left) y.1 (subst (λ u. Stands q u l) kept.left z.1) in
+    let right = none_weighs p q calm k r (word_of p (Body b 1)) (Body b 1) d (body_names q calm b 1 z.0.live (omega (arith, two)) ∙ kept.right) y.2 (subst (λ u. Stands q u r) kept.right z.2) in
+    omega (arith, here, left, right)
+
+-- so that no block is torn down where the tree of the root stands still, and a word names it
+pub torn_none : (k n : ℕ) (p q : Pool) (t : Tree) (s : Spot) → IsWorking q → HasTorn k n p q → IsDropped k p q → names q s ≡ root_word 0 (memo_of p 0) k → Stands p (root_word 0 (memo_of p 0) k) t → Stands q (root_word 0 (memo_of p 0) k) t → n ≡ 0
+torn_none k n p q t s hq h d is y z =
+    let w = h.nodes (gone_of q) t y (gone_once q) in
+    let e = none_weighs p q (working_calm q hq) k t (root_word 0 (memo_of p 0) k) s d is y z in
+    omega (arith, w, e)

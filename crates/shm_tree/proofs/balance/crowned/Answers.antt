@@ -1,0 +1,164 @@
+use Rattle.shm_tree.proofs.Resting.{rests_dropped, rests_linked, rests_then}
+use Rattle.shm_tree.specs.Sharing.{weight}
+use Rattle.shm_tree.specs.Trees.{Tree}
+use Rattle.shm_tree.proofs.Weights.{blocks_dropped, blocks_nodes, blocks_then, fresh_under, weigh_link, weight_nodes, weight_root}
+use Rattle.std.proofs.Common.{◌≡◌, ◌∙◌, lit≤, ap, subst, arith}
+use Rattle.shm_count.specs.declared.answer.Made.{Made}
+use Rattle.shm_tree.specs.declared.node.Side.{Side}
+use Rattle.shm_tree.specs.Keeping.{node_by, other_side}
+use Rattle.shm_tree.specs.Standing.{Stands}
+use Rattle.shm_tree.proofs.Building.{apart, builds_from, at_hand_linked, born_built, builds_cut, builds_done, built_cut, built_over, cut_then, grown_cuts, linked_at_hand, linked_some, looked_none, rooms_rooted, rooms_some, still_cut, still_cuts, top_stands, went_on}
+use Rattle.shm_tree.proofs.Rotations.{node_other}
+use Rattle.shm_tree.specs.Bounds.{drop_steps, link_steps, raised_steps}
+use Rattle.shm_tree.proofs.Spendings.{spent_call, spent_drop, spent_then}
+use Rattle.shm_tree.proofs.balance.crowned.Goals as goal
+
+pub link-requires-clause-room : goal.link-requires-clause-room
+link-requires-clause-room c = rooms_some c.requires.working (omega arith)
+
+pub link-requires-clause-near : goal.link-requires-clause-near
+link-requires-clause-near c = c.requires.near_near.0
+
+pub link-requires-clause-near_reached : goal.link-requires-clause-near_reached
+link-requires-clause-near_reached c = c.requires.near_near.1
+
+pub link-requires-clause-far : goal.link-requires-clause-far
+link-requires-clause-far c = c.requires.near_far.0
+
+pub link-requires-clause-far_reached : goal.link-requires-clause-far_reached
+link-requires-clause-far_reached c = c.requires.near_far.1
+
+pub raised-requires : goal.raised-requires
+raised-requires c =
+    let l = c.in_ok-lower.ensures in
+    let less = rooms_rooted l.linked.born.rooted in
+    record {
+      working = l.working;
+      latch = l.latch ∙ c.requires.latch;
+      room = omega arith;
+      near = at_hand_linked c.args.far.trees.near l.linked l.reaches c.requires.far_near;
+      middle = at_hand_linked c.args.far.trees.far l.linked l.reaches c.requires.far_far;
+      far = linked_at_hand l.linked c.requires.near_near.0 c.requires.near_far.0 l.working;
+    }
+
+pub drop_root-requires : goal.drop_root-requires
+drop_root-requires c = record { working = c.in_ok-made.ensures.builds.working; root = c.in_ok-lower.ensures.linked.born.rooted.low }
+
+pub returns-clause-builds : goal.returns-clause-builds
+returns-clause-builds c =
+    let run = c.requires.working.run in
+    let l = c.in_ok-lower.ensures in
+    let m = c.in_ok-made.ensures.builds in
+    let d = c.in_ok-drop_root.ensures in
+    builds_done c.in_ok-made.made (went_on run (went_on run l.went m.went) d.went) d.working (d.latch ∙ (m.latch ∙ l.latch))
+
+pub returns-clause-built : goal.returns-clause-built
+returns-clause-built c =
+    let run = c.requires.working.run in
+    let l = c.in_ok-lower.ensures in
+    let m = c.in_ok-made.ensures in
+    let d = c.in_ok-drop_root.ensures in
+    built_over run l.went.run l.went.start m.builds.went.run m.builds.went.start
+    (born_built (linked_some l.linked c.requires.near_near.0 c.requires.near_far.0) l.linked.born) m.built d.emptied d.dropped
+
+pub returns-clause-stands : goal.returns-clause-stands
+returns-clause-stands c =
+    λ x y z t sx sy sz st.
+    let s = c.args.side in
+    let l = c.in_ok-lower.ensures in
+    let m = c.in_ok-made.ensures in
+    let d = c.in_ok-drop_root.ensures in
+    let o : c.other.result ≡ other_side s = c.other.ensures in
+    let low = node_by s c.args.near.content x y in
+    let made = m.stands z t low (l.linked.born.trees _ z sz) (l.linked.born.trees _ t st) (l.linked.stands x y sx sy) in
+    let turned =
+    ap (λ (v : Side). node_by v c.args.top (node_by v c.args.far.content z t) low) o
+    ∙ node_other s c.args.top (node_by (other_side s) c.args.far.content z t) low in
+    top_stands _ (linked_some l.linked c.requires.near_near.0 c.requires.near_far.0) l.linked.born.rooted m.built.rooted d.dropped
+    (subst (λ v. Stands c.raised.new.pool c.in_ok-made.made.block v) turned made)
+
+pub returns-in_err-lower-clause-builds : goal.returns-in_err-lower-clause-builds
+returns-in_err-lower-clause-builds c =
+    let run = c.requires.working.run in
+    let e = c.in_err-lower.ensures in
+    let n = looked_none c.args.pool.now c.args.life.now.left c.requires.working in
+    builds_from c.from_residual.result c.from_residual.ensures.1 (builds_cut Made 1 {T = Made} {n = 0} {k = 3} _ (lit≤ tt) run n.went n.latch (still_cut n.still) e.went e.working e.latch (grown_cuts Made 1 _ _ _ e.grown) e.cause e.died)
+
+pub returns-in_err-made-clause-builds : goal.returns-in_err-made-clause-builds
+returns-in_err-made-clause-builds c =
+    let run = c.requires.working.run in
+    let l = c.in_ok-lower.ensures in
+    let e = c.in_err-made.ensures.builds in
+    let low = born_built (linked_some l.linked c.requires.near_near.0 c.requires.near_far.0) l.linked.born in
+    builds_from c.from_residual-in_err-made.result c.from_residual-in_err-made.ensures.1 (builds_cut Made 2 {T = Made} {n = 1} {k = 3} _ (lit≤ tt) run l.went l.latch (built_cut low) e.went e.working e.latch e.refused e.cause e.died)
+
+pub returns-in_err-drop_root-clause-builds : goal.returns-in_err-drop_root-clause-builds
+returns-in_err-drop_root-clause-builds c =
+    let l = c.in_ok-lower.ensures in
+    let m = c.in_ok-made.ensures in
+    let e = c.in_err-drop_root.ensures in
+    let run = c.requires.working.run in
+    let low = born_built (linked_some l.linked c.requires.near_near.0 c.requires.near_far.0) l.linked.born in
+    builds_from c.from_residual-in_err-drop_root.result c.from_residual-in_err-drop_root.ensures.1 (builds_cut (Unit {0}) 0 {T = Made} {n = 3} {k = 3} _ (lit≤ tt) run (went_on run l.went m.builds.went) (m.builds.latch ∙ l.latch) (cut_then run l.went.run l.went.start (built_cut low) (built_cut m.built)) e.went e.working e.latch (still_cuts (Unit {0}) _ _ _ e.still) e.cause e.died)
+
+pub returns-clause-sharing : goal.returns-clause-sharing
+returns-clause-sharing c =
+    let run = c.requires.working.run in
+    let l = c.in_ok-lower.ensures in
+    let m = c.in_ok-made.ensures in
+    let d = c.in_ok-drop_root.ensures in
+    let low = built_cut (born_built (linked_some l.linked c.requires.near_near.0 c.requires.near_far.0) l.linked.born) in
+    record {
+      fresh = fresh_under c.in_ok-made.made.block l.linked.born m.sharing.fresh;
+      blocks = blocks_dropped l.linked.born.rooted.empty (cut_then run l.went.run l.went.start low (built_cut m.built)) (blocks_then c.raised.new.pool low (blocks_nodes l.linked.born.nodes) m.sharing.blocks) d.emptied d.dropped d.working;
+    }
+
+pub returns-clause-weighs : goal.returns-clause-weighs
+returns-clause-weighs c =
+    λ f x y z t count sx sy sz st.
+    let s = c.args.side in
+    let p = c.args.pool.now in
+    let q = c.link.new.pool in
+    let r = c.raised.new.pool in
+    let l = c.in_ok-lower.ensures in
+    let m = c.in_ok-made.ensures in
+    let d = c.in_ok-drop_root.ensures in
+    let o : c.other.result ≡ other_side s = c.other.ensures in
+    let under : Tree = node_by s c.args.near.content x y in
+    let first : Tree = node_by c.other.result c.args.top (node_by c.other.result c.args.far.content z t) under in
+    let last : Tree = node_by s c.args.top under (node_by (other_side s) c.args.far.content z t) in
+    let turned : first ≡ last =
+    ap (λ (v : Side). node_by v c.args.top (node_by v c.args.far.content z t) under) o
+    ∙ node_other s c.args.top (node_by (other_side s) c.args.far.content z t) under in
+    let sl = l.linked.stands x y sx sy in
+    let zq = l.linked.born.trees c.args.far.trees.near z sz in
+    let tq = l.linked.born.trees c.args.far.trees.far t st in
+    let low = weigh_link f x y l.linked sx sy in
+    let most = m.weighs f z t under count zq tq sl in
+    let i = weight_nodes f p q l.linked.born.nodes c.args.far.trees.near z sz in
+    let j = weight_nodes f p q l.linked.born.nodes c.args.far.trees.far t st in
+    let k : weight f r c.in_ok-made.made.block first ≡ weight f r c.in_ok-made.made.block last = ap (λ (u : Tree). weight f r c.in_ok-made.made.block u) turned in
+    let stands : Stands r c.in_ok-made.made.block last = subst (λ (u : Tree). Stands r c.in_ok-made.made.block u) turned (m.stands z t under zq tq sl) in
+    let named = d.emptied.others c.in_ok-made.made.root (apart (linked_some l.linked c.requires.near_near.0 c.requires.near_far.0) l.linked.born.rooted m.built.rooted) ∙ m.built.rooted.names in
+    let top = weight_root c.in_ok-lower.lower.root r c.drop_root.new.pool d.working d.dropped f last c.in_ok-made.made.root c.in_ok-made.made.block named stands in
+    let a = count c.in_ok-lower.lower.block in
+    omega (arith, low, most, i, j, k, top, a)
+
+pub returns-clause-rests : goal.returns-clause-rests
+returns-clause-rests c =
+    let p = c.args.pool.now in
+    let l = c.in_ok-lower.ensures in
+    let m = c.in_ok-made.ensures in
+    let d = c.in_ok-drop_root.ensures in
+    rests_then p c.raised.new.pool c.drop_root.new.pool m.builds.working d.working d.went
+    (rests_then p c.link.new.pool c.raised.new.pool l.working m.builds.working m.builds.went (rests_linked l.linked c.requires.near_near.0 c.requires.near_far.0) m.rests)
+    (rests_dropped c.in_ok-lower.lower.root c.raised.new.pool c.drop_root.new.pool d.working d.dropped)
+
+pub returns-clause-spent : goal.returns-clause-spent
+returns-clause-spent c =
+    let h = c.requires.working in
+    let l = c.in_ok-lower.ensures in
+    let m = c.in_ok-made.ensures in
+    let d = c.in_ok-drop_root.ensures in
+    let both = spent_then raised_steps h l.went m.builds.went (spent_call (link_steps c.args.pool.now.start.geometry) l.went l.steps) m.spent in
+    spent_then (λ g. drop_steps g 0) h (went_on h.run l.went m.builds.went) d.went both (spent_drop c.in_ok-lower.lower.root d.working d.steps)

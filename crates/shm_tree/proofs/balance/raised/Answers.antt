@@ -1,0 +1,154 @@
+use Rattle.shm_tree.proofs.Resting.{rests_dropped, rests_linked, rests_then}
+use Rattle.shm_tree.specs.Keeping.{node_by}
+use Rattle.shm_tree.specs.Trees.{Tree}
+use Rattle.shm_tree.proofs.Weights.{blocks_dropped, blocks_nodes, blocks_then, fresh_under, weigh_link, weight_nodes, weight_root}
+use Rattle.std.proofs.Common.{◌∙◌, lit≤, arith}
+use Rattle.shm_count.specs.declared.answer.Made.{Made}
+use Rattle.shm_tree.proofs.Building.{apart, builds_from, at_hand_linked, born_built, builds_cut, builds_done, built_cut, built_over, cut_then, grown_cuts, linked_at_hand, linked_some, looked_none, rooms_rooted, rooms_some, still_cut, still_cuts, top_stands, went_on}
+use Rattle.shm_tree.specs.Bounds.{drop_steps, link_steps}
+use Rattle.shm_tree.proofs.Spendings.{spent_call, spent_drop, spent_then}
+use Rattle.shm_tree.proofs.balance.raised.Goals as goal
+
+pub link-requires-clause-room : goal.link-requires-clause-room
+link-requires-clause-room c = rooms_some c.requires.working (omega arith)
+
+pub link-requires-clause-near : goal.link-requires-clause-near
+link-requires-clause-near c = c.requires.near.0
+
+pub link-requires-clause-near_reached : goal.link-requires-clause-near_reached
+link-requires-clause-near_reached c = c.requires.near.1
+
+pub link-requires-clause-far : goal.link-requires-clause-far
+link-requires-clause-far c = c.requires.middle.0
+
+pub link-requires-clause-far_reached : goal.link-requires-clause-far_reached
+link-requires-clause-far_reached c = c.requires.middle.1
+
+pub link-requires-2 : goal.link-requires-2
+link-requires-2 c =
+    let l = c.in_ok-lower.ensures in
+    let low = linked_at_hand l.linked c.requires.near.0 c.requires.middle.0 l.working in
+    let far = at_hand_linked c.args.far l.linked l.reaches c.requires.far in
+    let less = rooms_rooted l.linked.born.rooted in
+    record {
+      working = l.working;
+      latch = l.latch ∙ c.requires.latch;
+      room = rooms_some l.working (omega arith);
+      near = low.0;
+      near_reached = low.1;
+      far = far.0;
+      far_reached = far.1;
+    }
+
+pub drop_root-requires : goal.drop_root-requires
+drop_root-requires c = record { working = c.in_ok-made.ensures.working; root = c.in_ok-lower.ensures.linked.born.rooted.low }
+
+pub returns-clause-builds : goal.returns-clause-builds
+returns-clause-builds c =
+    let run = c.requires.working.run in
+    let l = c.in_ok-lower.ensures in
+    let m = c.in_ok-made.ensures in
+    let d = c.in_ok-drop_root.ensures in
+    builds_done c.in_ok-made.made (went_on run (went_on run l.went m.went) d.went) d.working (d.latch ∙ (m.latch ∙ l.latch))
+
+pub returns-clause-built : goal.returns-clause-built
+returns-clause-built c =
+    let run = c.requires.working.run in
+    let l = c.in_ok-lower.ensures in
+    let m = c.in_ok-made.ensures in
+    let d = c.in_ok-drop_root.ensures in
+    let far = at_hand_linked c.args.far l.linked l.reaches c.requires.far in
+    let low = linked_at_hand l.linked c.requires.near.0 c.requires.middle.0 l.working in
+    built_over run l.went.run l.went.start m.went.run m.went.start
+    (born_built (linked_some l.linked c.requires.near.0 c.requires.middle.0) l.linked.born) (born_built (linked_some m.linked low.0 far.0) m.linked.born) d.emptied d.dropped
+
+pub returns-clause-stands : goal.returns-clause-stands
+returns-clause-stands c =
+    λ x y z sx sy sz.
+    let l = c.in_ok-lower.ensures in
+    let m = c.in_ok-made.ensures in
+    let d = c.in_ok-drop_root.ensures in
+    let far = l.linked.born.trees _ z sz in
+    top_stands _ (linked_some l.linked c.requires.near.0 c.requires.middle.0) l.linked.born.rooted m.linked.born.rooted d.dropped (m.linked.stands _ z (l.linked.stands x y sx sy) far)
+
+pub returns-in_err-lower-clause-builds : goal.returns-in_err-lower-clause-builds
+returns-in_err-lower-clause-builds c =
+    let run = c.requires.working.run in
+    let e = c.in_err-lower.ensures in
+    let n = looked_none c.args.pool.now c.args.life.now.left c.requires.working in
+    builds_from c.from_residual.result c.from_residual.ensures.1 (builds_cut Made 1 {T = Made} {n = 0} {k = 2} _ (lit≤ tt) run n.went n.latch (still_cut n.still) e.went e.working e.latch (grown_cuts Made 1 _ _ _ e.grown) e.cause e.died)
+
+pub returns-in_err-made-clause-builds : goal.returns-in_err-made-clause-builds
+returns-in_err-made-clause-builds c =
+    let run = c.requires.working.run in
+    let l = c.in_ok-lower.ensures in
+    let e = c.in_err-made.ensures in
+    let low = born_built (linked_some l.linked c.requires.near.0 c.requires.middle.0) l.linked.born in
+    builds_from c.from_residual-in_err-made.result c.from_residual-in_err-made.ensures.1 (builds_cut Made 1 {T = Made} {n = 1} {k = 2} _ (lit≤ tt) run l.went l.latch (built_cut low) e.went e.working e.latch (grown_cuts Made 1 _ _ _ e.grown) e.cause e.died)
+
+pub returns-in_err-drop_root-clause-builds : goal.returns-in_err-drop_root-clause-builds
+returns-in_err-drop_root-clause-builds c =
+    let l = c.in_ok-lower.ensures in
+    let m = c.in_ok-made.ensures in
+    let e = c.in_err-drop_root.ensures in
+    let run = c.requires.working.run in
+    let far = at_hand_linked c.args.far l.linked l.reaches c.requires.far in
+    let node = linked_at_hand l.linked c.requires.near.0 c.requires.middle.0 l.working in
+    let low = born_built (linked_some l.linked c.requires.near.0 c.requires.middle.0) l.linked.born in
+    let high = born_built (linked_some m.linked node.0 far.0) m.linked.born in
+    builds_from c.from_residual-in_err-drop_root.result c.from_residual-in_err-drop_root.ensures.1 (builds_cut (Unit {0}) 0 {T = Made} {n = 2} {k = 2} _ (lit≤ tt) run (went_on run l.went m.went) (m.latch ∙ l.latch) (cut_then run l.went.run l.went.start (built_cut low) (built_cut high)) e.went e.working e.latch (still_cuts (Unit {0}) _ _ _ e.still) e.cause e.died)
+
+pub returns-clause-sharing : goal.returns-clause-sharing
+returns-clause-sharing c =
+    let run = c.requires.working.run in
+    let l = c.in_ok-lower.ensures in
+    let m = c.in_ok-made.ensures in
+    let d = c.in_ok-drop_root.ensures in
+    let far = at_hand_linked c.args.far l.linked l.reaches c.requires.far in
+    let node = linked_at_hand l.linked c.requires.near.0 c.requires.middle.0 l.working in
+    let low = built_cut (born_built (linked_some l.linked c.requires.near.0 c.requires.middle.0) l.linked.born) in
+    let high = built_cut (born_built (linked_some m.linked node.0 far.0) m.linked.born) in
+    record {
+      fresh = fresh_under c.in_ok-made.made.block l.linked.born m.linked.born.fresh;
+      blocks = blocks_dropped l.linked.born.rooted.empty (cut_then run l.went.run l.went.start low high) (blocks_then c.link-2.new.pool low (blocks_nodes l.linked.born.nodes) (blocks_nodes m.linked.born.nodes)) d.emptied d.dropped d.working;
+    }
+
+pub returns-clause-weighs : goal.returns-clause-weighs
+returns-clause-weighs c =
+    λ f x y z count sx sy sz.
+    let s = c.args.side in
+    let l = c.in_ok-lower.ensures in
+    let m = c.in_ok-made.ensures in
+    let d = c.in_ok-drop_root.ensures in
+    let under : Tree = node_by s c.args.below.content x y in
+    let sl = l.linked.stands x y sx sy in
+    let far = l.linked.born.trees c.args.far z sz in
+    let low = weigh_link f x y l.linked sx sy in
+    let high = weigh_link f under z m.linked sl far in
+    let same = weight_nodes f c.args.pool.now c.link.new.pool l.linked.born.nodes c.args.far z sz in
+    let named = d.emptied.others c.in_ok-made.made.root (apart (linked_some l.linked c.requires.near.0 c.requires.middle.0) l.linked.born.rooted m.linked.born.rooted) ∙ m.linked.born.rooted.names in
+    let top = weight_root c.in_ok-lower.lower.root c.link-2.new.pool c.drop_root.new.pool d.working d.dropped f (node_by s c.args.top under z) c.in_ok-made.made.root c.in_ok-made.made.block named (m.linked.stands under z sl far) in
+    let a = count c.in_ok-lower.lower.block in
+    let b = count c.in_ok-made.made.block in
+    omega (arith, low, high, same, top, a, b)
+
+pub returns-clause-rests : goal.returns-clause-rests
+returns-clause-rests c =
+    let p = c.args.pool.now in
+    let l = c.in_ok-lower.ensures in
+    let m = c.in_ok-made.ensures in
+    let d = c.in_ok-drop_root.ensures in
+    let far = at_hand_linked c.args.far l.linked l.reaches c.requires.far in
+    let node = linked_at_hand l.linked c.requires.near.0 c.requires.middle.0 l.working in
+    rests_then p c.link-2.new.pool c.drop_root.new.pool m.working d.working d.went
+    (rests_then p c.link.new.pool c.link-2.new.pool l.working m.working m.went (rests_linked l.linked c.requires.near.0 c.requires.middle.0) (rests_linked m.linked node.0 far.0))
+    (rests_dropped c.in_ok-lower.lower.root c.link-2.new.pool c.drop_root.new.pool d.working d.dropped)
+
+pub returns-clause-spent : goal.returns-clause-spent
+returns-clause-spent c =
+    let h = c.requires.working in
+    let l = c.in_ok-lower.ensures in
+    let m = c.in_ok-made.ensures in
+    let d = c.in_ok-drop_root.ensures in
+    let both = spent_then link_steps h l.went m.went (spent_call (link_steps c.args.pool.now.start.geometry) l.went l.steps) (spent_call (link_steps c.link.new.pool.start.geometry) m.went m.steps) in
+    spent_then (λ g. drop_steps g 0) h (went_on h.run l.went m.went) d.went both (spent_drop c.in_ok-lower.lower.root d.working d.steps)

@@ -1,0 +1,84 @@
+use Rattle.shm_tree.proofs.Resting.{rests_after}
+use Rattle.shm_tree.specs.Sharing.{WeighsRaised, WeighsTurned}
+use Rattle.shm_tree.proofs.Sharings.{sharing_after, weighs_single}
+use Rattle.std.proofs.Common.{◌≡◌, ◌∙◌, lit≤, sym, subst, arith}
+use Rattle.shm_count.specs.declared.answer.Made.{Made}
+use Rattle.shm_tree.specs.declared.node.Content.{Content}
+use Rattle.shm_tree.specs.Building.{StandsRaised, StandsTurned}
+use Rattle.shm_tree.specs.Keeping.{node_by}
+use Rattle.shm_tree.specs.Standing.{Stands}
+use Rattle.shm_tree.proofs.Building.{builds_from, at_hand_still, builds_after, builds_died, built_after, looked, looked_none, ok_kept, rooms_still}
+use Rattle.shm_tree.proofs.Rotations.{content_is, node_of, parts}
+use Rattle.shm_tree.specs.Bounds.{raised_steps, turned_steps}
+use Rattle.shm_tree.proofs.Spendings.{spent_call, spent_more, spent_then}
+use Rattle.shm_tree.proofs.balance.single.Goals as goal
+
+pub content_of-requires : goal.content_of-requires
+content_of-requires c = record { working = c.requires.working; node = node_of c.args.pool.now c.args.trees.far c.requires.some c.requires.far.0; reached = c.requires.far.1 }
+
+pub raised-requires : goal.raised-requires
+raised-requires c =
+    let t = c.in_ok-top.ensures in
+    let read = looked t.went t.working t.latch t.still t.reaches in
+    let same = rooms_still t.still in
+    record {
+      working = t.working;
+      latch = t.latch ∙ c.requires.latch;
+      room = omega arith;
+      near = at_hand_still c.args.trees.near read c.requires.near;
+      middle = at_hand_still c.args.grand.near read c.requires.grand_near;
+      far = at_hand_still c.args.grand.far read c.requires.grand_far;
+    }
+
+pub returns-clause-builds : goal.returns-clause-builds
+returns-clause-builds c =
+    let run = c.requires.working.run in
+    let t = c.in_ok-top.ensures in
+    builds_after 2 2 _ (lit≤ tt) run (looked t.went t.working t.latch t.still t.reaches) c.raised.ensures.builds
+
+pub returns-clause-built : goal.returns-clause-built
+returns-clause-built c =
+    let run = c.requires.working.run in
+    let t = c.in_ok-top.ensures in
+    ok_kept _ (λ m b. built_after run t.went.run t.went.start t.still b) c.raised.ensures.built
+
+pub returns-clause-stands : goal.returns-clause-stands
+returns-clause-stands c =
+    ok_kept {T = Made} {P = λ m. StandsRaised c.in_ok-top.top c.args.side (record { content = c.args.middle; trees = record { near = c.args.trees.near; far = c.args.grand.near } }) c.args.grand.far m.block c.content_of.new.pool c.raised.new.pool} {Q = λ m. StandsTurned c.args.middle c.args.side c.args.trees m.block c.args.pool.now c.raised.new.pool} _ (λ m b. λ x y z d sx sn.
+    let s = c.args.side in
+    let t = c.in_ok-top.ensures in
+    let w = parts c.args.pool.now c.args.trees.far s d y z sn in
+    let is : c.in_ok-top.top ≡ d = content_is (t.key ∙ w.key) (t.number ∙ w.number) in
+    let sy = subst (λ e. Stands c.args.pool.now e y) (sym c.requires.near_is) w.near in
+    let sz = subst (λ e. Stands c.args.pool.now e z) (sym c.requires.far_is) w.far in
+    subst (λ (v : Content). Stands c.raised.new.pool m.block (node_by s v (node_by s c.args.middle x y) z)) is
+    (b x y z (t.still.trees _ x sx) (t.still.trees _ y sy) (t.still.trees _ z sz))) c.raised.ensures.stands
+
+pub returns-in_err-top-clause-builds : goal.returns-in_err-top-clause-builds
+returns-in_err-top-clause-builds c =
+    let run = c.requires.working.run in
+    let e = c.in_err-top.ensures in
+    builds_from c.from_residual.result c.from_residual.ensures.1 (builds_died _ run (looked_none c.args.pool.now c.args.life.now.left c.requires.working).went e.went e.died)
+
+pub returns-clause-sharing : goal.returns-clause-sharing
+returns-clause-sharing c =
+    let t = c.in_ok-top.ensures in
+    ok_kept _ (λ m b. sharing_after t.still b) c.raised.ensures.sharing
+
+pub returns-clause-weighs : goal.returns-clause-weighs
+returns-clause-weighs c =
+    let t = c.in_ok-top.ensures in
+    ok_kept {T = Made} {P = λ m. WeighsRaised c.in_ok-top.top c.args.side (record { content = c.args.middle; trees = record { near = c.args.trees.near; far = c.args.grand.near } }) c.args.grand.far m.block c.content_of.new.pool c.raised.new.pool} {Q = λ m. WeighsTurned c.args.middle c.args.side c.args.trees m.block c.args.pool.now c.raised.new.pool} _
+    (λ m b. weighs_single c.args.pool.now c.content_of.new.pool c.raised.new.pool c.args.side c.args.middle c.in_ok-top.top c.args.trees c.args.grand m.block t.still t.key t.number c.requires.near_is c.requires.far_is b) c.raised.ensures.weighs
+
+pub returns-clause-rests : goal.returns-clause-rests
+returns-clause-rests c =
+    let t = c.in_ok-top.ensures in
+    rests_after c.raised.result c.args.pool.now c.content_of.new.pool c.raised.new.pool t.working t.still c.raised.ensures.builds c.raised.ensures.rests
+
+pub returns-clause-spent : goal.returns-clause-spent
+returns-clause-spent c =
+    let h = c.requires.working in
+    let t = c.in_ok-top.ensures in
+    let e = t.steps in
+    ok_kept _ (λ m b. spent_more _ (turned_steps c.args.pool.now.start.geometry) (omega arith) (spent_then raised_steps h t.went c.raised.ensures.builds.went (spent_call 4 t.went (omega (arith, e))) b)) c.raised.ensures.spent

@@ -1,0 +1,96 @@
+use Rattle.std.proofs.Common.{◌≡◌, true, refl, ap, ◌∙◌}
+use Rattle.std.specs.Prelude.{Some, Ok, Err}
+use Rattle.shm_graph.specs.declared.ask.Me.{Me}
+use Rattle.shm_graph.specs.Reach.{is_reached}
+use Rattle.shm_plain.specs.Pools.{memo_of}
+use Rattle.shm_calls.specs.Words.{word_control}
+use Rattle.shm_count.specs.Roots.{member}
+use Rattle.shm_ref.specs.LatchTasks.{LookMay}
+use Rattle.shm_ref.specs.Look.{look_plan, looking}
+use Rattle.plain_calls.proofs.Reaching.{reached_small}
+use Rattle.plain_calls.proofs.Running.{plan_done, plan_may}
+use Rattle.shm_tree.specs.Keeping.{side_word}
+use Rattle.shm_tree.proofs.Alive.{went_alive, went_dead}
+use Rattle.shm_tree.proofs.Answering.{Answered, answered_at}
+use Rattle.shm_tree.proofs.Counts.{taken_by}
+use Rattle.shm_tree.proofs.Findings.{look_names, look_only, look_refused, look_still, look_works, read_reaches}
+use Rattle.shm_tree.proofs.calls.child.Goals.{After-me, After-new-looking, In-Some-Ok, In-Some-Err}
+use Rattle.shm_tree.proofs.calls.child.Goals as goal
+
+reached : (c : After-me) → is_reached 0 (memo_of c.args.pool.now 0) c.args.node ≡ true
+reached c = c.requires.reached c.requires.node.3.some
+
+planned : (c : After-new-looking) → c.new-looking.result ≡ looking c.me.result c.args.node (side_word c.args.side)
+planned c = c.new-looking.ensures ∙ ap (λ k. looking c.me.result c.args.node k) c.word.ensures
+
+pub new-looking-requires-clause-block : goal.new-looking-requires-clause-block
+new-looking-requires-clause-block c = reached_small c.args.pool.now 0 c.requires.working.work c.requires.working.run c.args.node (reached (goal.at.new-looking-requires-clause-block c).After-me)
+
+pub run-requires-clause-may : goal.run-requires-clause-may
+run-requires-clause-may c =
+    let at = goal.at.run-requires-clause-may c in
+    plan_may look_plan (λ (x : Me). looking x c.args.node (side_word c.args.side)) (member c.args.pool.now.start.geometry 0) _ _ _ c.me.ensures.is (planned at.After-new-looking) refl
+    LookMay (memo_of c.args.pool.now 0) (refl, reached at.After-me)
+
+looked : (c : In-Some-Ok) → Answered look_plan (looking (member c.args.pool.now.start.geometry 0) c.args.node (side_word c.args.side)) c.args.pool.now c.run.new.self (Ok c.in-Some-Ok.child)
+looked c =
+    let p = c.args.pool.now in
+    let q = c.run.new.self in
+    let me = member p.start.geometry 0 in
+    let k = side_word c.args.side in
+    let a = c.in-Some-Ok.field-0 in
+    answered_at look_plan (looking me c.args.node k) p q _ _ a (Ok c.in-Some-Ok.child) c.in-Some-Ok.field-0-is c.requires.working c.in-Some-Ok.ensures.ran (c.in-Some-Ok.ensures.at_work tt)
+    (plan_done look_plan (λ (x : Me). looking x c.args.node k) me _ _ _ c.me.ensures.is (planned (goal.at.In-Some-Ok c).After-new-looking) refl word_control 0 p q (Some a) a refl c.in-Some-Ok.ensures.leaves)
+
+refused : (c : In-Some-Err) → Answered look_plan (looking (member c.args.pool.now.start.geometry 0) c.args.node (side_word c.args.side)) c.args.pool.now c.run.new.self (Err c.in-Some-Err.field-0-0)
+refused c =
+    let p = c.args.pool.now in
+    let q = c.run.new.self in
+    let me = member p.start.geometry 0 in
+    let k = side_word c.args.side in
+    let a = c.in-Some-Err.field-0 in
+    answered_at look_plan (looking me c.args.node k) p q _ _ a (Err c.in-Some-Err.field-0-0) c.in-Some-Err.field-0-is c.requires.working c.in-Some-Err.ensures.ran (c.in-Some-Err.ensures.at_work tt)
+    (plan_done look_plan (λ (x : Me). looking x c.args.node k) me _ _ _ c.me.ensures.is (planned (goal.at.In-Some-Err c).After-new-looking) refl word_control 0 p q (Some a) a refl c.in-Some-Err.ensures.leaves)
+
+pub unreachable-requires : goal.unreachable-requires
+unreachable-requires c =
+    let p = c.args.pool.now in
+    let q = c.run.new.self in
+    let (es, on, h) = refused (goal.at.unreachable-requires c).In-Some-Err in
+    look_refused p q es on c.args.node c.args.side (memo_of q 0).call c.in-Some-Err.field-0-0 c.requires.node c.requires.latch h
+
+pub returns-in-None : goal.returns-in-None
+returns-in-None c =
+    record {
+      went = went_dead true c.args.pool.now c.run.new.self _ _ c.requires.working c.in-None.ensures.ran;
+      working = tt;
+      latch = tt;
+      names = tt;
+      still = tt;
+      reaches = tt;
+      reached = tt;
+      steps = tt;
+      died = (refl, c.in-None.ensures.ran.died refl);
+    }
+
+pub returns-in-Some-Ok : goal.returns-in-Some-Ok
+returns-in-Some-Ok c =
+    let p = c.args.pool.now in
+    let q = c.run.new.self in
+    let (es, on, h) = looked (goal.at.returns-in-Some-Ok c).In-Some-Ok in
+    let tr = (memo_of q 0).call in
+    let b = c.args.node in
+    let k = side_word c.args.side in
+    let v = c.in-Some-Ok.child in
+    let only = look_only p q es on b k tr (Ok v) h in
+    record {
+      went = went_alive true p q _ _ c.in-Some-Ok.ensures.ran (c.in-Some-Ok.ensures.at_work tt);
+      working = look_works p q es on b k tr (Ok v) h;
+      latch = only.latch;
+      names = look_names p q es on b c.args.side tr v c.requires.node h;
+      still = look_still p q es on b k tr (Ok v) h;
+      reaches = read_reaches p q es on only;
+      reached = h.reach;
+      steps = taken_by _ _ _ _ h.trail (c.in-Some-Ok.ensures.ran.spent refl refl);
+      died = tt;
+    }

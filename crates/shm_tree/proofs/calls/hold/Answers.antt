@@ -1,0 +1,70 @@
+use Rattle.std.proofs.Common.{◌≡◌, refl, ap, ◌∙◌, subst, true}
+use Rattle.std.specs.Prelude.{Some, Ok, Err}
+use Rattle.shm_graph.specs.declared.ask.Me.{Me}
+use Rattle.shm_plain.specs.Calls.{Took}
+use Rattle.shm_calls.specs.CallsControl.{calls_control, calls_of}
+use Rattle.shm_calls.specs.Words.{word_control}
+use Rattle.shm_count.specs.Roots.{member}
+use Rattle.shm_ref.specs.declared.hold.HoldState.{HoldState}
+use Rattle.shm_ref.specs.Hold.Control.{holding}
+use Rattle.shm_ref.specs.Hold.{hold_plan}
+use Rattle.plain_calls.proofs.Running.{plan_done}
+use Rattle.shm_tree.proofs.Alive.{went_alive, went_dead}
+use Rattle.shm_tree.proofs.Answering.{Answered, answered_at}
+use Rattle.shm_tree.proofs.Counts.{taken_by}
+use Rattle.shm_tree.proofs.Latches.{held_latch, held_reaches, held_still, held_works, hold_free}
+use Rattle.shm_tree.proofs.calls.hold.Goals.{In-Some-Ok, In-Some-Err}
+use Rattle.shm_tree.proofs.calls.hold.Goals as goal
+
+held : (c : In-Some-Ok) → Answered hold_plan (holding (member c.args.pool.now.start.geometry 0) 0) c.args.pool.now c.run.new.self (Ok tt)
+held c =
+    let p = c.args.pool.now in
+    let q = c.run.new.self in
+    let me = member p.start.geometry 0 in
+    let a = c.in-Some-Ok.field-0 in
+    answered_at hold_plan (holding me 0) p q _ _ a (Ok tt) c.in-Some-Ok.field-0-is c.requires.working c.in-Some-Ok.ensures.ran (c.in-Some-Ok.ensures.at_work tt)
+    (plan_done hold_plan (λ (x : Me). holding x 0) me _ _ _ c.me.ensures.is c.new-holding.ensures refl word_control 0 p q (Some a) a refl c.in-Some-Ok.ensures.leaves)
+
+busy : (c : In-Some-Err) → Answered hold_plan (holding (member c.args.pool.now.start.geometry 0) 0) c.args.pool.now c.run.new.self (Err c.in-Some-Err.field-0-0)
+busy c =
+    let p = c.args.pool.now in
+    let q = c.run.new.self in
+    let me = member p.start.geometry 0 in
+    let a = c.in-Some-Err.field-0 in
+    answered_at hold_plan (holding me 0) p q _ _ a (Err c.in-Some-Err.field-0-0) c.in-Some-Err.field-0-is c.requires.working c.in-Some-Err.ensures.ran (c.in-Some-Err.ensures.at_work tt)
+    (plan_done hold_plan (λ (x : Me). holding x 0) me _ _ _ c.me.ensures.is c.new-holding.ensures refl word_control 0 p q (Some a) a refl c.in-Some-Err.ensures.leaves)
+
+pub unreachable-requires : goal.unreachable-requires
+unreachable-requires c =
+    let p = c.args.pool.now in
+    let q = c.run.new.self in
+    let (es, on, h) = busy (goal.at.unreachable-requires c).In-Some-Err in
+    let made : c.new-holding.result ≡ holding (member p.start.geometry 0) 0 = c.new-holding.ensures ∙ ap (λ (x : Me). holding x 0) c.me.ensures.is in
+    hold_free p q es on c.in-Some-Err.field-0-0 c.requires.latch h (subst (λ (s : HoldState). Took (calls_control word_control hold_plan) 0 p (calls_of hold_plan s) q) made c.in-Some-Err.ensures.took)
+
+pub returns-in-None : goal.returns-in-None
+returns-in-None c =
+    record {
+      went = went_dead true c.args.pool.now c.run.new.self _ _ c.requires.working c.in-None.ensures.ran;
+      working = tt;
+      latch = tt;
+      still = tt;
+      reaches = tt;
+      steps = tt;
+      died = (refl, c.in-None.ensures.ran.died refl);
+    }
+
+pub returns-in-Some-Ok : goal.returns-in-Some-Ok
+returns-in-Some-Ok c =
+    let p = c.args.pool.now in
+    let q = c.run.new.self in
+    let (es, on, h) = held (goal.at.returns-in-Some-Ok c).In-Some-Ok in
+    record {
+      went = went_alive true p q _ _ c.in-Some-Ok.ensures.ran (c.in-Some-Ok.ensures.at_work tt);
+      working = held_works p q es on tt h;
+      latch = held_latch p q es on tt h;
+      still = held_still p q es on tt h;
+      reaches = held_reaches p q es on tt h;
+      steps = taken_by _ _ _ _ h.trail (c.in-Some-Ok.ensures.ran.spent refl refl);
+      died = tt;
+    }

@@ -1,0 +1,37 @@
+use Rattle.std.proofs.Common.{◌≡◌, ℕ, ◌^◌, ◌<◌, ap, ◌∙◌, subst, arith, Option}
+use Rattle.std.specs.Prelude.{IfSome, IsSome, Result}
+use Rattle.shm_calls.specs.CallsControl.{calls_of}
+use Rattle.shm_calls.specs.CallsFit.{CallsFits, CallsGives}
+use Rattle.shm_count.specs.declared.answer.EraSpent.{EraSpent}
+use Rattle.shm_recover.specs.declared.leave.LeaveState.{LeaveState}
+use Rattle.shm_recover.specs.Leave.Control.{leave_parts, leaving}
+use Rattle.shm_recover.specs.Leave.{leave_plan}
+use Rattle.shm_plain.proofs.Called.{Called}
+use Rattle.shm_tree.specs.Ending.{HasParted}
+use Rattle.shm_tree.proofs.Ending.{leave_answers, leave_control, leave_fits, leave_parted, leaver}
+use Rattle.shm_tree.proofs.closing.leave.Goals.{After-new-leaving, After-call}
+use Rattle.shm_tree.proofs.closing.leave.Goals as goal
+
+made : (c : After-new-leaving) → c.new-leaving.result ≡ leaver c.args.pool.now
+made c = c.new-leaving.ensures ∙ ap (λ (x : LeaveState). calls_of leave_plan x) (c.new.ensures ∙ ap leaving c.me.ensures.is)
+
+pub call-requires-clause-fits : goal.call-requires-clause-fits
+call-requires-clause-fits c =
+    let at = (goal.at.call-requires-clause-fits c).After-new-leaving in
+    leave_fits c.args.pool.now c.requires.working c.requires.latch c.requires.dying c.new-leaving.result (made at)
+
+-- what its call says
+say : (c : After-call) → Called leave_control (CallsFits leave_parts leave_plan) (CallsGives leave_parts leave_plan) 0 c.args.pool.now c.new-leaving.result c.call.new.self c.of.result.left c.call.new.life.left c.call.result
+say c = record { gave = c.call.ensures.gives; ran = c.call.ensures.ran; took = c.call.ensures.took; events = c.call.ensures.events }
+
+pub unwrap-requires : goal.unwrap-requires
+unwrap-requires c =
+    let at = (goal.at.unwrap-requires c).After-call in
+    let long : 2 ^ 38 < c.of.result.left = let life = c.of.ensures in omega arith in
+    leave_answers c.args.pool.now c.requires.working c.requires.latch c.requires.dying c.new-leaving.result (made (goal.at.After-call at).After-new-leaving) c.call.new.self c.of.result.left c.call.new.life.left c.call.result (say at) c.call.ensures.spent long
+
+pub returns-clause-parted : goal.returns-clause-parted
+returns-clause-parted c =
+    let at = (goal.at.returns-clause-parted c).After-call in
+    subst (λ (o : Option (Result (Unit {0}) EraSpent)). IfSome o (HasParted c.args.pool.now c.call.new.self)) c.unwrap.ensures
+    (leave_parted c.args.pool.now c.requires.working c.requires.latch c.requires.dying c.new-leaving.result (made (goal.at.After-call at).After-new-leaving) c.call.new.self c.of.result.left c.call.new.life.left c.call.result (say at))

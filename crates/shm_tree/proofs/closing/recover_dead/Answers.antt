@@ -1,0 +1,42 @@
+use Rattle.std.proofs.Common.{◌≡◌, ℕ, ◌^◌, ◌<◌, ap, ◌∙◌, subst, arith, Option}
+use Rattle.std.specs.Prelude.{IfSome, IsSome, Result}
+use Rattle.shm_calls.specs.CallsControl.{calls_of}
+use Rattle.shm_calls.specs.CallsFit.{CallsFits, CallsGives}
+use Rattle.shm_count.specs.declared.answer.EraSpent.{EraSpent}
+use Rattle.shm_recover.specs.declared.recover.RecoverState.{RecoverState}
+use Rattle.shm_recover.specs.Recover.Control.{recover_parts, recovering}
+use Rattle.shm_recover.specs.Recover.{recover_plan}
+use Rattle.shm_plain.proofs.Called.{Called}
+use Rattle.shm_tree.specs.Ending.{IsRevived}
+use Rattle.shm_tree.proofs.Ending.{recover_answers, recover_control, recover_fits, recover_revived, recoverer}
+use Rattle.shm_tree.proofs.closing.recover_dead.Goals.{After-new-recovery, After-call}
+use Rattle.shm_tree.proofs.closing.recover_dead.Goals as goal
+
+made : (c : After-new-recovery) → c.new-recovery.result ≡ recoverer c.args.pool.now
+made c = c.new-recovery.ensures ∙ ap (λ (x : RecoverState). calls_of recover_plan x) (c.new.ensures.state ∙ ap recovering c.me.ensures.is)
+
+who : (c : After-new-recovery) → 0 < c.args.pool.now.start.geometry.clients
+who c = let one = c.requires.one in omega arith
+
+pub call-requires-clause-fits : goal.call-requires-clause-fits
+call-requires-clause-fits c =
+    let at = (goal.at.call-requires-clause-fits c).After-new-recovery in
+    recover_fits c.args.pool.now c.me.ensures.run (who at) c.requires.fell c.new-recovery.result (made at)
+
+-- what its call says
+say : (c : After-call) → Called recover_control (CallsFits recover_parts recover_plan) (CallsGives recover_parts recover_plan) 0 c.args.pool.now c.new-recovery.result c.call.new.self c.of.result.left c.call.new.life.left c.call.result
+say c = record { gave = c.call.ensures.gives; ran = c.call.ensures.ran; took = c.call.ensures.took; events = c.call.ensures.events }
+
+pub unwrap-requires : goal.unwrap-requires
+unwrap-requires c =
+    let at = (goal.at.unwrap-requires c).After-call in
+    let new = (goal.at.After-call at).After-new-recovery in
+    let long : 2 ^ 38 < c.of.result.left = let life = c.of.ensures in omega arith in
+    recover_answers c.args.pool.now c.me.ensures.run (who new) c.requires.fell c.new-recovery.result (made new) c.call.new.self c.of.result.left c.call.new.life.left c.call.result (say at) c.call.ensures.spent long
+
+pub returns-clause-revived : goal.returns-clause-revived
+returns-clause-revived c =
+    let at = (goal.at.returns-clause-revived c).After-call in
+    let new = (goal.at.After-call at).After-new-recovery in
+    subst (λ (o : Option (Result (Unit {0}) EraSpent)). IfSome o (IsRevived c.args.pool.now c.call.new.self)) c.unwrap.ensures
+    (recover_revived c.args.pool.now c.me.ensures.run (who new) c.requires.fell c.new-recovery.result (made new) c.call.new.self c.of.result.left c.call.new.life.left c.call.result (say at))

@@ -1,0 +1,22 @@
+use Rattle.std.proofs.Common.{ℕ, ◌<◌, ◌≤◌, ◌≡◌, ◌+◌, ◌*◌}
+use Rattle.shm_tree.specs.Sharing.{weight}
+use Rattle.shm_tree.specs.Standing.{Stands}
+use Rattle.shm_tree.specs.Trees.{Tree}
+use Rattle.shm_tree.specs.Ways.{IsOther, down}
+use Rattle.shm_tree.specs.Working.{IsReached}
+use Rattle.shm_tree.proofs.Building.{Looked}
+use Rattle.shm_tree.proofs.Ways.{height_at}
+use Rattle.shm_tree.proofs.find.find.Given as goal
+
+abbrev pub invariant-loop-node : goal.invariant-loop-node
+invariant-loop-node l = record {
+  passed : Looked l.fn.pool l.pool l.fn.life.left l.life.left;
+  steps : l.fn.life.left ≡ l.life.left + 5 * l.depth;
+  reached : IsReached l.pool l.node;
+  stands : (t : Tree) → Stands l.fn.pool l.tree t → Stands l.pool l.node (down l.wanted t l.depth);
+  light : (f : ℕ → ℕ) (t : Tree) → Stands l.fn.pool l.tree t → weight f l.pool l.node (down l.wanted t l.depth) ≤ weight f l.fn.pool l.tree t;
+  on : (t : Tree) → Stands l.fn.pool l.tree t → (i : ℕ) → i < l.depth → IsOther l.wanted (down l.wanted t i);
+}
+
+abbrev pub decreases-loop-node : goal.decreases-loop-node
+decreases-loop-node l = height_at l.pool l.node

@@ -1,0 +1,60 @@
+use Rattle.std.proofs.Common.{◌∙◌, sym, arith, ◌≤◌}
+use Rattle.shm_tree.proofs.Building.{looked, looked_then, went_on}
+use Rattle.shm_tree.specs.Standing.{Stands}
+use Rattle.shm_tree.specs.Trees.{Tree, height}
+use Rattle.shm_tree.proofs.Descents.{others_deep}
+use Rattle.shm_tree.proofs.Ways.{down_lower, down_found, end_none, end_some, stands_node}
+use Rattle.shm_tree.proofs.find.number_at.Goals.{In_ok-place}
+use Rattle.shm_tree.proofs.find.number_at.Goals as goal
+
+pub find-requires : goal.find-requires
+find-requires c = record { working = c.requires.working; latch = c.requires.latch; tree = c.requires.tree }
+
+pub number-requires : goal.number-requires
+number-requires c =
+    let f = c.in_ok-place.ensures in
+    let t = c.requires.tree.0 in
+    record { working = f.working; node = (stands_node c.find.new.pool c.in_ok-place.place.node _ (f.place t.0 t.1).stands (omega arith)).0; reached = f.reached }
+
+-- the place is at most as deep as the tree is high
+depth_high : (c : In_ok-place) (t : Tree) → Stands c.args.pool.now c.args.tree t → c.in_ok-place.place.depth ≤ height t
+depth_high c t st =
+    let w = c.in_ok-place.ensures.place t st in
+    let lower = down_lower c.args.wanted t c.in_ok-place.place.depth (others_deep c.args.wanted c.in_ok-place.place.depth t w.on) in
+    omega (arith, lower)
+
+pub returns-then-place-eq0 : goal.returns-then-place-eq0
+returns-then-place-eq0 c =
+    let f = c.in_ok-place.ensures in
+    let x = c.args.wanted in
+    record {
+      went = f.went;
+      working = f.working;
+      latch = f.latch;
+      still = f.still;
+      reaches = f.reaches;
+      died = tt;
+      steps = λ t st. (let d = depth_high (goal.at.returns-then-place-eq0 c).In_ok-place t st in let s = f.steps in omega (arith, d, s));
+      is = λ t st. (let w = f.place t st in end_none c.find.new.pool c.in_ok-place.place.node x _ w.stands (omega arith) ∙ sym (down_found x t c.in_ok-place.place.depth w.on));
+    }
+
+pub returns-in_ok-number : goal.returns-in_ok-number
+returns-in_ok-number c =
+    let f = c.in_ok-place.ensures in
+    let n = c.in_ok-number.ensures in
+    let run = c.requires.working.run in
+    let x = c.args.wanted in
+    let read = looked_then run (looked f.went f.working f.latch f.still f.reaches) (looked n.went n.working n.latch n.still n.reaches) in
+    record {
+      went = read.went;
+      working = read.working;
+      latch = read.latch;
+      still = read.still;
+      reaches = read.reaches;
+      died = tt;
+      steps = λ t st. (let d = depth_high (goal.at.returns-in_ok-number c).In_ok-place t st in let s = f.steps in let u = n.steps in omega (arith, d, s, u));
+      is = λ t st. (let w = f.place t st in end_some c.find.new.pool c.in_ok-place.place.node x c.in_ok-number.number _ w.stands w.end (omega arith) n.is ∙ sym (down_found x t c.in_ok-place.place.depth w.on));
+    }
+
+pub returns-in_err-number-clause-went : goal.returns-in_err-number-clause-went
+returns-in_err-number-clause-went c = went_on c.requires.working.run c.in_ok-place.ensures.went c.in_err-number.ensures.went

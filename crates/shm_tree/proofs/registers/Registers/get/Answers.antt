@@ -1,0 +1,21 @@
+use Rattle.std.proofs.Common.{◌≡◌, ◌∙◌, sym, refl}
+use Rattle.shm_tree.specs.Forests.{version}
+use Rattle.shm_tree.proofs.Forests.{got_versions, read_died, read_moves}
+use Rattle.shm_tree.proofs.registers.Registers.get.Goals as goal
+
+pub read-requires : goal.read-requires
+read-requires c =
+    let x = c.requires.forest in
+    let v = x.versions in
+    record { working = x.working; latch = x.latch; root = x.low c.args.at c.requires.at; tree = (version v.0 c.args.at, (v.1.each c.args.at c.requires.at).stands) }
+
+pub returns : goal.returns
+returns c =
+    let f = c.args.self.now in
+    let q = c.read.new.pool in
+    let r = c.read.ensures in
+    record {
+      moves = read_moves f q _ c.requires.forest r.went r.working r.latch r.still r.died;
+      died = read_died c.read.new.life.left _ r.died;
+      is = got_versions f q f.tidy c.args.at c.args.key _ c.requires.at r.is r.still;
+    }

@@ -1,0 +1,24 @@
+use Rattle.std.proofs.Common.{◌≡◌, ◌∙◌, sym, refl, true, inl, inr, ◌⊎◌}
+use Rattle.shm_tree.proofs.Forests.{moves_done, moves_from, told, told_versions}
+use Rattle.shm_tree.proofs.registers.Registers.put.Goals as goal
+
+pub replace-requires : goal.replace-requires
+replace-requires c = record { forest = c.requires.forest; at = c.requires.at; root = c.requires.root; tree = c.requires.tree }
+
+pub returns-in_err-replace-clause-moves : goal.returns-in_err-replace-clause-moves
+returns-in_err-replace-clause-moves c = moves_from c.from_residual.result c.from_residual.ensures.1 c.in_err-replace.ensures.moves
+
+pub returns : goal.returns
+returns c =
+    let g = c.replace.new.self in
+    let r = c.in_ok-replace.ensures in
+    record {
+      moves =
+          moves_done _ r.moves.went (told g true r.moves.forest (λ e k lt free.
+          (let h = r.left k lt free in
+          elim h.1 [
+            | inl none ↦ none
+            | inr was ↦ was.1 ∙ c.requires.alone k lt h.0 was.0
+          ])));
+      put = λ ts t v s. told_versions g true _ (r.put ts t v s);
+    }

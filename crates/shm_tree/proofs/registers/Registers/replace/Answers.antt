@@ -1,0 +1,24 @@
+use Rattle.std.proofs.Common.{◌≡◌, ◌∙◌, sym, refl}
+use Rattle.shm_tree.proofs.Forests.{moves_done, moves_from, moves_still, replaced_forest, replaced_left, replaced_put}
+use Rattle.shm_tree.proofs.registers.Registers.replace.Goals as goal
+
+pub emptied-requires : goal.emptied-requires
+emptied-requires c = record { working = c.requires.forest.working; root = c.requires.forest.low c.args.at c.requires.at }
+
+pub returns-in_err-emptied-clause-moves : goal.returns-in_err-emptied-clause-moves
+returns-in_err-emptied-clause-moves c =
+    let e = c.in_err-emptied.ensures in
+    moves_from c.from_residual.result c.from_residual.ensures.1 (moves_still (Unit {0}) c.args.self.now c.emptied.new.pool _ c.requires.forest e.calls e.still)
+
+pub returns : goal.returns
+returns c =
+    let f = c.args.self.now in
+    let q = c.emptied.new.pool in
+    let x = c.requires.forest in
+    let h = c.in_ok-emptied.ensures in
+    let l = h.calls.latch ∙ x.latch in
+    record {
+      moves = moves_done _ h.calls.went (replaced_forest f q c.args.at c.args.root x c.requires.at c.requires.root h.calls.working l h.calls.kept h.others h.empty c.requires.tree.0 c.requires.tree.1);
+      put = replaced_put f q c.args.at c.args.root x c.requires.at c.requires.root h.calls.working l h.calls.kept h.others h.empty;
+      left = replaced_left f q c.args.at c.args.root x c.requires.at c.requires.root h.calls.working l h.calls.kept h.others h.empty;
+    }

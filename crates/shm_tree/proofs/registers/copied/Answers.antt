@@ -1,0 +1,25 @@
+use Rattle.std.proofs.Common.{◌≡◌, ◌≢◌, ◌∙◌, ◌<◌, ◌≤◌, ◌+◌, sym, arith}
+use Rattle.shm_tree.proofs.Building.{looked, rooms_some, rooms_still}
+use Rattle.shm_tree.proofs.Forests.{calls_died, calls_from, copied_rooted, copied_some, copied_stands, shared_grows}
+use Rattle.shm_tree.proofs.registers.copied.Goals as goal
+
+pub share-requires : goal.share-requires
+share-requires c =
+    let t = c.in_ok-tree.ensures in
+    let same = rooms_still t.still in
+    record { working = t.working; room = rooms_some t.working (omega arith); some = λ e. c.requires.some (sym t.names ∙ e); reached = t.reached }
+
+pub returns-in_err-tree-clause-calls : goal.returns-in_err-tree-clause-calls
+returns-in_err-tree-clause-calls c = let e = c.in_err-tree.ensures in calls_from c.from_residual.result c.from_residual.ensures.1 (calls_died _ e.went e.died)
+
+pub returns : goal.returns
+returns c =
+    let t = c.in_ok-tree.ensures in
+    let s = c.share.ensures in
+    let b = c.in_ok-tree.tree in
+    record {
+      calls = shared_grows b _ c.requires.working (looked t.went t.working t.latch t.still t.reaches) s.went s.working s.latch s.shared s.still s.cause s.died;
+      rooted = copied_rooted c.share.new.pool b _ t.still s.block s.shared;
+      some = copied_some _ (λ e. c.requires.some (sym t.names ∙ e)) s.block;
+      is = copied_stands c.share.new.pool b _ _ t.still t.names s.block s.shared;
+    }

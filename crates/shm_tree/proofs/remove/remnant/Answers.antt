@@ -1,0 +1,51 @@
+use Rattle.std.proofs.Common.{◌+◌, ◌≤◌, lit≤, sym, subst, arith}
+use Rattle.std.specs.Prelude.{Option}
+use Rattle.shm_count.specs.declared.answer.Made.{Made}
+use Rattle.shm_tree.specs.Bounds.{remnant_steps, share_steps}
+use Rattle.shm_tree.specs.Building.{block_of}
+use Rattle.shm_tree.specs.Keeping.{HasTree, child_of}
+use Rattle.shm_tree.specs.Removing.{IsKept, StandsMoved}
+use Rattle.shm_tree.specs.Sharing.{KeepsBlocks}
+use Rattle.shm_tree.proofs.Building.{builds_after, builds_died, builds_from, looked, looked_none, ok_kept, rooms_still, still_cut, tree_still}
+use Rattle.shm_tree.proofs.Counts.{at_start}
+use Rattle.shm_tree.proofs.Fallings.{rests_read}
+use Rattle.shm_tree.proofs.Removing.{kept_after, moved_after}
+use Rattle.shm_tree.proofs.Rotations.{child_tree, node_of}
+use Rattle.shm_tree.proofs.Weights.{blocks_nodes, blocks_then}
+use Rattle.shm_tree.proofs.remove.remnant.Goals as goal
+
+pub child-requires : goal.child-requires
+child-requires c = record { working = c.requires.working; latch = c.requires.latch; node = node_of c.args.pool.now c.args.node c.requires.some c.requires.node.0; reached = c.requires.node.1 }
+
+pub shared-requires : goal.shared-requires
+shared-requires c =
+    let p = c.args.pool.now in
+    let u = c.in_ok-tree.ensures in
+    let same = rooms_still u.still in
+    let t : HasTree p c.in_ok-tree.tree = subst (HasTree p) (sym u.names) (child_tree p c.args.node c.args.side c.requires.some c.requires.node.0) in
+    record { working = u.working; room = omega arith; tree = (tree_still c.in_ok-tree.tree u.still t, u.reached) }
+
+pub returns-in_err-tree-clause-builds : goal.returns-in_err-tree-clause-builds
+returns-in_err-tree-clause-builds c =
+    let run = c.requires.working.run in
+    let e = c.in_err-tree.ensures in
+    builds_from c.from_residual.result c.from_residual.ensures.1 (builds_died _ run (looked_none c.args.pool.now c.args.life.now.left c.requires.working).went e.went e.died)
+
+pub returns : goal.returns
+returns c =
+    let p = c.args.pool.now in
+    let q = c.child.new.pool in
+    let r = c.shared.new.pool in
+    let u = c.in_ok-tree.ensures in
+    let s = c.shared.ensures in
+    let run = c.requires.working.run in
+    record {
+      builds = builds_after 0 0 _ (lit≤ tt) run (looked u.went u.working u.latch u.still u.reaches) s.builds;
+      kept = ok_kept {T = Option Made} {P = λ o. IsKept 0 o q r} {Q = λ o. IsKept 0 o p r} _ (λ o b. kept_after 0 p q r o run u.went.run u.went.start u.still b) s.kept;
+      stands = ok_kept {T = Option Made} {P = λ o. StandsMoved c.in_ok-tree.tree (block_of o) q r} {Q = λ o. StandsMoved (child_of p c.args.node c.args.side) (block_of o) p r} _ (λ o b. moved_after r (child_of p c.args.node c.args.side) c.in_ok-tree.tree (block_of o) u.still u.names b) s.stands;
+      blocks = ok_kept {T = Option Made} {P = λ o. KeepsBlocks q r} {Q = λ o. KeepsBlocks p r} _ (λ o b. blocks_then r (still_cut u.still) (blocks_nodes u.still.nodes) b) s.blocks;
+      rests = rests_read c.shared.result p q r u.working u.still s.builds s.rests;
+      steps =
+          ok_kept {T = Option Made} {P = λ o. c.child.new.life.left ≤ c.shared.new.life.left + share_steps q.start.geometry} {Q = λ o. c.args.life.now.left ≤ c.shared.new.life.left + remnant_steps p.start.geometry} _
+          (λ o b. let k = at_start share_steps p q c.child.new.life.left c.shared.new.life.left u.went.start b in let one = u.steps in omega (arith, k, one)) s.steps;
+    }

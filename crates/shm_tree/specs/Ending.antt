@@ -1,0 +1,30 @@
+-- The closing of a forest's pool: its one client leaves, or it is dead and is recovered.
+use Rattle.std.specs.Prelude.{◌≡◌, ◌⊎◌, Bool, true, false, List, Result}
+use Rattle.shm_graph.specs.declared.memo.Kind.TheVariants.{Recoverer}
+use Rattle.shm_graph.specs.Agents.{entered}
+use Rattle.shm_graph.specs.Events.{Event}
+use Rattle.shm_plain.specs.Calls.{Did}
+use Rattle.shm_plain.specs.Pools.{Pool, after_fall, memo_of}
+use Rattle.shm_count.specs.declared.answer.EraSpent.{EraSpent}
+use Rattle.shm_count.specs.Roots.{member}
+use Rattle.shm_recover.specs.Leave.Control.{leaving}
+use Rattle.shm_recover.specs.Leave.{LeaveLeaves}
+use Rattle.shm_recover.specs.Recover.Control.{recovering}
+use Rattle.shm_recover.specs.Recover.{RecoverLeaves}
+use Rattle.shm_tree.specs.Working.{IsSpent}
+
+-- the client left, from p to q, with this answer
+pub record HasParted (p q : Pool) (a : Result (Unit {0}) EraSpent) : Type 0 where
+  pub told : List Event
+  pub did : Did 0 p q told
+  pub leaves : LeaveLeaves (leaving (member p.start.geometry 0)) (memo_of p 0) (memo_of q 0) (memo_of q 0).call told a
+
+-- the client, which was dead in p, was recovered, from p to q, with this answer
+pub record IsRevived (p q : Pool) (a : Result (Unit {0}) EraSpent) : Type 0 where
+  pub told : List Event
+  pub did : Did 0 p q told
+  pub leaves : RecoverLeaves (recovering (member p.start.geometry 0)) (entered Recoverer (memo_of p 0)) (memo_of q 0) (memo_of q 0).call told a
+
+-- where the client had died in a call, or its own era is spent, it is dead and was recovered; otherwise it left
+abbrev pub HasEnded : Bool → Pool → Pool → Result (Unit {0}) EraSpent → Type 0
+HasEnded died p q a = (((died ≡ true) ⊎ IsSpent (memo_of p 0)) × IsRevived (after_fall p 0) q a) ⊎ ((died ≡ false) × (IsSpent (memo_of p 0) → ⊥) × HasParted p q a)

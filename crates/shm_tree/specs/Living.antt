@@ -1,0 +1,30 @@
+-- Live blocks that are all nodes of trees that roots name, and how many came to be live.
+use Rattle.std.specs.Prelude.{◌≡◌, ℕ, ◌<◌, ◌≤◌, ◌⊎◌, true, false, List, length}
+use Rattle.std.specs.List.{Contains}
+use Rattle.shm_plain.specs.Pools.{Pool, memo_of}
+use Rattle.shm_tree.specs.Building.{named_by}
+use Rattle.shm_tree.specs.Inserting.{is_part}
+use Rattle.shm_tree.specs.Keeping.{HasTree, is_live}
+use Rattle.shm_tree.specs.Standing.{Stands}
+use Rattle.shm_tree.specs.Trees.{Tree}
+use Rattle.shm_tree.specs.Working.{IsSpent}
+
+-- a tree stands wherever a root names a block
+abbrev pub AreRootsTrees : Pool → Type 0
+AreRootsTrees p = (j : ℕ) → j < 16 → HasTree p (named_by p j)
+
+-- each live block is a node of a tree that a root names
+abbrev pub AreLivesNodes : Pool → Type 0
+AreLivesNodes p = (b : ℕ) → is_live p b ≡ true → (j : ℕ) × (j < 16) × (t : Tree) × Stands p (named_by p j) t × (is_part p b (named_by p j) t ≡ true)
+
+-- at most n blocks are live that weren't
+abbrev pub AreFewNew : ℕ → Pool → Pool → Type 0
+AreFewNew n p q = (xs : List ℕ) × (length xs ≤ n) × ((b : ℕ) → is_live q b ≡ true → is_live p b ≡ false → Contains xs b)
+
+-- a tree stands at each live block
+abbrev pub AreLivesTrees : Pool → Type 0
+AreLivesTrees p = (b : ℕ) → is_live p b ≡ true → HasTree p b
+
+-- Unless the own era is spent, a tree stands at each live block that wasn't live before or at which a tree stood
+abbrev pub KeepsLives : Pool → Pool → Type 0
+KeepsLives p q = (IsSpent (memo_of q 0) → ⊥) → (b : ℕ) → is_live q b ≡ true → (is_live p b ≡ false) ⊎ HasTree p b → HasTree q b

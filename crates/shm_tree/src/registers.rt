@@ -1,0 +1,439 @@
+//! Twelve registers over the calls of the one client of a pool.
+
+ghost use Rattle.std.specs.Prelude.{◌≡◌, ◌≢◌, ◌<◌, ◌≤◌, ◌⊎◌, ℕ, List, true, false, Ok, None, Some, length, slice_set, IfErr, IfOk};
+ghost use Rattle.std.specs.Option.{is_some};
+ghost use Rattle.shm_plain.specs.Pools.{memo_of};
+ghost use Rattle.shm_tree.specs.declared.stop.Stop.TheVariants as stop;
+ghost use Rattle.shm_tree.specs.Building.{named_by, rooms};
+ghost use Rattle.shm_tree.specs.Forests.{Calls, DoesLine, HasVersions, IsForest, IsFree, IsInRange, IsLeft, IsOwn, IsPruned, IsPut, IsReading, IsSpare, IsTidy, KeepsNamed, KeepsOthers, KeepsRoots, KeepsVersions, Moves, Stopped, block_in, version};
+ghost use Rattle.shm_tree.specs.Keeping.{IsStill};
+ghost use Rattle.shm_tree.specs.Standing.{IsTree, Stands};
+ghost use Rattle.shm_tree.specs.Trees.{Empty, Tree as ATree, found, inserted, removed};
+ghost use Rattle.shm_tree.specs.Working.{IfAlive, IfRefused, IsOver, IsReached, IsRooted, IsSameLatch, IsWorking, Reaches, Went};
+
+use crate::calls::{drop_root, hold, release, root_of, share};
+use crate::find::number_at;
+use crate::insert::insert;
+use crate::line::{TreeAnswer, TreeLine};
+use crate::remove::{Removed, remove};
+use crate::stop::Stop;
+use shm_count::Made;
+use shm_graph::Life;
+use shm_plain::PlainPool;
+
+/// The root of an empty register.
+pub const NONE: u8 = 16;
+
+/// Twelve registers, each with a tree of its own in a root, or empty.
+#[derive(Drop)]
+pub struct Registers {
+    pub pool: PlainPool,
+    /// The root of each register's tree, and 16 where it is empty.
+    pub roots: [u8; 12],
+    /// Whether all roots beside those of registers are empty.
+    pub tidy: bool,
+}
+
+/// The block that a root names, or 0; there is none where it is 16.
+fn tree_in(pool: &mut PlainPool, root: u8, life: &mut Life) -> Result<u32, Stop>
+    requires working { IsWorking pool.old }
+    requires root { root ≤ 16 }
+    ensures went { Went pool.old pool.new life.old.left life.new.left }
+    ensures working { IfOk result (λ b. IsWorking pool.new) }
+    ensures latch { IfOk result (λ b. IsSameLatch pool.old pool.new) }
+    ensures names { IfOk result (λ b. b ≡ block_in pool.old root) }
+    ensures still { IfOk result (λ b. IsStill pool.old pool.new) }
+    ensures reaches { IfOk result (λ b. Reaches pool.old pool.new) }
+    ensures reached { IfOk result (λ b. IsReached pool.new b) }
+    ensures died { IfErr result (λ e. (e ≡ stop.Died) × (life.new.left ≡ 0)) }
+{
+    if root == NONE {
+        Ok(0)
+    } else {
+        root_of(pool, root, life)
+    }
+}
+
+/// The number at a key of the tree in a root, where it has the key.
+fn read(pool: &mut PlainPool, root: u8, key: u32, life: &mut Life) -> Result<Option<u64>, Stop>
+    requires working { IsWorking pool.old }
+    requires latch { (memo_of pool.old 0).latch ≡ None }
+    requires root { root ≤ 16 }
+    requires tree { (t : ATree) × Stands pool.old (block_in pool.old root) t }
+    ensures went { Went pool.old pool.new life.old.left life.new.left }
+    ensures working { IfOk result (λ o. IsWorking pool.new) }
+    ensures latch { IfOk result (λ o. IsSameLatch pool.old pool.new) }
+    ensures still { IfOk result (λ o. IsStill pool.old pool.new) }
+    ensures is { IfOk result (λ o. (t : ATree) → Stands pool.old (block_in pool.old root) t → o ≡ found key t) }
+    ensures died { IfErr result (λ e. (e ≡ stop.Died) × (life.new.left ≡ 0)) }
+{
+    hold(pool, life)?;
+    let tree = tree_in(pool, root, life)?;
+    let number = number_at(pool, tree, key, life)?;
+    release(pool, life)?;
+    Ok(number)
+}
+
+/// Makes a tree as that of a root, with the number at the key.
+fn planted(
+    pool: &mut PlainPool,
+    root: u8,
+    key: u32,
+    number: u64,
+    life: &mut Life,
+) -> Result<Made, Stop>
+    requires working { IsWorking pool.old }
+    requires latch { (memo_of pool.old 0).latch ≡ None }
+    requires room { 4 ≤ rooms pool.old }
+    requires root { root ≤ 16 }
+    requires tree { (t : ATree) × IsTree pool.old (block_in pool.old root) t }
+    ensures calls { Calls KeepsNamed result pool.old pool.new life.old.left life.new.left }
+    ensures rooted { IfOk result (λ m. IsRooted m.root m.block pool.old pool.new) }
+    ensures some { IfOk result (λ m. m.block ≢ 0) }
+    ensures is { IfOk result (λ m. (t : ATree) → IsTree pool.old (block_in pool.old root) t → IsTree pool.new m.block (inserted key number t)) }
+{
+    hold(pool, life)?;
+    let tree = tree_in(pool, root, life)?;
+    match insert(pool, tree, key, number, life) {
+        Ok(made) => {
+            release(pool, life)?;
+            Ok(made)
+        }
+        Err(why) => {
+            if why.is_over() {
+                return Err(why);
+            }
+            release(pool, life)?;
+            Err(why)
+        }
+    }
+}
+
+/// A further root for the tree of a root.
+fn copied(pool: &mut PlainPool, root: u8, life: &mut Life) -> Result<Made, Stop>
+    requires working { IsWorking pool.old }
+    requires room { 4 ≤ rooms pool.old }
+    requires root { root < 16 }
+    requires some { named_by pool.old root ≢ 0 }
+    ensures calls { Calls KeepsNamed result pool.old pool.new life.old.left life.new.left }
+    ensures rooted { IfOk result (λ m. IsRooted m.root m.block pool.old pool.new) }
+    ensures some { IfOk result (λ m. m.block ≢ 0) }
+    ensures is { IfOk result (λ m. (t : ATree) → Stands pool.old (named_by pool.old root) t → Stands pool.new m.block t) }
+{
+    let tree = root_of(pool, root, life)?;
+    share(pool, tree, life)
+}
+
+/// Makes a tree as that of a root, without the key; none where it has no such key.
+fn pruned(
+    pool: &mut PlainPool,
+    root: u8,
+    key: u32,
+    life: &mut Life,
+) -> Result<Option<Removed>, Stop>
+    requires working { IsWorking pool.old }
+    requires latch { (memo_of pool.old 0).latch ≡ None }
+    requires room { 4 ≤ rooms pool.old }
+    requires root { root ≤ 16 }
+    requires tree { (t : ATree) × IsTree pool.old (block_in pool.old root) t }
+    ensures calls { Calls KeepsNamed result pool.old pool.new life.old.left life.new.left }
+    ensures pruned { IfOk result (λ o. IsPruned key root o pool.old pool.new) }
+{
+    hold(pool, life)?;
+    let tree = tree_in(pool, root, life)?;
+    match remove(pool, tree, key, life) {
+        Ok(removed) => {
+            release(pool, life)?;
+            Ok(removed)
+        }
+        Err(why) => {
+            if why.is_over() {
+                return Err(why);
+            }
+            release(pool, life)?;
+            Err(why)
+        }
+    }
+}
+
+/// Empties a root, unless it is one of these.
+fn drop_other(pool: &mut PlainPool, roots: [u8; 12], root: u8, life: &mut Life) -> Result<(), Stop>
+    requires working { IsWorking pool.old }
+    requires long { length roots ≡ 12 }
+    requires root { root < 16 }
+    ensures calls { Calls (KeepsRoots roots) result pool.old pool.new life.old.left life.new.left }
+    ensures others { IfOk result (λ u. (k : ℕ) → k ≢ root → named_by pool.new k ≡ named_by pool.old k) }
+    ensures empty { IfOk result (λ u. IsFree roots root → named_by pool.new root ≡ 0) }
+{
+    if roots.contains(&root) {
+        Ok(())
+    } else {
+        drop_root(pool, root, life)
+    }
+}
+
+/// Empties all roots but these.
+///
+/// # Errors
+///
+/// As a drop was refused: what is in these roots stands still.
+fn swept(pool: &mut PlainPool, roots: [u8; 12], life: &mut Life) -> Result<(), Stop>
+    requires working { IsWorking pool.old }
+    requires long { length roots ≡ 12 }
+    ensures calls { Calls (KeepsRoots roots) result pool.old pool.new life.old.left life.new.left }
+    ensures empty { IfOk result (λ u. (k : ℕ) → k < 16 → IsFree roots k → named_by pool.new k ≡ 0) }
+{
+    for root in 0..16u8 {
+        drop_other(pool, roots, root, life)?;
+    }
+    Ok(())
+}
+
+/// Empties a root; there is none where it is 16.
+///
+/// # Errors
+///
+/// As the drop was refused; nothing was done then.
+fn emptied(pool: &mut PlainPool, root: u8, life: &mut Life) -> Result<(), Stop>
+    requires working { IsWorking pool.old }
+    requires root { root ≤ 16 }
+    ensures calls { Calls (KeepsOthers root) result pool.old pool.new life.old.left life.new.left }
+    ensures others { IfOk result (λ u. (k : ℕ) → k ≢ root → named_by pool.new k ≡ named_by pool.old k) }
+    ensures empty { IfOk result (λ u. root < 16 → named_by pool.new root ≡ 0) }
+    ensures still { IfRefused result (IsStill pool.old pool.new) }
+{
+    if root == NONE {
+        Ok(())
+    } else {
+        drop_root(pool, root, life)
+    }
+}
+
+impl Registers {
+    /// Sees that all roots beside those of registers are empty.
+    ///
+    /// # Errors
+    ///
+    /// As a drop was refused.
+    pub fn sweep(&mut self, life: &mut Life) -> Result<(), Stop>
+        requires forest { IsForest self.old }
+        ensures moves { Moves result self.old self.new life.old.left life.new.left }
+        ensures same { IfOk result (λ u. KeepsVersions self.old self.new) }
+        ensures roots { self.new.roots ≡ self.old.roots }
+        ensures tidy { IfOk result (λ u. IsTidy self.new) }
+    {
+        if self.tidy {
+            return Ok(());
+        }
+        swept(&mut self.pool, self.roots, life)?;
+        self.tidy = true;
+        Ok(())
+    }
+
+    /// Gives a register another root, or none, and drops the one that it had.
+    ///
+    /// # Errors
+    ///
+    /// As the drop was refused.
+    fn replace(&mut self, at: u8, root: u8, life: &mut Life) -> Result<(), Stop>
+        requires forest { IsForest self.old }
+        requires at { at < 12 }
+        requires root { IsSpare self.old root }
+        requires tree { (t : ATree) × IsTree self.old.pool (block_in self.old.pool root) t }
+        ensures moves { Moves result self.old self.new life.old.left life.new.left }
+        ensures put { IfOk result (λ u. IsPut at root self.old self.new) }
+        ensures left { IfOk result (λ u. (k : ℕ) → k < 16 → IsFree self.new.roots k → (k ≢ root) × IsLeft self.old self.new k) }
+    {
+        let old = self.roots[at as usize];
+        emptied(&mut self.pool, old, life)?;
+        self.roots[at as usize] = root;
+        Ok(())
+    }
+
+    /// Gives a register a root beside which no other is to be emptied.
+    ///
+    /// # Errors
+    ///
+    /// As the drop of the one that it had was refused.
+    fn put(&mut self, at: u8, root: u8, life: &mut Life) -> Result<(), Stop>
+        requires forest { IsForest self.old }
+        requires at { at < 12 }
+        requires root { IsSpare self.old root }
+        requires tree { (t : ATree) × IsTree self.old.pool (block_in self.old.pool root) t }
+        requires alone { (k : ℕ) → k < 16 → k ≢ root → IsFree self.old.roots k → named_by self.old.pool k ≡ 0 }
+        ensures moves { Moves result self.old self.new life.old.left life.new.left }
+        ensures put { IfOk result (λ u. IsPut at root self.old self.new) }
+    {
+        self.replace(at, root, life)?;
+        self.tidy = true;
+        Ok(())
+    }
+
+    /// The number at a key of a register's version, where it has the key.
+    pub fn get(&mut self, at: u8, key: u32, life: &mut Life) -> Result<Option<u64>, Stop>
+        requires forest { IsForest self.old }
+        requires at { at < 12 }
+        ensures moves { Moves result self.old self.new life.old.left life.new.left }
+        ensures died { IfErr result (λ e. e ≡ stop.Died) }
+        ensures is { IfOk result (λ o. (ts : List ATree) → HasVersions self.old ts → (o ≡ found key (version ts at)) × HasVersions self.new ts) }
+    {
+        read(&mut self.pool, self.roots[at as usize], key, life)
+    }
+
+    /// A register gets the version of another one with the number at the key.
+    pub fn set(
+        &mut self,
+        to: u8,
+        from: u8,
+        key: u32,
+        number: u64,
+        life: &mut Life,
+    ) -> Result<(), Stop>
+        requires forest { IsForest self.old }
+        requires to { to < 12 }
+        requires from { from < 12 }
+        ensures moves { Moves result self.old self.new life.old.left life.new.left }
+        ensures done { IfOk result (λ u. (ts : List ATree) → HasVersions self.old ts → HasVersions self.new (slice_set ts to (inserted key number (version ts from)))) }
+    {
+        self.sweep(life)?;
+        self.tidy = false;
+        let made = planted(&mut self.pool, self.roots[from as usize], key, number, life)?;
+        self.put(to, made.root, life)
+    }
+
+    /// A register gets the version of another one.
+    pub fn copy(&mut self, to: u8, from: u8, life: &mut Life) -> Result<(), Stop>
+        requires forest { IsForest self.old }
+        requires to { to < 12 }
+        requires from { from < 12 }
+        ensures moves { Moves result self.old self.new life.old.left life.new.left }
+        ensures done { IfOk result (λ u. (ts : List ATree) → HasVersions self.old ts → HasVersions self.new (slice_set ts to (version ts from))) }
+    {
+        self.sweep(life)?;
+        let root = self.roots[from as usize];
+        if root == NONE {
+            return self.replace(to, NONE, life);
+        }
+        self.tidy = false;
+        let made = copied(&mut self.pool, root, life)?;
+        self.put(to, made.root, life)
+    }
+
+    /// A register is empty.
+    pub fn clear(&mut self, at: u8, life: &mut Life) -> Result<(), Stop>
+        requires forest { IsForest self.old }
+        requires at { at < 12 }
+        ensures moves { Moves result self.old self.new life.old.left life.new.left }
+        ensures done { IfOk result (λ u. (ts : List ATree) → HasVersions self.old ts → HasVersions self.new (slice_set ts at Empty)) }
+    {
+        self.replace(at, NONE, life)
+    }
+
+    /// A register gets the version of another one without the key; false where that one has no such key.
+    pub fn del(&mut self, to: u8, from: u8, key: u32, life: &mut Life) -> Result<bool, Stop>
+        requires forest { IsForest self.old }
+        requires to { to < 12 }
+        requires from { from < 12 }
+        ensures moves { Moves result self.old self.new life.old.left life.new.left }
+        ensures missing { result ≡ Ok false → (ts : List ATree) → HasVersions self.old ts → (found key (version ts from) ≡ None) × HasVersions self.new ts }
+        ensures done { result ≡ Ok true → (ts : List ATree) → HasVersions self.old ts → (is_some (found key (version ts from)) ≡ true) × HasVersions self.new (slice_set ts to (removed key (version ts from))) }
+    {
+        self.sweep(life)?;
+        self.tidy = false;
+        match pruned(&mut self.pool, self.roots[from as usize], key, life)? {
+            None => {
+                self.tidy = true;
+                Ok(false)
+            }
+            Some(Removed { tree: None }) => {
+                self.tidy = true;
+                self.replace(to, NONE, life)?;
+                Ok(true)
+            }
+            Some(Removed { tree: Some(made) }) => {
+                self.put(to, made.root, life)?;
+                Ok(true)
+            }
+        }
+    }
+
+    /// Runs a line.
+    pub fn answer(&mut self, line: &TreeLine, life: &mut Life) -> Result<TreeAnswer, Stop>
+        requires forest { IsForest self.old }
+        requires line { IsInRange line.now }
+        ensures moves { Moves result self.old self.new life.old.left life.new.left }
+        ensures does { IfOk result (λ a. DoesLine line.now self.old self.new a) }
+        ensures reading { IfErr result (λ e. IsReading line.now → e ≡ stop.Died) }
+        ensures own { IfOk result (λ a. IsOwn a) }
+    {
+        match *line {
+            TreeLine::Set {
+                to,
+                from,
+                key,
+                number,
+            } => {
+                self.set(to, from, key, number, life)?;
+                Ok(TreeAnswer::Ok)
+            }
+            TreeLine::Del { to, from, key } => {
+                let was = self.del(to, from, key, life)?;
+                if was {
+                    Ok(TreeAnswer::Ok)
+                } else {
+                    Ok(TreeAnswer::Missing)
+                }
+            }
+            TreeLine::Get { at, key } => {
+                let number = self.get(at, key, life)?;
+                match number {
+                    None => Ok(TreeAnswer::Missing),
+                    Some(number) => Ok(TreeAnswer::Value { number }),
+                }
+            }
+            TreeLine::Copy { to, from } => {
+                self.copy(to, from, life)?;
+                Ok(TreeAnswer::Ok)
+            }
+            TreeLine::Clear { at } => {
+                self.clear(at, life)?;
+                Ok(TreeAnswer::Ok)
+            }
+        }
+    }
+
+    /// Why a line stopped that stopped so, once all roots beside those of registers are empty again, unless that stopped.
+    fn undone(&mut self, why: Stop, life: &mut Life) -> Stop
+        requires forest { IsForest self.old }
+        requires alive { why ≢ stop.Died }
+        ensures went { Went self.old.pool self.new.pool life.old.left life.new.left }
+        ensures kept { result ≢ stop.Died → IsForest self.new × KeepsVersions self.old self.new }
+        ensures why { (result ≡ why) ⊎ Stopped self.old.pool self.new.pool result }
+        ensures died { IsOver result life.new.left }
+    {
+        match self.sweep(life) {
+            Ok(()) => why,
+            Err(other) => other,
+        }
+    }
+
+    /// Runs a line. Where it is refused all roots beside those of registers are empty again, unless that is refused too.
+    pub fn run(&mut self, line: &TreeLine, life: &mut Life) -> Result<TreeAnswer, Stop>
+        requires forest { IsForest self.old }
+        requires line { IsInRange line.now }
+        ensures moves { Moves result self.old self.new life.old.left life.new.left }
+        ensures does { IfOk result (λ a. DoesLine line.now self.old self.new a) }
+        ensures reading { IfErr result (λ e. IsReading line.now → e ≡ stop.Died) }
+        ensures own { IfOk result (λ a. IsOwn a) }
+    {
+        match self.answer(line, life) {
+            Ok(answer) => Ok(answer),
+            Err(why) => {
+                if why.is_over() {
+                    return Err(why);
+                }
+                Err(self.undone(why, life))
+            }
+        }
+    }
+}

@@ -1,0 +1,201 @@
+//! A tree without a key.
+
+ghost use Rattle.std.specs.Prelude.{◌≡◌, ◌≢◌, ◌+◌, ◌*◌, ◌≤◌, ◌==◌, None, Some, IfErr, IfOk, IfSome, if◌then◌else◌};
+ghost use Rattle.shm_graph.specs.Bounds.{tear_steps};
+ghost use Rattle.shm_graph.specs.declared.spot.Spot.TheVariants.{Home};
+ghost use Rattle.shm_plain.specs.Pools.{memo_of};
+ghost use Rattle.shm_tree.specs.Bounds.{remnant_steps, remove_steps, share_steps, with_child_steps};
+ghost use Rattle.shm_tree.specs.declared.node.Side.TheVariants.{Left, Right};
+ghost use Rattle.shm_tree.specs.declared.stop.Stop.TheVariants as stop;
+ghost use Rattle.shm_tree.specs.Building.{Builds, IsAtHand, IsHeld, IsRebuilt, block_of, rooms};
+ghost use Rattle.shm_tree.specs.Inserting.{IsRegistered};
+ghost use Rattle.shm_tree.specs.Keeping.{IsStill, child_of};
+ghost use Rattle.shm_tree.specs.Living.{AreFewNew, AreLivesTrees, KeepsLives};
+ghost use Rattle.shm_tree.specs.Removing.{IsKept, IsRemoved, StandsAgain, StandsMoved, content_in, content_or};
+ghost use Rattle.shm_tree.specs.Sharing.{IsSharingOver, KeepsBlocks};
+ghost use Rattle.shm_tree.specs.Spending.{HasSpent};
+ghost use Rattle.shm_tree.specs.Standing.{Stands, word_of};
+ghost use Rattle.shm_tree.specs.Trees.{Tree as ATree, height};
+ghost use Rattle.shm_tree.specs.Working.{IsSameLatch, IsSpent, IsWorking, Reaches, Went};
+
+use crate::balance::renewed;
+use crate::calls::{child, share};
+use crate::find::{Place, above, find, last};
+use crate::node::{Content, Side, content_of};
+use crate::stop::Stop;
+use shm_count::Made;
+use shm_graph::Life;
+use shm_plain::PlainPool;
+
+/// What a removal made of a tree.
+#[derive(Clone, Copy, Debug, Drop)]
+pub struct Removed {
+    /// The tree without the key, in a root that was empty; none where it is the empty one.
+    pub tree: Option<Made>,
+}
+
+/// A further root for a tree; none for the empty one.
+fn shared(pool: &mut PlainPool, tree: u32, life: &mut Life) -> Result<Option<Made>, Stop>
+    requires working { IsWorking pool.old }
+    requires room { 1 ≤ rooms pool.old }
+    requires tree { IsAtHand pool.old tree }
+    ensures builds { Builds 0 result pool.old pool.new life.old.left life.new.left }
+    ensures kept { IfOk result (λ o. IsKept 0 o pool.old pool.new) }
+    ensures stands { IfOk result (λ o. StandsMoved tree (block_of o) pool.old pool.new) }
+    ensures blocks { IfOk result (λ o. KeepsBlocks pool.old pool.new) }
+    ensures rests { IfOk result (λ o. KeepsLives pool.old pool.new) }
+    ensures steps { IfOk result (λ o. life.old.left ≤ life.new.left + share_steps pool.old.start.geometry) }
+{
+    if tree == 0 {
+        return Ok(None);
+    }
+    let made = share(pool, tree, life)?;
+    Ok(Some(made))
+}
+
+/// A further root for the tree on a side of a node.
+fn remnant(
+    pool: &mut PlainPool,
+    node: u32,
+    side: Side,
+    life: &mut Life,
+) -> Result<Option<Made>, Stop>
+    requires working { IsWorking pool.old }
+    requires latch { (memo_of pool.old 0).latch ≡ Some 0 }
+    requires room { 1 ≤ rooms pool.old }
+    requires node { IsAtHand pool.old node }
+    requires some { node ≢ 0 }
+    ensures builds { Builds 0 result pool.old pool.new life.old.left life.new.left }
+    ensures kept { IfOk result (λ o. IsKept 0 o pool.old pool.new) }
+    ensures stands { IfOk result (λ o. StandsMoved (child_of pool.old node side) (block_of o) pool.old pool.new) }
+    ensures blocks { IfOk result (λ o. KeepsBlocks pool.old pool.new) }
+    ensures rests { IfOk result (λ o. KeepsLives pool.old pool.new) }
+    ensures steps { IfOk result (λ o. life.old.left ≤ life.new.left + remnant_steps pool.old.start.geometry) }
+{
+    let tree = child(pool, node, side, life)?;
+    shared(pool, tree, life)
+}
+
+/// The side of the lowest node of a removal on which its tree stays: on the left of a node that has nothing on its right; and on the right of the
+/// node of the next greater key, which has nothing on its left.
+fn staying(place: Place, lowest: Place) -> Side
+    ensures { result ≡ (if lowest.depth == place.depth then Left else Right) }
+{
+    if lowest.depth == place.depth {
+        Side::Left
+    } else {
+        Side::Right
+    }
+}
+
+/// The next greater key and its number; none where nothing is on the right of the key's node.
+fn next_of(
+    pool: &mut PlainPool,
+    place: Place,
+    lowest: Place,
+    life: &mut Life,
+) -> Result<Option<Content>, Stop>
+    requires working { IsWorking pool.old }
+    requires node { IsAtHand pool.old lowest.node }
+    requires some { lowest.node ≢ 0 }
+    ensures went { Went pool.old pool.new life.old.left life.new.left }
+    ensures working { IfOk result (λ o. IsWorking pool.new) }
+    ensures latch { IfOk result (λ o. IsSameLatch pool.old pool.new) }
+    ensures still { IfOk result (λ o. IsStill pool.old pool.new) }
+    ensures reaches { IfOk result (λ o. Reaches pool.old pool.new) }
+    ensures died { IfErr result (λ e. (e ≡ stop.Died) × (life.new.left ≡ 0)) }
+    ensures steps { IfOk result (λ o. life.old.left ≤ life.new.left + 4) }
+    ensures next { IfOk result (λ o. (t : ATree) → Stands pool.old lowest.node t → o ≡ (if lowest.depth == place.depth then None else Some (content_in t))) }
+{
+    if lowest.depth == place.depth {
+        Ok(None)
+    } else {
+        let content = content_of(pool, lowest.node, life)?;
+        Ok(Some(content))
+    }
+}
+
+/// The next greater key at the level of the key's node, in whose place it comes to stand; none at any other.
+fn lifted(depth: u32, place: Place, next: Option<Content>) -> Option<Content>
+    ensures { result ≡ (if depth == place.depth then next else None) }
+{
+    if depth == place.depth { next } else { None }
+}
+
+/// What is told, or this.
+fn content_or(told: Option<Content>, own: Content) -> Content
+    ensures { result ≡ content_or told own }
+{
+    match told {
+        None => own,
+        Some(content) => content,
+    }
+}
+
+/// The tree of a node, with another key and number where they are told, and with another tree on the side of a key, whose root is dropped.
+fn raise(
+    pool: &mut PlainPool,
+    node: u32,
+    wanted: u32,
+    told: Option<Content>,
+    below: Option<Made>,
+    life: &mut Life,
+) -> Result<Made, Stop>
+    requires working { IsWorking pool.old }
+    requires latch { (memo_of pool.old 0).latch ≡ Some 0 }
+    requires room { 3 ≤ rooms pool.old }
+    requires node { IsAtHand pool.old node }
+    requires some { node ≢ 0 }
+    requires below { IfSome below (IsHeld pool.old) }
+    ensures builds { Builds 3 result pool.old pool.new life.old.left life.new.left }
+    ensures rebuilt { IfOk result (λ m. IsRebuilt 3 below m pool.old pool.new) }
+    ensures spent { IfOk result (λ m. HasSpent (with_child_steps pool.old.start.geometry) pool.old pool.new life.old.left life.new.left) }
+    ensures stands { IfOk result (λ m. StandsAgain wanted told node (block_of below) m.block pool.old pool.new) }
+    ensures sharing { IfOk result (λ m. IsSharingOver below m pool.old pool.new) }
+    ensures rests { IfOk result (λ m. KeepsLives pool.old pool.new) }
+{
+    let own = content_of(pool, node, life)?;
+    let side = Side::of(wanted, own.key);
+    renewed(pool, node, content_or(told, own), side, below, life)
+}
+
+/// Makes a tree as this one, without the key; none where it has no such key.
+///
+/// # Errors
+///
+/// As a call was refused: what roots named they name still, and it stands. Nodes that were made then may be in roots that were empty.
+pub fn remove(
+    pool: &mut PlainPool,
+    tree: u32,
+    wanted: u32,
+    life: &mut Life,
+) -> Result<Option<Removed>, Stop>
+    requires working { IsWorking pool.old }
+    requires latch { (memo_of pool.old 0).latch ≡ Some 0 }
+    requires room { 4 ≤ rooms pool.old }
+    requires tree { IsRegistered pool.old tree }
+    ensures builds { (t : ATree) → Stands pool.old tree t → Builds (3 * height t) result pool.old pool.new life.old.left life.new.left }
+    ensures removed { IfOk result (λ o. (t : ATree) → Stands pool.old tree t → IsRemoved wanted t o pool.old pool.new) }
+    ensures blocks { IfOk result (λ o. KeepsBlocks pool.old pool.new) }
+    ensures spent { IfOk result (λ o. (t : ATree) → Stands pool.old tree t → HasSpent (remove_steps (height t) pool.old.start.geometry) pool.old pool.new life.old.left life.new.left) }
+    ensures steps { IfOk result (λ o. (t : ATree) → Stands pool.old tree t → (IsSpent (memo_of pool.new 0) → ⊥) → word_of pool.old (Home 0) ≡ 0 → AreLivesTrees pool.old → life.old.left ≤ life.new.left + remove_steps (height t) pool.old.start.geometry + tear_steps pool.old.start.geometry.wide (3 * height t)) }
+    ensures rests { IfOk result (λ o. KeepsLives pool.old pool.new) }
+    ensures lives { IfOk result (λ o. (t : ATree) → Stands pool.old tree t → AreFewNew (3 * height t) pool.old pool.new) }
+{
+    let place = find(pool, tree, wanted, life)?;
+    if place.node == 0 {
+        return Ok(None);
+    }
+    let lowest = last(pool, place, life)?;
+    let next = next_of(pool, place, lowest, life)?;
+    let mut made = remnant(pool, lowest.node, staying(place, lowest), life)?;
+    let mut depth = lowest.depth;
+    'levels: while depth > 0 {
+        depth -= 1;
+        let node = above(pool, tree, wanted, depth, life)?;
+        let told = lifted(depth, place, next);
+        let over = raise(pool, node, wanted, told, made, life)?;
+        made = Some(over);
+    }
+    Ok(Some(Removed { tree: made }))
+}
