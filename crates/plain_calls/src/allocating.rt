@@ -7,12 +7,14 @@ ghost use Rattle.shm_graph.specs.declared.memo.Kind.TheVariants.{Client};
 ghost use Rattle.shm_graph.specs.declared.memo.Status.TheVariants as status;
 ghost use Rattle.shm_graph.specs.Agents.{acts, recovers};
 ghost use Rattle.shm_graph.specs.Held.{is_loose};
+ghost use Rattle.shm_graph.specs.Tells.{happens_along};
 ghost use Rattle.shm_plain.specs.Pools.{MayStep, memo_of, readied};
 ghost use Rattle.shm_plain.specs.Calls.{Did, IsAtWork, Ran};
 ghost use Rattle.shm_plain.specs.Tracks.{kind_next};
 ghost use Rattle.shm_recover.specs.Join.{JoinGives, join_fresh};
 ghost use Rattle.shm_alloc.specs.declared.point.AllocState.{AllocState as AState};
-ghost use Rattle.shm_alloc.specs.Alloc.Events.{own_events};
+ghost use Rattle.shm_alloc.specs.Alloc.Control.{alloc_control};
+ghost use Rattle.shm_alloc.specs.Alloc.Events.{alloc_event, own_events};
 ghost use Rattle.shm_alloc.specs.Alloc.{AllocGives};
 ghost use Rattle.shm_count.specs.Step.Control.{IsInside};
 ghost use Rattle.plain_calls.specs.Allocating.{IsAsked};
@@ -68,6 +70,7 @@ pub fn allocate(
     ensures kind { IfOk result (λ o. IfSome o (λ a. recovers (memo_of pool.new who) ≡ recovers (memo_of pool.old who))) }
     ensures ran { IfOk result (λ o. Ran who true (is_some o) pool.old pool.new life.old.left life.new.left) }
     ensures events { IfOk result (λ o. IfSome o (λ a. Did who pool.old pool.new (own_events (member pool.old.start.geometry who) a))) }
+    ensures told { IfOk result (λ o. 0 < life.old.left → (m : AState) × IsAsked pool.old.start.geometry who refs plain.now m × Did who pool.old pool.new (happens_along alloc_control alloc_event m (memo_of pool.new who).call)) }
 {
     let alloc = Alloc::new(pool.me(who), refs, plain)?;
     Ok(pool.run(who, alloc, life))

@@ -9,6 +9,7 @@ pub mod events;
 pub mod lasting;
 pub mod point;
 pub mod request;
+pub mod starts;
 
 pub use alloc::{Alloc, AllocFault, TooLarge};
 pub use answers::{alloc_bound, alloc_trails};

@@ -51,6 +51,7 @@ pub record Answered {M A : Type 0} (k : Control M A) (says : M → Memo → Memo
   -- between two calls, where each answer leaves it so, and with the events that each answer tells of
   pub works : ((a : A) → Gave says c p m q a → IsIdle c (memo_of q c)) → IfSome o (λ a. IsAtWork c q)
   pub rests : (E : A → Type 0) → ((a : A) → Gave says c p m q a → E a → IsIdle c (memo_of q c)) → IfSome o (λ a. E a → IsAtWork c q)
+  pub events : 0 < x → Did c p q (happens_along k does m (memo_of q c).call)
   pub did : (es : A → List Event) → ((a : A) → Gave says c p m q a → happens_along k does m (memo_of q c).call ≡ es a) → IfSome o (λ a. Did c p q (es a))
 
 -- where an answer gives this, and there was a word step, it gives that
@@ -93,6 +94,7 @@ module _ {M A : Type 0} (k : Control M A) (fits : M → Memo → Memo → Trail 
           told = λ P f. if_answered (Gave gives c p m q) P c p q x y o ran gave (λ done a g. f a g (events (done.some refl)));
           works = λ f. if_answered (Gave gives c p m q) (λ a. IsAtWork c q) c p q x y o ran gave (λ done a g. still_working c true p q x y geometry who done (f a g));
           rests = λ E f. if_answered (Gave gives c p m q) (λ a. E a → IsAtWork c q) c p q x y o ran gave (λ done a g e. still_working c true p q x y geometry who done (f a g e));
+          events = events;
           did = λ es f. if_answered (Gave gives c p m q) (λ a. Did c p q (es a)) c p q x y o ran gave (λ done a g. subst (Did c p q) (f a g) (events (done.some refl)));
         }
 

@@ -50,7 +50,7 @@ impl PlainPool {
     }
 
     /// Runs an operation of `who`, or what is made of a plan, until it answers, or no word step is left. Where it has not answered it fits
-    /// still, as it was left.
+    /// still, as it was left. What it did to the graph is told either way.
     pub fn run<B: Begin>(
         &mut self,
         who: u8,
@@ -66,6 +66,7 @@ impl PlainPool {
         ensures at_work { IfSome result (λ a. B.Op.rests (B.op begins) a → IsAtWork who self.new) }
         ensures cut { is_some result ≡ false → (m : B.Op) × (B.Op.control.finished m ≡ false) × fits_now B.Op.control B.Op.fits m (memo_of self.old who) (memo_of (readied self.new who) who) }
         ensures ran { Ran who true (is_some result) self.old self.new life.old.left life.new.left }
+        ensures told { 0 < life.old.left → Did who self.old self.new (happens_along B.Op.control B.Op.does (B.op begins) (memo_of self.new who).call) }
     {
         self.operate(who, begins.begin(), life)
     }
@@ -86,6 +87,7 @@ impl PlainPool {
         ensures at_work { IfSome result (λ a. O.rests operation a → IsAtWork who self.new) }
         ensures cut { is_some result ≡ false → (m : O) × (O.control.finished m ≡ false) × fits_now O.control O.fits m (memo_of self.old who) (memo_of (readied self.new who) who) }
         ensures ran { Ran who true (is_some result) self.old self.new life.old.left life.new.left }
+        ensures told { 0 < life.old.left → Did who self.old self.new (happens_along O.control O.does operation (memo_of self.new who).call) }
     {
         self.geometry();
         self.call(who, &mut operation, life)

@@ -86,7 +86,7 @@ impl PlainPool {
     }
 
     /// The words, by address.
-    pub(crate) fn words(&self) -> &[u64]
+    pub fn words(&self) -> &[u64]
         ensures { result.now ≡ self.now.words }
     {
         self.words.as_slice()

@@ -125,3 +125,8 @@ returns-clause-events c =
     let at = (goal.at.returns-clause-events c).After-run in
     some_map (Left at) (λ a. Did c.args.who c.args.pool.now c.run.new.self (own_events (member c.args.pool.now.start.geometry c.args.who) a)) c.run.result
     (λ a h. subst (Did c.args.who c.args.pool.now c.run.new.self) (h.1.events ∙ ap (λ (x : Me). own_events x a) (is at).me) h.0) c.run.ensures.leaves
+
+pub returns-clause-told : goal.returns-clause-told
+returns-clause-told c =
+    let at = (goal.at.returns-clause-told c).After-run in
+    λ some. (alloc at, is at, at.run.ensures.told some)

@@ -68,3 +68,6 @@ returns-clause-cut g c = λ none.
     let fit = fits_first k g.O.Machine.fits g.O.Machine.gives c.args.who p work.geometry work.who work.acts c.args.operation (l.fresh c.args.operation r c.requires.may) (l.begins c.args.operation r is c.requires.may) c.args.operation refl in
     let h = c.call.ensures.cut none in
     (c.call.new.m, h.0, h.1 r fit)
+
+pub returns-clause-told : goal.returns-clause-told
+returns-clause-told g c = (done g (goal.at.returns-clause-told g c).After-call).events
