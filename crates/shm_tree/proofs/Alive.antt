@@ -1,14 +1,14 @@
 -- A client that is at work after a call as it was before, and one whose call was cut off.
-use Rattle.std.proofs.Common.{◌≡◌, ℕ, zero, suc, ◌+◌, ◌<◌, ◌≤◌, Bool, true, false, List, [], ◌∷◌, length, refl, sym, ap, ◌∙◌, subst, arith, inl, inr, ◌⊎◌, true≢false}
-use Rattle.std.specs.Prelude.{Option, Some, None, IfSome, slice_index}
-use Rattle.std.specs.Option.{is_some}
+use Rattle.std.proofs.Common.{◌≡◌, ℕ, zero, suc, ◌+◌, ◌<◌, ◌≤◌, Bool, true, false, List, [], ◌∷◌, ◌++◌, length, refl, sym, ap, ◌∙◌, subst, arith, inl, inr, ◌⊎◌, true≢false}
+use Rattle.std.specs.Prelude.{slice_index}
+use Rattle.std.specs.List.{AllByRecursion}
 use Rattle.std.proofs.lemmas.List.Elements.{All-contains}
 use Rattle.shm_words.specs.declared.geometry.Geometry.{Geometry}
 use Rattle.shm_graph.specs.declared.memo.Memo.{Memo}
 use Rattle.shm_graph.specs.declared.run.Move.{Move}
 use Rattle.shm_graph.specs.declared.run.Move.TheVariants.{Begins, Dies, Word}
 use Rattle.shm_graph.specs.declared.run.Start.{Start}
-use Rattle.shm_graph.specs.declared.spot.Spot.TheVariants.{Body, Era, Tag}
+use Rattle.shm_graph.specs.declared.spot.Spot.TheVariants.{Body, Era, Home, Tag}
 use Rattle.shm_graph.specs.Agents.{acts, recovers, steps_made}
 use Rattle.shm_graph.specs.Changes.{asked_spot, memo_after}
 use Rattle.shm_graph.specs.Events.{Event}
@@ -25,17 +25,19 @@ use Rattle.shm_plain.specs.Pools.{IsRun, Pool, memo_of, pool}
 use Rattle.shm_plain.proofs.Calling.{ready_still}
 use Rattle.shm_count.specs.Tear.Memos.{Knows}
 use Rattle.shm_count.proofs.RootSpots.{roots_reached}
+use Rattle.shm_tree.specs.Falling.{AreFalling, KeepsFalling}
 use Rattle.shm_tree.specs.Keeping.{IsStill}
 use Rattle.shm_tree.specs.Working.{AreSameRoots, IsSpent, IsWorking, Went}
-use Rattle.shm_tree.proofs.Nodes.{IsCalm, as_started, calm_first, calm_held, still_kept, working_calm}
+use Rattle.shm_tree.proofs.Frames.{Untouched}
+use Rattle.shm_tree.proofs.Nodes.{IsCalm, as_started, calm_first, calm_held, home_kept, still_kept, working_calm}
 use Rattle.shm_tree.proofs.Turns.{did_leads}
 
 -- ---- a call that was cut off
 
 module _ (p q : Pool) (hp : IsRun p) (who : 0 < p.start.geometry.clients) (acting : acts (memo_of p 0) ≡ true) (same : steps_made (memo_of q 0) ≡ steps_made (memo_of p 0)) where
-  -- without a word step of it the client acts as it did
-  unstepped : (ms : List Move) → AreOf 0 ms → Leads p.start.geometry (state_of p) ms (state_of q) → acts (memo_of q 0) ≡ true
-  unstepped [] own l = ap (λ (s : State). acts (memos_of s.accounts 0)) (sym l) ∙ acting
+  -- without a word step of it the client has no turn
+  unstepped : (ms : List Move) → AreOf 0 ms → Leads p.start.geometry (state_of p) ms (state_of q) → ms ≡ []
+  unstepped [] own l = refl
   unstepped (Begins d k ∷ ms) own l = absurd (true≢false (sym acting ∙ (ap (λ (c : ℕ). acts (memos_of p.accounts c)) (sym own.0) ∙ l.0.1)))
   unstepped (Word t ∷ ms) own l =
       let g : Geometry = p.start.geometry in
@@ -49,22 +51,30 @@ module _ (p q : Pool) (hp : IsRun p) (who : 0 < p.start.geometry.clients) (actin
       absurd (omega (arith, one, row, more, same))
   unstepped (Dies d ∷ ms) own l = absurd own
 
-pub went_dead : (fresh : Bool) (p q : Pool) (x y : ℕ) → IsWorking p → Ran 0 fresh false p q x y → Went p q x y
-went_dead fresh p q x y h r = record { start = r.start; run = r.run; acts = by x r.cut r.made; did = r.did; spent = r.made }
+-- a call for which no word step was left has no turn
+no_turns : (fresh answered : Bool) (p q : Pool) (y : ℕ) → IsWorking p → (r : Ran 0 fresh answered p q 0 y) → r.did.1.turns ≡ []
+no_turns fresh true p q y h r = absurd (let l = r.some refl in omega (arith, l))
+no_turns fresh false p q y h r =
+    let same : steps_made (memo_of q 0) ≡ steps_made (memo_of p 0) = let z = r.died refl in let made = r.made in omega (arith, made, z) in
+    unstepped p q h.run h.work.who h.work.acts same r.did.1.turns r.did.1.own (did_leads 0 p q r.did.0 h.run r.run r.start r.did.1)
+
+-- and no event
+pub quiet_did : (fresh answered : Bool) (p q : Pool) (y : ℕ) → IsWorking p → Ran 0 fresh answered p q 0 y → Did 0 p q []
+quiet_did fresh answered p q y h r = record { turns = []; grew = r.did.1.grew ∙ ap (λ (ms : List Move). p.turns ++ ms) (no_turns fresh answered p q y h r); own = tt; events = refl }
+
+pub went_dead : (fresh : Bool) (p q : Pool) (x y : ℕ) → IsWorking p → Ran 0 fresh false p q x y → (AreFalling p → AreFalling q) → Went p q x y
+unfolding KeepsFalling
+went_dead fresh p q x y h ran falls = record { start = ran.start; run = ran.run; acts = by x ran; did = ran.did; spent = ran.made; falls = falls }
   where
-    by : (n : ℕ) → (false ≡ false → 0 < n → acts (memo_of q 0) ≡ true) → y + steps_made (memo_of q 0) ≡ n + steps_made (memo_of p 0) → acts (memo_of q 0) ≡ true
-    by zero cut made =
-        let same : steps_made (memo_of q 0) ≡ steps_made (memo_of p 0) = let z = r.died refl in omega (arith, made, z) in
-        unstepped p q h.run h.work.who h.work.acts same r.did.1.turns r.did.1.own (did_leads 0 p q r.did.0 h.run r.run r.start r.did.1)
-    by (suc n) cut made = cut refl (omega arith)
+    by : (n : ℕ) → Ran 0 fresh false p q n y → acts (memo_of q 0) ≡ true
+    by zero r =
+        let none : Leads p.start.geometry (state_of p) [] (state_of q) = subst (λ (ms : List Move). Leads p.start.geometry (state_of p) ms (state_of q)) (no_turns fresh false p q y h r) (did_leads 0 p q r.did.0 h.run r.run r.start r.did.1) in
+        ap (λ (s : State). acts (memos_of s.accounts 0)) (sym none) ∙ h.work.acts
+    by (suc n) r = r.cut refl (omega arith)
 
-pub went_alive : (fresh : Bool) (p q : Pool) (x y : ℕ) → Ran 0 fresh true p q x y → IsAtWork 0 q → Went p q x y
-went_alive fresh p q x y r at = record { start = r.start; run = r.run; acts = at.acts; did = r.did; spent = r.made }
-
--- whatever it was answered, or not
-pub went_of : {A : Type 0} (p q : Pool) (x y : ℕ) (o : Option A) → IsWorking p → Ran 0 true (is_some o) p q x y → IfSome o (λ a. Unit {0} → IsAtWork 0 q) → Went p q x y
-went_of p q x y None h r at = went_dead true p q x y h r
-went_of p q x y (Some a) h r at = went_alive true p q x y r (at tt)
+pub went_alive : (fresh : Bool) (p q : Pool) (x y : ℕ) → Ran 0 fresh true p q x y → IsAtWork 0 q → (AreFalling p → AreFalling q) → Went p q x y
+unfolding KeepsFalling
+went_alive fresh p q x y r at falls = record { start = r.start; run = r.run; acts = at.acts; did = r.did; spent = r.made; falls = falls }
 
 -- ---- a call that was answered
 
@@ -82,6 +92,16 @@ pub record IsQuiet (m r : Memo) : Type 0 where
   pub loose : is_loose r.part ≡ is_loose m.part
   pub unsent : (j : ℕ) → slice_index r.unsent j ≡ slice_index m.unsent j
   pub untaken : (j : ℕ) → slice_index r.untaken j ≡ slice_index m.untaken j
+
+-- no event changes what the home names
+abbrev pub IsHomeless : List Event → Type 0
+IsHomeless es = AllByRecursion (Untouched (Home 0)) es
+
+pub homeless_is : (es fs : List Event) → es ≡ fs → IsHomeless fs → IsHomeless es
+homeless_is es fs e h = subst IsHomeless (sym e) h
+
+pub homeless_none : (es : List Event) → es ≡ [] → IsHomeless es
+homeless_none es e = homeless_is es [] e tt
 
 module _ (p q : Pool) (es : List Event) (on : IsOn p q es) where
   pub before : IsCalm p
@@ -102,22 +122,23 @@ module _ (p q : Pool) (es : List Event) (on : IsOn p q es) where
       omega (arith, row, a, b)
 
   -- it is at work
-  pub works_so : IsQuiet (memo_of p 0) (memo_of q 0) → ((memo_of q 0).dying ≡ []) ⊎ IsSpent (memo_of q 0) → IsWorking q
-  works_so quiet dying =
+  pub works_so : IsQuiet (memo_of p 0) (memo_of q 0) → IsHomeless es → ((memo_of q 0).dying ≡ []) ⊎ IsSpent (memo_of q 0) → IsWorking q
+  works_so quiet homeless dying =
       record {
         work = on.at;
         run = on.run;
         one = after.one;
         client = on.kind ∙ on.working.client;
         reached = roots_reached 0 (memo_of q 0) on.at.idle.op;
+        home = home_kept p q es before after on.start on.did homeless ∙ on.working.home;
         loose = quiet.loose ∙ on.working.loose;
         dying = dying;
         unsent = λ j. quiet.unsent j ∙ on.working.unsent j;
         untaken = λ j. quiet.untaken j ∙ on.working.untaken j;
       }
 
-  pub works : IsQuiet (memo_of p 0) (memo_of q 0) → (memo_of q 0).dying ≡ (memo_of p 0).dying → IsWorking q
-  works quiet same = works_so quiet (by on.working.dying)
+  pub works : IsQuiet (memo_of p 0) (memo_of q 0) → IsHomeless es → (memo_of q 0).dying ≡ (memo_of p 0).dying → IsWorking q
+  works quiet homeless same = works_so quiet homeless (by on.working.dying)
     where
       by : ((memo_of p 0).dying ≡ []) ⊎ IsSpent (memo_of p 0) → ((memo_of q 0).dying ≡ []) ⊎ IsSpent (memo_of q 0)
       by (inl e) = inl (same ∙ e)

@@ -3,6 +3,7 @@ use Rattle.std.proofs.Common.{◌≡◌, ◌≢◌, ◌==◌, ℕ, zero, suc, Bo
 use Rattle.std.specs.Prelude.{IfErr, IfOk, IfSome, Option, None, Some}
 use Rattle.std.specs.Result.{IsErrAnd}
 use Rattle.std.proofs.lemmas.Bool.{cases_eq, ne_eqb}
+use Rattle.shm_words.specs.declared.geometry.Geometry.{Geometry}
 use Rattle.shm_graph.specs.References.{one_if, sum_below}
 use Rattle.shm_plain.specs.Pools.{IsRun, Pool}
 use Rattle.shm_plain.proofs.OwnTurns.{did_none}
@@ -13,15 +14,20 @@ use Rattle.shm_tree.specs.declared.node.Side.{Side}
 use Rattle.shm_tree.specs.declared.node.Side.TheVariants.{Left, Right}
 use Rattle.shm_tree.specs.declared.stop.Stop.{Stop}
 use Rattle.shm_tree.specs.declared.stop.Stop.TheVariants as stop
+use Rattle.shm_tree.specs.Bounds.{link_steps}
 use Rattle.shm_tree.specs.Building.{Builds, IsAtHand, IsBuilt, IsCheap, IsCut, IsHeld, IsRebuilt, block_of, named_by, rooms}
 use Rattle.shm_tree.specs.Causes.{StopCause}
+use Rattle.shm_tree.specs.Falling.{KeepsFalling}
 use Rattle.shm_tree.specs.Keeping.{HasGrown, HasMade, HasTree, IsBorn, IsDropped, IsLinked, IsStill, KeepsNodes, KeepsTrees}
+use Rattle.shm_tree.specs.Spending.{HasSpent}
 use Rattle.shm_tree.specs.Standing.{Stands}
 use Rattle.shm_tree.specs.Trees.{Tree, Empty, Node}
 use Rattle.shm_tree.specs.Working.{AreSameRoots, HasRoom, IfAlive, IfRefused, IsEmptied, IsOver, IsReached, IsRooted, IsSameLatch, IsWorking, Reaches, Went}
 use Rattle.shm_tree.proofs.Answering.{alive_map, cause_after, refused_map}
 use Rattle.shm_tree.proofs.Links.{went_then}
 use Rattle.shm_tree.proofs.Nodes.{keeps_then, made_then}
+use Rattle.shm_tree.proofs.Spendings.{spent_call, spent_more, spent_then}
+use Rattle.shm_tree.proofs.Weights.{blocks_dropped, blocks_nodes, blocks_then}
 
 -- ---- trees and nodes
 
@@ -65,9 +71,10 @@ made_none p = ([], did_none 0 p p refl, lit≤ tt)
 
 -- the head of a call
 pub looked_none : (p : Pool) (x : ℕ) → IsWorking p → Looked p p x x
+unfolding KeepsFalling
 looked_none p x w =
     record {
-      went = record { start = refl; run = w.run; acts = w.work.acts; did = ([], did_none 0 p p refl); spent = refl };
+      went = record { start = refl; run = w.run; acts = w.work.acts; did = ([], did_none 0 p p refl); spent = refl; falls = λ h. h };
       working = w;
       latch = refl;
       still =
@@ -106,13 +113,13 @@ looked_then hp a b =
 -- ---- what only grew
 
 pub still_cut : {p q : Pool} → IsStill p q → IsCut 0 p q
-still_cut {p = p} s = record { trees = λ j t low h. s.trees (named_by p j) t h; roots = λ k some. s.roots k; made = s.made }
+still_cut {p = p} s = record { trees = λ j t low h. s.trees (named_by p j) t h; roots = λ k some. s.roots k; blocks = blocks_nodes s.nodes; made = s.made }
 
 grown_cut : {n : ℕ} {p q : Pool} → HasGrown n p q → IsCut n p q
-grown_cut {p = p} g = record { trees = λ j t low h. g.trees (named_by p j) t h; roots = g.roots; made = g.made }
+grown_cut {p = p} g = record { trees = λ j t low h. g.trees (named_by p j) t h; roots = g.roots; blocks = blocks_nodes g.nodes; made = g.made }
 
 pub cut_more : {n : ℕ} {p q : Pool} (m : ℕ) → IsCut n p q → n ≤ m → IsCut m p q
-cut_more {n = n} {p = p} {q = q} m a h = record { trees = a.trees; roots = a.roots; made = made_more n m p q a.made h }
+cut_more {n = n} {p = p} {q = q} m a h = record { trees = a.trees; roots = a.roots; blocks = a.blocks; made = made_more n m p q a.made h }
 
 pub cut_then : {n m : ℕ} {p q r : Pool} → IsRun p → IsRun q → q.start ≡ p.start → IsCut n p q → IsCut m q r → IsCut (n + m) p r
 cut_then {n = n} {m = m} {p = p} {q = q} {r = r} hp hq start a b =
@@ -123,40 +130,54 @@ cut_then {n = n} {m = m} {p = p} {q = q} {r = r} hp hq start a b =
             | inr e ↦ subst (λ (d : ℕ). Stands r d t) (a.roots j e) (b.trees j t low (subst (λ (d : ℕ). Stands q d t) (sym (a.roots j e)) (a.trees j t low s)))
           ];
       roots = λ k h. b.roots k (λ e. h (sym (a.roots k h) ∙ e)) ∙ a.roots k h;
+      blocks = blocks_then r a a.blocks b.blocks;
       made = made_then n m p q r hp hq start a.made b.made;
     }
 
 -- ---- stops
 
--- a call stopped as it is handed on
-pub builds_exit : {T : Type 0} {k : ℕ} {p q : Pool} {x y : ℕ} {e : Stop} (o : Result T Stop) → o ≡ Err e → Builds {T = T} k (Err e) p q x y → Builds {T = T} k o p q x y
-builds_exit {T = T} {k = k} {p = p} {q = q} {x = x} {y = y} o is h = subst (λ (v : Result T Stop). Builds {T = T} k v p q x y) (sym is) h
-
--- also by what its exit tells
-pub builds_from : {T : Type 0} {k : ℕ} {p q : Pool} {x y : ℕ} {e : Stop} (o : Result T Stop) → IsErrAnd o (λ v. v ≡ e) → Builds {T = T} k (Err e) p q x y → Builds {T = T} k o p q x y
+-- a call stopped as it is handed on, by what its exit tells
+pub builds_from : {T : Type 0} {k c : ℕ} {p q : Pool} {x y : ℕ} {e : Stop} (o : Result T Stop) → IsErrAnd o (λ v. v ≡ e) → Builds {T = T} k c (Err e) p q x y → Builds {T = T} k c o p q x y
 builds_from (Ok a) h b = absurd h
-builds_from {T = T} {k = k} {p = p} {q = q} {x = x} {y = y} (Err v) h b = subst (λ (w : Stop). Builds {T = T} k (Err w) p q x y) (sym h) b
+builds_from {T = T} {k = k} {c = c} {p = p} {q = q} {x = x} {y = y} (Err v) h b = subst (λ (w : Stop). Builds {T = T} k c (Err w) p q x y) (sym h) b
 
 -- no word step was left for a call
-pub builds_died : {T : Type 0} {k : ℕ} {p q r : Pool} {x y z : ℕ} (e : Stop) → IsRun p → Went p q x y → Went q r y z → (e ≡ stop.Died) × (z ≡ 0) → Builds {T = T} k (Err e) p r x z
-builds_died {T = T} {k = k} {p = p} {q = q} {r = r} {x = x} {z = z} e hp went g d =
-    subst (λ (v : Stop). Builds {T = T} k (Err v) p r x z) (sym d.0) (record { went = went_on hp went g; working = tt; latch = tt; refused = tt; cause = tt; died = λ w. d.1 })
+pub builds_died : {T : Type 0} {k c : ℕ} {p q r : Pool} {x y z : ℕ} (e : Stop) → IsRun p → Went p q x y → Went q r y z → (e ≡ stop.Died) × (z ≡ 0) → Builds {T = T} k c (Err e) p r x z
+builds_died {T = T} {k = k} {c = c} {p = p} {q = q} {r = r} {x = x} {z = z} e hp went g d =
+    subst (λ (v : Stop). Builds {T = T} k c (Err v) p r x z) (sym d.0) (record { went = went_on hp went g; working = tt; latch = tt; refused = tt; spent = tt; cause = tt; died = λ w. d.1 })
 
 -- a call was refused, or found no word step
-pub builds_cut : (S : Type 0) (m : ℕ) {T : Type 0} {n k : ℕ} {p q r : Pool} {x y z : ℕ} (e : Stop) → n + m ≤ k → IsRun p → Went p q x y → IsSameLatch p q → IsCut n p q → Went q r y z → IfAlive {T = S} (Err e) (IsWorking r) → IfAlive {T = S} (Err e) (IsSameLatch q r) → IfRefused {T = S} (Err e) (IsCut m q r) → StopCause q r e → IsOver e z → Builds {T = T} k (Err e) p r x z
-builds_cut S m {T = T} {n = n} {k = k} {p = p} {q = q} {r = r} e le hp went latch cut g w l c cause over =
+pub builds_cut : (S : Type 0) (m : ℕ) (b : Geometry → ℕ) {T : Type 0} {n k a c : ℕ} {p q r : Pool} {x y z : ℕ} (e : Stop) → n + m ≤ k → a + b p.start.geometry ≤ c → IsWorking p → Went p q x y → IsSameLatch p q → IsCut n p q → HasSpent a p q x y → Went q r y z → IfAlive {T = S} (Err e) (IsWorking r) → IfAlive {T = S} (Err e) (IsSameLatch q r) → IfRefused {T = S} (Err e) (IsCut m q r) → IfAlive {T = S} (Err e) (HasSpent (b q.start.geometry) q r y z)
+    → StopCause q r e → IsOver e z → Builds {T = T} k c (Err e) p r x z
+builds_cut S m b {T = T} {n = n} {k = k} {a = a} {c = c} {p = p} {q = q} {r = r} {x = x} {y = y} {z = z} e le low wp went latch cut spent g w l h s cause over =
     record {
-      went = went_on hp went g;
+      went = went_on wp.run went g;
       working = alive_map S T (IsWorking r) (IsWorking r) e (λ v. v) w;
       latch = alive_map S T (IsSameLatch q r) (IsSameLatch p r) e (λ v. v ∙ latch) l;
-      refused = refused_map S T (IsCut m q r) (IsCut k p r) e (λ v. cut_more k (cut_then hp went.run went.start cut v) le) c;
-      cause = cause_after p q r hp went.run went.start went.did e cause;
+      refused = refused_map S T (IsCut m q r) (IsCut k p r) e (λ v. cut_more k (cut_then wp.run went.run went.start cut v) le) h;
+      spent = alive_map S T (HasSpent (b q.start.geometry) q r y z) (HasSpent c p r x z) e (λ v. spent_more (a + b p.start.geometry) c low (spent_then b wp went g spent v)) s;
+      cause = cause_after p q r wp.run went.run went.start went.did e cause;
       died = over;
     }
+
+-- at an exit of a call that was refused
+pub alive_refused : (S T : Type 0) (P Q : Type 0) (e : Stop) → (P → Q) → IfRefused {T = S} (Err e) P → IfAlive {T = T} (Err e) Q
+alive_refused S T P Q stop.Died f h = tt
+alive_refused S T P Q (stop.Full s b) f h = f h
+alive_refused S T P Q (stop.CountFull b c) f h = f h
+alive_refused S T P Q (stop.EraSpent e) f h = f h
 
 -- where it made nodes
 pub grown_cuts : (T : Type 0) (n : ℕ) (p q : Pool) (e : Stop) → IfRefused {T = T} (Err e) (HasGrown n p q) → IfRefused {T = T} (Err e) (IsCut n p q)
 grown_cuts T n p q e h = refused_map T T (HasGrown n p q) (IsCut n p q) e grown_cut h
+
+-- a call that stopped and tore nothing down
+pub spent_calls : (T : Type 0) {p q : Pool} {x y : ℕ} (c : ℕ) (e : Stop) → Went p q x y → IfAlive {T = T} (Err e) (x ≤ y + c) → IfAlive {T = T} (Err e) (HasSpent c p q x y)
+spent_calls T {p = p} {q = q} {x = x} {y = y} c e w few = alive_map T T (x ≤ y + c) (HasSpent c p q x y) e (spent_call c w) few
+
+-- also one that was refused
+pub spent_refused : (T : Type 0) {p q : Pool} {x y : ℕ} (c : ℕ) (e : Stop) → Went p q x y → IfRefused {T = T} (Err e) (x ≤ y + c) → IfAlive {T = T} (Err e) (HasSpent c p q x y)
+spent_refused T {p = p} {q = q} {x = x} {y = y} c e w few = alive_refused T T (x ≤ y + c) (HasSpent c p q x y) e (spent_call c w) few
 
 pub still_cuts : (T : Type 0) (p q : Pool) (e : Stop) → IfRefused {T = T} (Err e) (IsStill p q) → IfRefused {T = T} (Err e) (IsCut 0 p q)
 still_cuts T p q e h = refused_map T T (IsStill p q) (IsCut 0 p q) e still_cut h
@@ -170,10 +191,10 @@ refused_with T P R Q (stop.EraSpent e) f h k = f h k
 
 -- fewer blocks were made
 pub cut_made : {n : ℕ} {p q : Pool} (m : ℕ) → IsCut n p q → HasMade m p q → IsCut m p q
-cut_made m a h = record { trees = a.trees; roots = a.roots; made = h }
+cut_made m a h = record { trees = a.trees; roots = a.roots; blocks = a.blocks; made = h }
 
 pub built_made : {n : ℕ} {m : Made} {p q : Pool} (k : ℕ) → IsBuilt n m p q → HasMade k p q → IsBuilt k m p q
-built_made k a h = record { rooted = a.rooted; some = a.some; trees = a.trees; made = h }
+built_made k a h = record { rooted = a.rooted; some = a.some; trees = a.trees; blocks = a.blocks; made = h }
 
 -- ---- roots
 
@@ -199,8 +220,8 @@ rooted_over {k = k} {j = j} {p = p} {s = s} some under over gone =
     }
 
 -- what was cut stays so where a root that was empty before is emptied
-cut_dropped : {n k : ℕ} {p q r : Pool} → IsRun p → IsRun q → q.start ≡ p.start → named_by p k ≡ 0 → IsCut n p q → IsEmptied k q r → IsDropped k q r → IsCut n p r
-cut_dropped {n = n} {k = k} {p = p} {q = q} {r = r} hp hq start none cut gone left =
+cut_dropped : {n k : ℕ} {p q r : Pool} → IsRun p → IsRun q → q.start ≡ p.start → named_by p k ≡ 0 → IsCut n p q → IsEmptied k q r → IsDropped k q r → IsWorking r → IsCut n p r
+cut_dropped {n = n} {k = k} {p = p} {q = q} {r = r} hp hq start none cut gone left work =
     let ne : (j : ℕ) → named_by p j ≢ 0 → j ≢ k = λ j some e. some (ap (named_by p) e ∙ none) in
     record {
       trees =
@@ -209,19 +230,20 @@ cut_dropped {n = n} {k = k} {p = p} {q = q} {r = r} hp hq start none cut gone le
             | inr e ↦ left.trees j (named_by p j) t (ne j e) low (cut.roots j e) (cut.trees j t low s)
           ];
       roots = λ j some. gone.others j (ne j some) ∙ cut.roots j some;
+      blocks = blocks_dropped none cut cut.blocks gone left work;
       made = made_more (n + 0) n p r (made_then n 0 p q r hp hq start cut.made left.made) (omega arith);
     }
 
 -- ---- what was built
 
 pub built_cut : {n : ℕ} {m : Made} {p q : Pool} → IsBuilt n m p q → IsCut n p q
-built_cut b = record { trees = b.trees; roots = λ k some. b.rooted.others k (rooted_some k b.rooted some); made = b.made }
+built_cut b = record { trees = b.trees; roots = λ k some. b.rooted.others k (rooted_some k b.rooted some); blocks = b.blocks; made = b.made }
 
 pub born_built : {m : Made} {p q : Pool} → m.block ≢ 0 → IsBorn m p q → IsBuilt 1 m p q
-born_built {p = p} some b = record { rooted = b.rooted; some = some; trees = λ j t low s. b.trees (named_by p j) t s; made = b.made }
+born_built {p = p} some b = record { rooted = b.rooted; some = some; trees = λ j t low s. b.trees (named_by p j) t s; blocks = blocks_nodes b.nodes; made = b.made }
 
 pub built_more : {m : Made} {p q : Pool} (n k : ℕ) → n ≤ k → IsBuilt n m p q → IsBuilt k m p q
-built_more {p = p} {q = q} n k h b = record { rooted = b.rooted; some = b.some; trees = b.trees; made = made_more n k p q b.made h }
+built_more {p = p} {q = q} n k h b = record { rooted = b.rooted; some = b.some; trees = b.trees; blocks = b.blocks; made = made_more n k p q b.made h }
 
 -- after calls that read
 pub built_after : {n : ℕ} {m : Made} {p q r : Pool} → IsRun p → IsRun q → q.start ≡ p.start → IsStill p q → IsBuilt n m q r → IsBuilt n m p r
@@ -230,17 +252,19 @@ built_after {n = n} {m = m} {p = p} {q = q} {r = r} hp hq start a b =
       rooted = record { low = b.rooted.low; empty = sym (a.roots m.root) ∙ b.rooted.empty; names = b.rooted.names; others = λ j h. b.rooted.others j h ∙ a.roots j };
       some = b.some;
       trees = (cut_then hp hq start (still_cut a) (built_cut b)).trees;
+      blocks = (cut_then hp hq start (still_cut a) (built_cut b)).blocks;
       made = made_more (0 + n) n p r (made_then 0 n p q r hp hq start a.made b.made) (omega arith);
     }
 
 -- over what was built below, whose root is empty again
-pub built_over : {n k : ℕ} {low m : Made} {p q r s : Pool} → IsRun p → IsRun q → q.start ≡ p.start → IsRun r → r.start ≡ q.start → IsBuilt n low p q → IsBuilt k m q r → IsEmptied low.root r s → IsDropped low.root r s → IsBuilt (n + k) m p s
-built_over hp hq start hr onward a b gone left =
-    let over = cut_dropped hp hr (onward ∙ start) a.rooted.empty (cut_then hp hq start (built_cut a) (built_cut b)) gone left in
+pub built_over : {n k : ℕ} {low m : Made} {p q r s : Pool} → IsRun p → IsRun q → q.start ≡ p.start → IsRun r → r.start ≡ q.start → IsBuilt n low p q → IsBuilt k m q r → IsEmptied low.root r s → IsDropped low.root r s → IsWorking s → IsBuilt (n + k) m p s
+built_over hp hq start hr onward a b gone left work =
+    let over = cut_dropped hp hr (onward ∙ start) a.rooted.empty (cut_then hp hq start (built_cut a) (built_cut b)) gone left work in
     record {
       rooted = rooted_over a.some a.rooted b.rooted gone;
       some = b.some;
       trees = over.trees;
+      blocks = over.blocks;
       made = over.made;
     }
 
@@ -249,8 +273,8 @@ pub top_stands : {low m : Made} {p q r s : Pool} (t : Tree) → low.block ≢ 0 
 top_stands {m = m} t some under over left h = left.trees m.root m.block t (apart some under over) over.low over.names h
 
 -- a call that was done
-pub builds_done : {T : Type 0} {n : ℕ} {p q : Pool} {x y : ℕ} (a : T) → Went p q x y → IsWorking q → IsSameLatch p q → Builds {T = T} n (Ok a) p q x y
-builds_done a g w l = record { went = g; working = w; latch = l; refused = tt; cause = tt; died = tt }
+pub builds_done : {T : Type 0} {n c : ℕ} {p q : Pool} {x y : ℕ} (a : T) → Went p q x y → IsWorking q → IsSameLatch p q → HasSpent c p q x y → Builds {T = T} n c (Ok a) p q x y
+builds_done a g w l s = record { went = g; working = w; latch = l; refused = tt; spent = s; cause = tt; died = tt }
 
 pub alive_kept : {T : Type 0} {P Q : Type 0} (o : Result T Stop) → (P → Q) → IfAlive o P → IfAlive o Q
 alive_kept (Ok a) f h = f h
@@ -263,14 +287,7 @@ alive_any (Err (stop.Full s b)) h = h
 alive_any (Err (stop.CountFull b c)) h = h
 alive_any (Err (stop.EraSpent e)) h = h
 
--- at an exit of a call that was refused
-pub alive_refused : (S T : Type 0) (P Q : Type 0) (e : Stop) → (P → Q) → IfRefused {T = S} (Err e) P → IfAlive {T = T} (Err e) Q
-alive_refused S T P Q stop.Died f h = tt
-alive_refused S T P Q (stop.Full s b) f h = f h
-alive_refused S T P Q (stop.CountFull b c) f h = f h
-alive_refused S T P Q (stop.EraSpent e) f h = f h
-
--- or found no word step
+-- at an exit of a call that found no word step
 pub alive_over : {T : Type 0} (P : Type 0) {e : Stop} (o : Result T Stop) → IsErrAnd o (λ v. v ≡ e) → e ≡ stop.Died → IfAlive o P
 alive_over P (Ok a) h d = absurd h
 alive_over {T = T} P (Err v) h d = subst (λ (w : Stop). IfAlive {T = T} (Err w) P) (sym (h ∙ d)) tt
@@ -283,15 +300,16 @@ pub ok_any : {T : Type 0} {P : T → Type 0} (o : Result T Stop) → ((a : T) �
 ok_any (Ok a) h = h a
 ok_any (Err e) h = tt
 
--- a call that builds after calls that read
-pub builds_after : {T : Type 0} {p q r : Pool} {x y z : ℕ} (n k : ℕ) (o : Result T Stop) → n ≤ k → IsRun p → Looked p q x y → Builds {T = T} n o q r y z → Builds {T = T} k o p r x z
-builds_after n k (Ok a) le hp l b = builds_done a (went_on hp l.went b.went) b.working (b.latch ∙ l.latch)
-builds_after {T = T} n k (Err e) le hp l b = builds_cut T n {T = T} {n = 0} {k = k} e (omega arith) hp l.went l.latch (still_cut l.still) b.went b.working b.latch b.refused b.cause b.died
+-- a call that builds after calls that read, which took at most so many word steps
+pub builds_after : {T : Type 0} {c : ℕ} {p q r : Pool} {x y z : ℕ} (n k a : ℕ) (b : Geometry → ℕ) (o : Result T Stop) → n ≤ k → a + b p.start.geometry ≤ c → IsWorking p → Looked p q x y → x ≤ y + a → Builds {T = T} n (b q.start.geometry) o q r y z → Builds {T = T} k c o p r x z
+builds_after {c = c} {p = p} n k a b (Ok v) le low wp l few h = builds_done v (went_on wp.run l.went h.went) h.working (h.latch ∙ l.latch) (spent_more (a + b p.start.geometry) c low (spent_then b wp l.went h.went (spent_call a l.went few) h.spent))
+builds_after {T = T} n k a b (Err e) le low wp l few h = builds_cut T n b {T = T} {n = 0} {k = k} {a = a} e (omega arith) low wp l.went l.latch (still_cut l.still) (spent_call a l.went few) h.went h.working h.latch h.refused h.spent h.cause h.died
 
 -- a node that was linked, as a call that builds
-pub builds_link : (p q : Pool) {x y : ℕ} (o : Result Made Stop) → Went p q x y → IfAlive o (IsWorking q) → IfAlive o (IsSameLatch p q) → IfRefused o (HasGrown 1 p q) → IfErr o (λ e. StopCause p q e) → IfErr o (λ e. IsOver e y) → Builds 1 o p q x y
-builds_link p q (Ok m) g w l c cause over = builds_done m g w l
-builds_link p q (Err e) g w l c cause over = record { went = g; working = w; latch = l; refused = grown_cuts Made 1 p q e c; cause = cause; died = over }
+pub builds_link : (p q : Pool) {x y : ℕ} (o : Result Made Stop) → Went p q x y → IfAlive o (IsWorking q) → IfAlive o (IsSameLatch p q) → IfRefused o (HasGrown 1 p q) → IfAlive o (x ≤ y + link_steps p.start.geometry) → IfErr o (λ e. StopCause p q e) → IfErr o (λ e. IsOver e y) → Builds 1 (link_steps p.start.geometry) o p q x y
+builds_link p q (Ok m) g w l h few cause over = builds_done m g w l (spent_call (link_steps p.start.geometry) g few)
+builds_link p q (Err e) g w l h few cause over =
+    record { went = g; working = w; latch = l; refused = grown_cuts Made 1 p q e h; spent = spent_calls Made (link_steps p.start.geometry) e g few; cause = cause; died = over }
 
 pub at_hand_still : {p q : Pool} {x y : ℕ} (b : ℕ) → Looked p q x y → IsAtHand p b → IsAtHand q b
 at_hand_still {p = p} {q = q} b l a = (tree_kept p q b l.still.trees a.0, λ some. l.reaches b (a.1 some))

@@ -5,8 +5,7 @@ use Rattle.shm_plain.specs.Pools.{Pool}
 use Rattle.shm_tree.specs.declared.node.Side.{Side}
 use Rattle.shm_tree.specs.declared.node.Side.TheVariants.{Left, Right}
 use Rattle.shm_tree.specs.Keeping.{IsStill, child_of}
-use Rattle.shm_tree.specs.Sharing.{weight}
-use Rattle.shm_tree.specs.Standing.{Stands, word_of}
+use Rattle.shm_tree.specs.Standing.{Stands, weight, word_of}
 use Rattle.shm_tree.specs.Trees.{Tree, Empty, Node, height}
 use Rattle.shm_tree.specs.Working.{IsWorking}
 use Rattle.shm_tree.specs.Ways.{IsDeep, IsEnd, IsOther, IsSome, down, toward}

@@ -7,7 +7,7 @@ use Rattle.std.proofs.lemmas.List.Elements.{All-contains, Contains-append_cases,
 use Rattle.shm_graph.specs.declared.ask.Me.{Me}
 use Rattle.shm_graph.specs.declared.memo.Memo.{Memo}
 use Rattle.shm_graph.specs.declared.spot.Spot.{Spot}
-use Rattle.shm_graph.specs.declared.spot.Spot.TheVariants.{Body, Era, Root}
+use Rattle.shm_graph.specs.declared.spot.Spot.TheVariants.{Body, Era, Home, Root}
 use Rattle.shm_graph.specs.Asks.{IsWithin, Trail}
 use Rattle.shm_graph.specs.Bounds.{redo_steps, tear_steps}
 use Rattle.shm_graph.specs.Blocks.{headers}
@@ -31,8 +31,8 @@ use Rattle.shm_tree.specs.Keeping.{IsDropped, IsStill, KeepsNode, is_alloc, is_l
 use Rattle.shm_tree.specs.Standing.{IsNode, Stands, word_of}
 use Rattle.shm_tree.specs.Tearing.{IsGone}
 use Rattle.shm_tree.specs.Trees.{Tree, Empty, Node}
-use Rattle.shm_tree.specs.Working.{AreSameRoots, IsEmptied, IsSameLatch, IsWorking, Reaches}
-use Rattle.shm_tree.proofs.Alive.{IsOn, after, before, still, works, works_so}
+use Rattle.shm_tree.specs.Working.{AreSameRoots, IsEmptied, IsSameLatch, IsSpent, IsWorking, Reaches}
+use Rattle.shm_tree.proofs.Alive.{IsHomeless, IsOn, after, before, homeless_is, homeless_none, still, works, works_so}
 use Rattle.shm_tree.proofs.Firsts.{freed_dead, frees_any}
 use Rattle.shm_tree.proofs.Frames.{Unfreed, Unmade, Untouched, dead_kept, frees}
 use Rattle.shm_tree.proofs.Losses.{Loses}
@@ -42,7 +42,7 @@ use Rattle.shm_tree.proofs.Turns.{did_keeps}
 
 -- ---- lists of events
 
-each : {X : Type 0} (P : X → Type 0) (xs : List X) → ((x : X) → Contains xs x → P x) → AllByRecursion P xs
+pub each : {X : Type 0} (P : X → Type 0) (xs : List X) → ((x : X) → Contains xs x → P x) → AllByRecursion P xs
 each P [] h = tt
 each P (x ∷ xs) h = (h x (0, omega arith, refl), each P xs (λ y c. h y (Contains-append_right (x ∷ []) xs y c)))
 
@@ -161,6 +161,19 @@ module _ (p q : Pool) (es : List Event) (on : IsOn p q es) (k x : ℕ) (ds : Lis
       weaken [] all = tt
       weaken (e ∷ xs) all = (torn_loss e all.0, weaken xs all.1)
 
+  -- the home loses none
+  torn_home : (e : Event) → IsTearing 0 x (ds ++ frees_of 0 vs) e → Untouched (Home 0) e
+  torn_home (Down c (Body d i) t) h = refl
+  torn_home (Free c d) h = refl
+  torn_home _ h = absurd h
+
+  pub torn_homeless : IsHomeless es
+  torn_homeless = homeless_is es es' told (refl, weaken ds torn_each)
+    where
+      weaken : (xs : List Event) → AllByRecursion (λ e. IsTearing 0 x (ds ++ frees_of 0 vs) e) xs → IsHomeless xs
+      weaken [] all = tt
+      weaken (e ∷ xs) all = (torn_home e all.0, weaken xs all.1)
+
   -- a block that is live and no zero-count block in the end lost no word
   untouched_by : (b i : ℕ) → is_live q b ≡ true → (Contains (memo_of q 0).dying b → ⊥) → (e : Event) → IsTearing 0 x (ds ++ frees_of 0 vs) e → Untouched (Body b i) e
   untouched_by b i live counted (Free c d) h = refl
@@ -268,12 +281,28 @@ module _ (p q : Pool) (es : List Event) (on : IsOn p q es) (k : ℕ) where
   pub drop_latch : (a : Result Bool EraSpent) → DropLeaves (dropping me k) r0 r tr es a → IsSameLatch p q
   drop_latch a h = (drop_queues (dropping me k) r0 r tr es a h).latch
 
-  pub drop_works : (a : Result Bool EraSpent) → DropLeaves (dropping me k) r0 r tr es a → IsWorking q
-  drop_works (Ok z) h = works p q es on (queues_quiet r0 r (drop_queues (dropping me k) r0 r tr es (Ok z) h)) h.dying
-  drop_works (Err e) h =
+  drop_home : (a : Result Bool EraSpent) → DropLeaves (dropping me k) r0 r tr es a → IsHomeless es
+  drop_home (Ok z) h = by (root_word 0 r0 k) h.events
+    where
+      by : (x : ℕ) → RootEvents 0 k x es → IsHomeless es
+      by zero none = homeless_none es none
+      by (suc x) (ds, told, walk) = torn_homeless p q es on k (suc x) ds [] told walk (λ i d l. absurd (omega arith))
+  drop_home (Err e) h =
+      elim (spent_either 0 k r0 r es e.era h.0 h.1.at) [
+        | inl z ↦ homeless_none es z.1
+        | inr z ↦ (let t = spent_emptied 0 k r0 r es e.era h.0 h.1.at z.0 in torn_homeless p q es on k (root_word 0 r0 k) t.0 h.0 t.1 (inr t.2) h.1.stopped.left)
+      ]
+
+  -- where it was refused the own era is spent
+  pub drop_spent : (e : EraSpent) → DropLeaves (dropping me k) r0 r tr es (Err e) → IsSpent r
+  drop_spent e h =
       let spent : 2 ^ 47 - 3 < e.era = h.1.stopped.spent in
       let most : e.era ≤ own_word r.own (Era 0 0) = h.1.most in
-      works_so p q es on (queues_quiet r0 r (drop_queues (dropping me k) r0 r tr es (Err e) h)) (inr (omega (arith, spent, most)))
+      omega (arith, spent, most)
+
+  pub drop_works : (a : Result Bool EraSpent) → DropLeaves (dropping me k) r0 r tr es a → IsWorking q
+  drop_works (Ok z) h = works p q es on (queues_quiet r0 r (drop_queues (dropping me k) r0 r tr es (Ok z) h)) (drop_home (Ok z) h) h.dying
+  drop_works (Err e) h = works_so p q es on (queues_quiet r0 r (drop_queues (dropping me k) r0 r tr es (Err e) h)) (drop_home (Err e) h) (inr (drop_spent e h))
 
   pub drop_done : (z : Bool) → DropLeaves (dropping me k) r0 r tr es (Ok z) → IsEmptied k p q × IsDropped k p q
   drop_done z h = (record { root = drop_emptied (dropping me k) r0 r tr es (Ok z) h; others = roots }, by (root_word 0 r0 k) refl h.events)

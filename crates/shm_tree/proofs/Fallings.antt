@@ -2,16 +2,14 @@
 use Rattle.std.proofs.Common.{◌≡◌, ℕ, ◌+◌, ◌-◌, ◌*◌, ◌≤◌, Result, Ok, Err, [], true, refl, sym, ◌∙◌, subst, arith, inl, inr, true≢false}
 use Rattle.std.specs.Prelude.{IfOk}
 use Rattle.shm_words.specs.declared.geometry.Geometry.{Geometry}
-use Rattle.shm_graph.specs.declared.spot.Spot.TheVariants.{Home}
 use Rattle.shm_plain.specs.Pools.{Pool, memo_of}
 use Rattle.shm_tree.specs.declared.stop.Stop.{Stop}
 use Rattle.shm_tree.specs.Bounds.{fall_steps, remnant_steps, remove_steps, with_child_steps}
-use Rattle.shm_tree.specs.Building.{Builds, IsCut, named_by}
+use Rattle.shm_tree.specs.Building.{Builds, IsCut, KeepsBlocks, named_by}
 use Rattle.shm_tree.specs.Keeping.{IsShared, IsStill, is_live}
 use Rattle.shm_tree.specs.Living.{AreLivesTrees, KeepsLives}
-use Rattle.shm_tree.specs.Sharing.{KeepsBlocks}
 use Rattle.shm_tree.specs.Spending.{HasSpent}
-use Rattle.shm_tree.specs.Standing.{Stands, word_of}
+use Rattle.shm_tree.specs.Standing.{Stands}
 use Rattle.shm_tree.specs.Working.{IsSpent, IsWorking, Went}
 use Rattle.shm_tree.proofs.Eras.{spent_stays}
 use Rattle.shm_tree.proofs.Lights.{once, part_weighs, weighs_live}
@@ -57,15 +55,15 @@ rests_shared s calm d live before =
     ]
 
 -- after calls that read
-pub rests_read : {T : Type 0} {n x y : ℕ} (o : Result T Stop) (p q r : Pool) → IsWorking q → IsStill p q → Builds n o q r x y → IfOk o (λ a. KeepsLives q r) → IfOk o (λ a. KeepsLives p r)
+pub rests_read : {T : Type 0} {n c x y : ℕ} (o : Result T Stop) (p q r : Pool) → IsWorking q → IsStill p q → Builds n c o q r x y → IfOk o (λ a. KeepsLives q r) → IfOk o (λ a. KeepsLives p r)
 rests_read (Ok m) p q r wq s b h = rests_then p q r wq b.working b.went (rests_still s) h
 rests_read (Err e) p q r wq s b h = tt
 
 -- Each block that was live is so still where what roots named stands, of the same blocks: it is a node of a tree that a root names
-pub cut_stay : {n x y : ℕ} (p q : Pool) → IsWorking p → IsWorking q → Went p q x y → (IsSpent (memo_of q 0) → ⊥) → word_of p (Home 0) ≡ 0 → AreLivesTrees p → IsCut n p q → KeepsBlocks p q → (b : ℕ) → is_live p b ≡ true → is_live q b ≡ true
-cut_stay p q wp wq went calm home trees cut blocks b live =
+pub cut_stay : {n x y : ℕ} (p q : Pool) → IsWorking p → IsWorking q → Went p q x y → (IsSpent (memo_of q 0) → ⊥) → AreLivesTrees p → IsCut n p q → KeepsBlocks p q → (b : ℕ) → is_live p b ≡ true → is_live q b ≡ true
+cut_stay p q wp wq went calm trees cut blocks b live =
     let none : (memo_of p 0).dying ≡ [] = elim wp.dying [ inl e ↦ e | inr s ↦ absurd (calm (spent_stays p q wp wq went s)) ] in
-    let w = lives_nodes p wp none home trees b live in
+    let w = lives_nodes p wp none trees b live in
     let there : Stands q (named_by p w.0) w.2 = cut.trees w.0 w.2 w.1 w.3 in
     let some = part_weighs p b (named_by p w.0) w.2 w.4 in
     let same = blocks (once b) w.0 w.2 w.1 w.3 in

@@ -38,7 +38,7 @@ use Rattle.shm_tree.specs.declared.node.Side.TheVariants.{Left, Right}
 use Rattle.shm_tree.specs.Keeping.{HasNode, IsStill, child_of, side_word}
 use Rattle.shm_tree.specs.Standing.{IsNode, word_of}
 use Rattle.shm_tree.specs.Working.{AreSameRoots, IsWorking, Reaches}
-use Rattle.shm_tree.proofs.Alive.{IsOn, IsQuiet, after, known_tag, known_word, still, works}
+use Rattle.shm_tree.proofs.Alive.{IsOn, IsQuiet, after, homeless_none, known_tag, known_word, still, works}
 use Rattle.shm_tree.proofs.Nodes.{IsCalm, as_started, calm_held}
 
 -- ---- what reading leaves of the memo
@@ -139,9 +139,9 @@ module _ (p q : Pool) (es : List Event) (on : IsOn p q es) where
     look_dying (Err NotHeld) l = ap (λ (x : Memo). x.dying) l.memo
 
     pub look_works : (a : Result ℕ LookFault) → LookLeaves (looking me b i) r0 r tr es a → IsWorking q
-    look_works (Ok v) l = works p q es on (core_quiet r0 (word_seen b i l.x v r0) r l.memo (word_quiet b i l.x v r0)) (look_dying (Ok v) l)
-    look_works (Err (NoSuchRef n)) l = works p q es on (core_quiet r0 (tagged b l.x r0) r l.memo (record { loose = refl; unsent = λ j. refl; untaken = λ j. refl })) (ap (λ (x : Memo). x.dying) l.memo)
-    look_works (Err NotHeld) l = works p q es on (core_quiet r0 (tagged b l.x r0) r l.memo (record { loose = refl; unsent = λ j. refl; untaken = λ j. refl })) (ap (λ (x : Memo). x.dying) l.memo)
+    look_works (Ok v) l = works p q es on (core_quiet r0 (word_seen b i l.x v r0) r l.memo (word_quiet b i l.x v r0)) (homeless_none es l.none) (look_dying (Ok v) l)
+    look_works (Err (NoSuchRef n)) l = works p q es on (core_quiet r0 (tagged b l.x r0) r l.memo (record { loose = refl; unsent = λ j. refl; untaken = λ j. refl })) (homeless_none es l.none) (ap (λ (x : Memo). x.dying) l.memo)
+    look_works (Err NotHeld) l = works p q es on (core_quiet r0 (tagged b l.x r0) r l.memo (record { loose = refl; unsent = λ j. refl; untaken = λ j. refl })) (homeless_none es l.none) (ap (λ (x : Memo). x.dying) l.memo)
 
     pub look_only : (a : Result ℕ LookFault) → LookLeaves (looking me b i) r0 r tr es a → OnlyRead r0 r
     look_only a l = look_reads (looking me b i) r0 r tr es a l
@@ -183,8 +183,8 @@ module _ (p q : Pool) (es : List Event) (on : IsOn p q es) where
     read_dying (Err e) l = ap (λ (x : Memo). x.dying) l.memo
 
     pub read_works : (a : Result ℕ NoSuchWord) → ReadLeaves (reading me b i) r0 r tr es a → IsWorking q
-    read_works (Ok v) l = works p q es on (core_quiet r0 (record r0 { known = learnt (Body b (tag_refs me.geometry.wide l.x + i)) v (learnt (Tag b) l.x r0.known) }) r l.memo (record { loose = refl; unsent = λ j. refl; untaken = λ j. refl })) (ap (λ (x : Memo). x.dying) l.memo)
-    read_works (Err e) l = works p q es on (core_quiet r0 (tagged b l.x r0) r l.memo (record { loose = refl; unsent = λ j. refl; untaken = λ j. refl })) (ap (λ (x : Memo). x.dying) l.memo)
+    read_works (Ok v) l = works p q es on (core_quiet r0 (record r0 { known = learnt (Body b (tag_refs me.geometry.wide l.x + i)) v (learnt (Tag b) l.x r0.known) }) r l.memo (record { loose = refl; unsent = λ j. refl; untaken = λ j. refl })) (homeless_none es l.none) (ap (λ (x : Memo). x.dying) l.memo)
+    read_works (Err e) l = works p q es on (core_quiet r0 (tagged b l.x r0) r l.memo (record { loose = refl; unsent = λ j. refl; untaken = λ j. refl })) (homeless_none es l.none) (ap (λ (x : Memo). x.dying) l.memo)
 
     pub read_only : (a : Result ℕ NoSuchWord) → ReadLeaves (reading me b i) r0 r tr es a → OnlyRead r0 r
     read_only a l = read_reads (reading me b i) r0 r tr es a l

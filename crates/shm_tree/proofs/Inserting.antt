@@ -10,12 +10,12 @@ use Rattle.shm_tree.specs.Spending.{HasSpent}
 use Rattle.shm_tree.specs.declared.node.Content.{Content}
 use Rattle.shm_tree.specs.declared.node.Side.{Side}
 use Rattle.shm_tree.specs.declared.node.Side.TheVariants.{Left, Right}
-use Rattle.shm_tree.specs.Building.{IsAtHand, IsBuilt, IsCheap, IsHeld, IsRebuilt, StandsOf, joined_by, named_by}
+use Rattle.shm_tree.specs.Building.{IsAtHand, IsBuilt, IsCheap, IsHeld, IsRebuilt, KeepsBlocks, StandsOf, joined_by, named_by}
 use Rattle.shm_tree.specs.Inserting.{IsCheapAt, IsRegistered, StandsRenewed, left_of, outside, right_of, side_of}
 use Rattle.shm_tree.specs.Keeping.{HasMade, IsStill, KeepsTrees, child_of, node_by, other_side}
 use Rattle.shm_tree.specs.Living.{KeepsLives}
-use Rattle.shm_tree.specs.Sharing.{CountsTop, KeepsBlocks, weight}
-use Rattle.shm_tree.specs.Standing.{Stands, word_of}
+use Rattle.shm_tree.specs.Sharing.{CountsTop}
+use Rattle.shm_tree.specs.Standing.{Stands, weight, word_of}
 use Rattle.shm_tree.specs.Trees.{Tree, Empty, Node, AreNear, height, inserted, joined}
 use Rattle.shm_tree.specs.Ways.{IsEnd, IsOther, down, toward}
 use Rattle.shm_tree.specs.Working.{IsSameLatch, IsWorking, Went}
@@ -52,8 +52,8 @@ pub record Rising (x y d e : ℕ) (top : ℕ) (m : Made) (p q : Pool) (u v : ℕ
   pub tops : (t : Tree) → Stands p top t → height (inserted x y (down x t d)) ≡ height (down x t d) + 1 → (s : Side) → CountsTop (outside p top t) q s m.block
 
 -- one level more was built over what was built, after calls that read
-pub built_up : {n : ℕ} {low m : Made} {p q r s : Pool} → IsRun p → IsRun q → q.start ≡ p.start → IsRun r → r.start ≡ q.start → IsBuilt n low p q → IsStill q r → IsRebuilt 3 (Some low) m r s → IsBuilt (n + 3) m p s
-built_up {n = n} {low = low} {m = m} {p = p} {q = q} {r = r} {s = s} hp hq start hr onward a i b =
+pub built_up : {n : ℕ} {low m : Made} {p q r s : Pool} → IsRun p → IsRun q → q.start ≡ p.start → IsRun r → r.start ≡ q.start → IsBuilt n low p q → IsStill q r → IsRebuilt 3 (Some low) m r s → KeepsBlocks p s → IsBuilt (n + 3) m p s
+built_up {n = n} {low = low} {m = m} {p = p} {q = q} {r = r} {s = s} hp hq start hr onward a i b blocks =
     let ne : m.root ≢ low.root = λ e. a.some (sym a.rooted.names ∙ (ap (named_by q) (sym e) ∙ (sym (i.roots m.root) ∙ b.empty))) in
     record {
       rooted =
@@ -76,6 +76,7 @@ built_up {n = n} {low = low} {m = m} {p = p} {q = q} {r = r} {s = s} hp hq start
                 let same : named_by r j ≡ named_by p j = i.roots j ∙ a.rooted.others j ne' in
                 subst (λ (k : ℕ). Stands s k t) same (b.trees j t h ne' (subst (λ (k : ℕ). Stands r k t) (sym same) (i.trees (named_by p j) t (a.trees j t h st)))))
           ];
+      blocks = blocks;
       made = made_more ((n + 0) + 3) (n + 3) p s (made_then (n + 0) 3 p r s hp hr (onward ∙ start) (made_then n 0 p q r hp hq start a.made i.made) b.made) (omega arith);
     }
 

@@ -36,7 +36,7 @@ use Rattle.shm_ref.specs.RootOf.{Named}
 use Rattle.shm_ref.proofs.LatchKeeps.{hold_held, hold_loose, hold_reaches, hold_roots, hold_waiting, release_loose, release_roots, release_waiting}
 use Rattle.shm_tree.specs.Keeping.{IsStill}
 use Rattle.shm_tree.specs.Working.{IsReached, IsSameLatch, IsWorking, Reaches}
-use Rattle.shm_tree.proofs.Alive.{IsOn, before, still, works}
+use Rattle.shm_tree.proofs.Alive.{IsOn, before, homeless_none, still, works}
 use Rattle.shm_tree.proofs.Findings.{core_quiet, quiet_self}
 use Rattle.shm_tree.proofs.Nodes.{calm_first, calm_held}
 use Rattle.shm_tree.proofs.Shares.{same_reaches, same_roots}
@@ -63,7 +63,7 @@ module _ (p q : Pool) (es : List Event) (on : IsOn p q es) where
 
   module _ (k b : ℕ) (h : Named me k r0 r tr es b) where
     pub named_works : IsWorking q
-    named_works = works p q es on (core_quiet r0 r0 r h.memo (quiet_self r0)) (ap (λ (x : Memo). x.dying) h.memo)
+    named_works = works p q es on (core_quiet r0 r0 r h.memo (quiet_self r0)) (homeless_none es h.none) (ap (λ (x : Memo). x.dying) h.memo)
 
     pub named_still : IsStill p q
     named_still = still p q es on h.none (same_roots p q es on h.memo) (ap (λ (x : Memo). x.dying) h.memo)
@@ -81,14 +81,14 @@ module _ (p q : Pool) (es : List Event) (on : IsOn p q es) where
 
   module _ (h : Released me r0 r tr es) where
     pub released_works : IsWorking q
-    released_works = works p q es on (record { loose = release_loose me r0 r tr es h; unsent = (release_waiting me r0 r tr es h).unsent; untaken = (release_waiting me r0 r tr es h).untaken }) (release_waiting me r0 r tr es h).dying
+    released_works = works p q es on (record { loose = release_loose me r0 r tr es h; unsent = (release_waiting me r0 r tr es h).unsent; untaken = (release_waiting me r0 r tr es h).untaken }) (homeless_none es h.none) (release_waiting me r0 r tr es h).dying
 
     pub released_still : IsStill p q
     released_still = still p q es on h.none (release_roots me r0 r tr es h) (release_waiting me r0 r tr es h).dying
 
   module _ (u : Unit {0}) (h : HoldLeaves (holding me 0) r0 r tr es (Ok u)) where
     pub held_works : IsWorking q
-    held_works = let w = hold_waiting (holding me 0) r0 r tr es (Ok u) h in works p q es on (record { loose = hold_loose (holding me 0) r0 r tr es (Ok u) h; unsent = w.unsent; untaken = w.untaken }) w.dying
+    held_works = let w = hold_waiting (holding me 0) r0 r tr es (Ok u) h in works p q es on (record { loose = hold_loose (holding me 0) r0 r tr es (Ok u) h; unsent = w.unsent; untaken = w.untaken }) (homeless_none es h.none) w.dying
 
     pub held_still : IsStill p q
     held_still = still p q es on h.none (hold_roots (holding me 0) r0 r tr es (Ok u) h) (hold_waiting (holding me 0) r0 r tr es (Ok u) h).dying

@@ -37,6 +37,7 @@ pub mod Descents
 pub mod Costs
 pub mod Inserting
 pub mod Forests
+pub mod Moving
 pub mod Spares
 pub mod Weights
 pub mod Sharings
@@ -44,6 +45,8 @@ pub mod Growing
 pub mod Lights
 pub mod Living
 pub mod Outcomes
+pub mod Refusals
+pub mod Bounding
 pub mod Opening
 pub mod Levels
 pub mod Onward
@@ -54,3 +57,17 @@ pub mod Resting
 pub mod Named
 pub mod Fallings
 pub mod Ending
+pub mod Costing
+pub mod NodeWords
+pub mod Fitting
+pub mod Lives
+pub mod Sizes
+pub mod Falls
+pub mod Emptying
+pub mod Settled
+pub mod Anytime
+pub mod Harmless
+pub mod Unnamed
+pub mod Referring
+pub mod Beginning
+pub mod Roomy

@@ -9,11 +9,11 @@ use Rattle.shm_count.specs.declared.answer.Made.{Made}
 use Rattle.shm_tree.specs.declared.node.Content.{Content}
 use Rattle.shm_tree.specs.declared.node.Side.{Side}
 use Rattle.shm_tree.specs.declared.node.Side.TheVariants.{Left, Right}
-use Rattle.shm_tree.specs.Building.{IsBuilt, joined_by, named_by}
+use Rattle.shm_tree.specs.Building.{IsBuilt, KeepsBlocks, joined_by, named_by}
 use Rattle.shm_tree.specs.Inserting.{IsOverAt, IsRegistered, WeighsRenewed, is_part, left_of, outside, right_of, side_of}
 use Rattle.shm_tree.specs.Keeping.{IsStill, child_of, is_live, node_by, other_side}
-use Rattle.shm_tree.specs.Sharing.{CountsTop, IsCount, IsOver, IsSharingOver, KeepsBlocks, WeighsJoined, weight}
-use Rattle.shm_tree.specs.Standing.{Stands, word_of}
+use Rattle.shm_tree.specs.Sharing.{CountsTop, IsCount, IsOver, IsSharingOver, WeighsJoined}
+use Rattle.shm_tree.specs.Standing.{Stands, weight, word_of}
 use Rattle.shm_tree.specs.Trees.{Tree, Empty, Node, IsBalanced, IsSearch, height, inserted}
 use Rattle.shm_tree.specs.Ways.{IsEnd, IsOther, toward}
 use Rattle.shm_tree.proofs.Answering.{height_none}

@@ -19,6 +19,7 @@ use Rattle.shm_tree.specs.declared.node.Content.{Content}
 use Rattle.shm_tree.specs.declared.node.Pair.{Pair}
 use Rattle.shm_tree.specs.declared.node.Side.{Side}
 use Rattle.shm_tree.specs.declared.node.Side.TheVariants.{Left, Right}
+use Rattle.shm_tree.specs.Falling.{KeepsFalling}
 use Rattle.shm_tree.specs.Keeping.{HasGrown, HasMade, IsBorn, IsLinked, IsMade, IsReferring, IsStill, KeepsNode, KeepsNodes, child_of, is_live, node_by, other_side}
 use Rattle.shm_tree.specs.Standing.{IsNode, Stands, word_of}
 use Rattle.shm_tree.specs.Trees.{Tree, Empty, Node, height}
@@ -99,6 +100,7 @@ module _ (p : Pool) (work : IsWorking p) where
 
 -- finished or not, two calls leave what one does
 pub went_then : (p m q : Pool) (x y z : ℕ) → IsRun p → Went p m x y → Went m q y z → Went p q x z
+unfolding KeepsFalling
 went_then p m q x y z run a b =
     record {
       start = b.start ∙ a.start;
@@ -106,6 +108,7 @@ went_then p m q x y z run a b =
       acts = b.acts;
       did = (a.did.0 ++ b.did.0, did_then 0 p m q a.did.0 b.did.0 run a.run a.start a.did.1 b.did.1);
       spent = (let s = a.spent in let t = b.spent in omega (arith, s, t));
+      falls = λ h. b.falls (a.falls h);
     }
 
 module _ (p m q : Pool) (hp : IsWorking p) (hm : IsWorking m) (start : m.start ≡ p.start) where

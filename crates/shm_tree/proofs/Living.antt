@@ -6,12 +6,11 @@ use Rattle.std.proofs.lemmas.List.Elements.{Contains-append_left, Contains-appen
 use Rattle.shm_graph.specs.declared.spot.Spot.TheVariants.{Body}
 use Rattle.shm_plain.specs.Pools.{Pool}
 use Rattle.shm_count.specs.declared.answer.Made.{Made}
-use Rattle.shm_tree.specs.Building.{IsBuilt, named_by}
+use Rattle.shm_tree.specs.Building.{IsBuilt, KeepsBlocks, named_by}
 use Rattle.shm_tree.specs.Inserting.{is_part, outside}
 use Rattle.shm_tree.specs.Keeping.{is_live}
 use Rattle.shm_tree.specs.Living.{AreFewNew, AreLivesNodes, AreRootsTrees}
-use Rattle.shm_tree.specs.Sharing.{KeepsBlocks, weight}
-use Rattle.shm_tree.specs.Standing.{Stands, word_of}
+use Rattle.shm_tree.specs.Standing.{Stands, weight, word_of}
 use Rattle.shm_tree.specs.Trees.{Tree, Empty, Node}
 use Rattle.shm_tree.proofs.Lights.{either, once, outside_new, part_weighs, weighs_live}
 use Rattle.shm_tree.proofs.Ways.{stands_one}

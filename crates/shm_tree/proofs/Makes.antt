@@ -44,7 +44,7 @@ use Rattle.shm_tree.specs.Causes.{AllocRefused}
 use Rattle.shm_tree.specs.Keeping.{IsMade, IsStill, KeepsNodes, is_live, made_in}
 use Rattle.shm_tree.specs.Standing.{IsNode, word_of}
 use Rattle.shm_tree.specs.Working.{HasRoom, IsOver, IsSameLatch, IsWorking, Reaches}
-use Rattle.shm_tree.proofs.Alive.{IsOn, IsQuiet, after, before, known_tag, known_word, still, works}
+use Rattle.shm_tree.proofs.Alive.{IsHomeless, IsOn, IsQuiet, after, before, known_tag, known_word, still, works}
 use Rattle.shm_tree.proofs.Firsts.{first_tells}
 use Rattle.shm_tree.proofs.Nodes.{IsCalm, as_started, calm_first, calm_held, from_started, life_same, node_kept, trees_kept}
 use Rattle.shm_tree.proofs.Reach.{reach_grows}
@@ -78,8 +78,8 @@ module _ (p q : Pool) (es : List Event) (on : IsOn p q es) (c : Content) (h : �
         untaken = λ j. ap (λ z. slice_index z j) y.holds.stays.untaken;
       }
 
-  pub make_works : (a : Result Made AllocFault) → AllocGives m r0 r tr a → IsWorking q
-  make_works a y = works p q es on (quiet a y) y.holds.stays.dying
+  pub make_works : (a : Result Made AllocFault) → AllocGives m r0 r tr a → IsHomeless es → IsWorking q
+  make_works a y homeless = works p q es on (quiet a y) homeless y.holds.stays.dying
 
   pub make_latch : (a : Result Made AllocFault) → AllocGives m r0 r tr a → IsSameLatch p q
   make_latch a y = y.holds.stays.latch

@@ -8,43 +8,40 @@ use Rattle.shm_words.specs.declared.place.Place.TheVariants as place
 use Rattle.shm_words.specs.Layout.{is_in, place_at, total_of}
 use Rattle.shm_words.specs.Tags.{tag_refs}
 use Rattle.shm_words.proofs.Placing.{in_place}
-use Rattle.shm_graph.specs.declared.memo.Op.{Op}
 use Rattle.shm_graph.specs.declared.spot.Spot.{Spot}
 use Rattle.shm_graph.specs.declared.spot.Spot.TheVariants.{Unused, Head, Tag, Body, Home, Root, Slot}
 use Rattle.shm_graph.specs.Blocks.{classes, headers}
-use Rattle.shm_graph.specs.Ops.{cover, cover_of, held_over_of, indegree}
+use Rattle.shm_graph.specs.Ops.{held_over_of, indegree}
 use Rattle.shm_graph.specs.References.{one_if, references_to, sum_below, words_of}
 use Rattle.shm_graph.specs.Spots.{see, spot_at, spot_of}
 use Rattle.shm_graph.specs.Views.{View, held_overs, targets, view}
 use Rattle.shm_graph.specs.Runs.{memos_of}
 use Rattle.shm_graph.proofs.States.Holders.{held_live_not_zero, target_counted}
-use Rattle.shm_graph.proofs.States.HomeTarget.{covered_left}
 use Rattle.shm_plain.specs.Pools.{Pool, memo_of}
 use Rattle.shm_count.specs.declared.answer.Made.{Made}
 use Rattle.shm_tree.proofs.Eras.{spent_stays}
 use Rattle.shm_tree.proofs.Lights.{once, part_weighs, weighs_live}
-use Rattle.shm_tree.specs.Building.{IsBuilt, named_by}
+use Rattle.shm_tree.specs.Building.{IsBuilt, KeepsBlocks, named_by}
 use Rattle.shm_tree.specs.Inserting.{is_part, outside}
 use Rattle.shm_tree.specs.Keeping.{is_live}
 use Rattle.shm_tree.specs.Living.{AreFewNew, AreLivesNodes, AreLivesTrees, AreRootsTrees, KeepsLives}
-use Rattle.shm_tree.specs.Sharing.{KeepsBlocks, weight}
-use Rattle.shm_tree.specs.Standing.{Stands, word_of}
+use Rattle.shm_tree.specs.Standing.{Stands, weight, word_of}
 use Rattle.shm_tree.specs.Trees.{Tree, Empty, Node, height}
 use Rattle.shm_tree.specs.Working.{IsSpent, IsWorking, Went}
 use Rattle.shm_tree.proofs.Lights.{either, or_first, or_true}
 use Rattle.shm_tree.proofs.Links.{stands_low}
 use Rattle.shm_tree.proofs.Living.{lives_few}
-use Rattle.shm_tree.proofs.Nodes.{IsCalm, body_names, calm_first, calm_held, names, root_is, root_names, working_calm}
+use Rattle.shm_tree.proofs.Nodes.{IsCalm, body_names, calm_first, calm_held, home_names, names, root_is, root_names, working_calm}
 use Rattle.shm_tree.proofs.Ways.{stands_one}
 
 -- ---- nodes of trees
 
-top_part : (q : Pool) (b a : ℕ) (t : Tree) → Stands q a t → a ≡ b → b ≢ 0 → is_part q b a t ≡ true
+pub top_part : (q : Pool) (b a : ℕ) (t : Tree) → Stands q a t → a ≡ b → b ≢ 0 → is_part q b a t ≡ true
 top_part q b a Empty s e some = absurd (some (sym e ∙ s))
 top_part q b a (Node k n l r) s e some = or_first (b == a) (is_part q b (word_of q (Body a 0)) l || is_part q b (word_of q (Body a 1)) r) (eq-eqb b a (sym e))
 
 -- a child of a node of a tree is one too
-part_child : (q : Pool) (d b i : ℕ) → i < 2 → word_of q (Body d i) ≡ b → b ≢ 0 → (a : ℕ) (t : Tree) → Stands q a t → is_part q d a t ≡ true → is_part q b a t ≡ true
+pub part_child : (q : Pool) (d b i : ℕ) → i < 2 → word_of q (Body d i) ≡ b → b ≢ 0 → (a : ℕ) (t : Tree) → Stands q a t → is_part q d a t ≡ true → is_part q b a t ≡ true
 part_child q d b i low child some a Empty s e = absurd (true≢false (sym e))
 part_child q d b i low child some a (Node k n l r) s e =
     let left : Bool = is_part q b (word_of q (Body a 0)) l in
@@ -73,12 +70,12 @@ sum_some (suc n) f b l =
       | inr d ↦ (let z : one_if (f n == b) ≡ 0 = ap one_if (ne_eqb (f n) b d) in let r = sum_some n f b (omega (arith, l, z)) in (r.0, (let i = r.1 in omega (arith, i)), r.2))
     ]
 
-named_where : (g : Geometry) (class : ℕ → ℕ → ℕ) (t : Spot → ℕ) (b : ℕ) → 0 < references_to g class t b → (a : ℕ) × (a < total_of g) × (t (spot_at g class a) ≡ b)
+pub named_where : (g : Geometry) (class : ℕ → ℕ → ℕ) (t : Spot → ℕ) (b : ℕ) → 0 < references_to g class t b → (a : ℕ) × (a < total_of g) × (t (spot_at g class a) ≡ b)
 unfolding references_to
 named_where g class t b l = sum_some (total_of g) (λ a. t (spot_at g class a)) b l
 
 -- of one identity that holds nothing over, the references are all that name a block
-only_references : (g : Geometry) (class : ℕ → ℕ → ℕ) (t : Spot → ℕ) (l : ℕ → ℕ) (b : ℕ) → g.clients ≡ 1 → l 0 ≡ 0 → b ≢ 0 → indegree g class t l b ≡ references_to g class t b
+pub only_references : (g : Geometry) (class : ℕ → ℕ → ℕ) (t : Spot → ℕ) (l : ℕ → ℕ) (b : ℕ) → g.clients ≡ 1 → l 0 ≡ 0 → b ≢ 0 → indegree g class t l b ≡ references_to g class t b
 unfolding indegree
 only_references g class t l b one none some =
     let over : sum_below g.clients (λ c. one_if (l c == b)) ≡ sum_below 1 (λ c. one_if (l c == b)) = ap (λ (n : ℕ). sum_below n (λ c. one_if (l c == b))) one in
@@ -86,7 +83,7 @@ only_references g class t l b one none some =
     omega (arith, over, zero_here)
 
 -- the identities that a spot of a pool names are in it
-abbrev Bounds : Geometry → Spot → Type 0
+abbrev pub Bounds : Geometry → Spot → Type 0
 Bounds g (Home c) = c < g.clients
 Bounds g (Root c k) = (c < g.clients) × (k < 16)
 Bounds g (Slot s r k) = (s < g.clients) × (r < g.clients)
@@ -105,7 +102,7 @@ place_bounds g class a (place.Slot s r k) e = (let w = and_parts _ _ (and_parts 
 place_bounds g class a (place.Body s p i) e = body_bounds g a _ _ (class s p == 0) _ _
 place_bounds g class a _ e = tt
 
-spot_bounds : (g : Geometry) (class : ℕ → ℕ → ℕ) (a : ℕ) → is_in g (place_at g a) ≡ true → Bounds g (spot_at g class a)
+pub spot_bounds : (g : Geometry) (class : ℕ → ℕ → ℕ) (a : ℕ) → is_in g (place_at g a) ≡ true → Bounds g (spot_at g class a)
 unfolding spot_at
 spot_bounds g class a e = place_bounds g class a (place_at g a) e
 
@@ -127,16 +124,7 @@ module _ (q : Pool) (work : IsWorking q) where
   low_zero : (c : ℕ) → c < g.clients → c ≡ 0
   low_zero c l = let n = work.one in omega (arith, n, l)
 
-  -- the home names what it holds
-  home_names : names q (Home 0) ≡ word_of q (Home 0)
-  home_names = covered_left (λ c. cover_of (v.op c)) g.clients (Home 0) (w (Home 0)) quiet
-    where
-      quiet : (d : ℕ) → d < g.clients → cover (cover_of (v.op d)) (Home 0) (w (Home 0)) ≡ w (Home 0)
-      quiet d l =
-          ap (λ (i : ℕ). cover (cover_of (v.op i)) (Home 0) (w (Home 0))) (low_zero d l)
-          ∙ ap (λ (o : Op). cover (cover_of o) (Home 0) (w (Home 0))) calm.idle
-
-  module _ (none : (memo_of q 0).dying ≡ []) (home : word_of q (Home 0) ≡ 0) (trees : AreLivesTrees q) where
+  module _ (none : (memo_of q 0).dying ≡ []) (trees : AreLivesTrees q) where
     -- a live block that isn't counted would be a zero-count block
     is_counted : (b : ℕ) → is_live q b ≡ true → (headers w b).count ≢ 0
     is_counted b live zero_count =
@@ -211,7 +199,7 @@ module _ (q : Pool) (work : IsWorking q) where
         refs_of_live = let all : refs ≡ tag_refs g.wide (w (Tag d)) = cond-true (is_live q d) (tag_refs g.wide (w (Tag d))) 0 live_of in let l = inside in omega (arith, l, all)
 
     by_spot : (s : Spot) (b : ℕ) (t : Tree) → Bounds g s → b ≢ 0 → Stands q b t → ((e : ℕ) (u : Tree) → is_live q e ≡ true → Stands q e u → height t < height u → Found e) → names q s ≡ b → Found b
-    by_spot (Home c) b t low some st rec e = absurd (some (sym e ∙ (ap (λ (z : ℕ). names q (Home z)) (low_zero c low) ∙ (home_names ∙ home))))
+    by_spot (Home c) b t low some st rec e = absurd (some (sym e ∙ (ap (λ (z : ℕ). names q (Home z)) (low_zero c low) ∙ (home_names q calm ∙ work.home))))
     by_spot (Root c k) b t low some st rec e =
         let is : named_by q k ≡ b = root_is q calm k ∙ (sym (root_names q calm k) ∙ (ap (λ (z : ℕ). names q (Root z k)) (sym (low_zero c low.0)) ∙ e)) in
         (k, low.1, t, subst (λ (z : ℕ). Stands q z t) (sym is) st, top_part q b (named_by q k) t (subst (λ (z : ℕ). Stands q z t) (sym is) st) is some)
@@ -243,17 +231,17 @@ roots_trees p work trees j low =
           trees (named_by p j) (target_counted p.start.geometry _ _ (calm_held p calm) (Root 0 j) (named_by p j) ne (root_names p calm j ∙ sym (root_is p calm j))).0)
     ]
 
-pub lives_fresh : {n : ℕ} {m : Made} (p q : Pool) (i top : ℕ) (t u : Tree) → IsWorking p → IsWorking q → (IsSpent (memo_of q 0) → ⊥) → word_of q (Home 0) ≡ 0 → AreLivesTrees p → KeepsLives p q → IsBuilt n m p q → KeepsBlocks p q → Stands p top t → Stands q m.block u → weight (outside p top t) q m.block u ≤ i → AreFewNew i p q
-lives_fresh p q i top t u wp wq calm home trees rests built blocks st su few =
+pub lives_fresh : {n : ℕ} {m : Made} (p q : Pool) (i top : ℕ) (t u : Tree) → IsWorking p → IsWorking q → (IsSpent (memo_of q 0) → ⊥) → AreLivesTrees p → KeepsLives p q → IsBuilt n m p q → KeepsBlocks p q → Stands p top t → Stands q m.block u → weight (outside p top t) q m.block u ≤ i → AreFewNew i p q
+lives_fresh p q i top t u wp wq calm trees rests built blocks st su few =
     let none : (memo_of q 0).dying ≡ [] = elim wq.dying [ inl e ↦ e | inr s ↦ absurd (calm s) ] in
     let later : AreLivesTrees q = λ b live. rests calm b live (elim (cases_Bool (is_live p b)) [ inl l ↦ inr (trees b l) | inr dead ↦ inl dead ]) in
-    lives_few p q i top t u (roots_trees p wp trees) (lives_nodes q wq none home later) built blocks st su few
+    lives_few p q i top t u (roots_trees p wp trees) (lives_nodes q wq none later) built blocks st su few
 
 -- Where a tree was built, each block that was live is so still: it is a node of a tree that a root names
-pub lives_stay : {n x y : ℕ} {m : Made} (p q : Pool) → IsWorking p → IsWorking q → Went p q x y → (IsSpent (memo_of q 0) → ⊥) → word_of p (Home 0) ≡ 0 → AreLivesTrees p → IsBuilt n m p q → KeepsBlocks p q → (b : ℕ) → is_live p b ≡ true → is_live q b ≡ true
-lives_stay p q wp wq went calm home trees built blocks b live =
+pub lives_stay : {n x y : ℕ} {m : Made} (p q : Pool) → IsWorking p → IsWorking q → Went p q x y → (IsSpent (memo_of q 0) → ⊥) → AreLivesTrees p → IsBuilt n m p q → KeepsBlocks p q → (b : ℕ) → is_live p b ≡ true → is_live q b ≡ true
+lives_stay p q wp wq went calm trees built blocks b live =
     let none : (memo_of p 0).dying ≡ [] = elim wp.dying [ inl e ↦ e | inr s ↦ absurd (calm (spent_stays p q wp wq went s)) ] in
-    let w = lives_nodes p wp none home trees b live in
+    let w = lives_nodes p wp none trees b live in
     let there : Stands q (named_by p w.0) w.2 = built.trees w.0 w.2 w.1 w.3 in
     let some = part_weighs p b (named_by p w.0) w.2 w.4 in
     let same = blocks (once b) w.0 w.2 w.1 w.3 in

@@ -13,7 +13,7 @@ use Rattle.shm_graph.specs.declared.run.Account.{Account}
 use Rattle.shm_graph.specs.declared.run.Move.{Move}
 use Rattle.shm_graph.specs.declared.run.Start.{Start}
 use Rattle.shm_graph.specs.declared.spot.Spot.{Spot}
-use Rattle.shm_graph.specs.declared.spot.Spot.TheVariants.{Body, Head, Root, Tag}
+use Rattle.shm_graph.specs.declared.spot.Spot.TheVariants.{Body, Head, Home, Root, Tag}
 use Rattle.shm_graph.specs.Blocks.{headers}
 use Rattle.shm_graph.specs.Events.{Event}
 use Rattle.shm_graph.specs.Held.{HeldAt}
@@ -90,6 +90,10 @@ module _ (p : Pool) (calm : IsCalm p) where
   pub root_names : (k : ℕ) → names p (Root 0 k) ≡ word_of p (Root 0 k)
   root_names k = uncovered (Root 0 k) (w (Root 0 k))
 
+  -- and the home
+  pub home_names : names p (Home 0) ≡ word_of p (Home 0)
+  home_names = uncovered (Home 0) (w (Home 0))
+
   pub root_is : (k : ℕ) → root_word 0 (memo_of p 0) k ≡ word_of p (Root 0 k)
   root_is k = calm_held.mine 0 calm_first (Root 0 k) refl
 
@@ -132,6 +136,9 @@ module _ (p : Pool) (es : List Event) (cp : IsCalm p) (ws : List ℕ) (accs : Li
     names_there : (s : Spot) → AllByRecursion (Untouched s) es → names q s ≡ names p s
     names_there s good = did_keeps 0 p q es cp.run cq.run refl did (Untouched s) refl (λ w v. targets p.start.geometry w v s ≡ names p s) (target_kept p.start.geometry 0 s (names p s)) good refl
 
+    home_there : AllByRecursion (Untouched (Home 0)) es → word_of q (Home 0) ≡ word_of p (Home 0)
+    home_there good = sym (home_names q cq) ∙ (names_there (Home 0) good ∙ home_names p cp)
+
     child_there : (b k n h i : ℕ) → i < 2 → AllByRecursion (Unfreed b) es → AllByRecursion (Untouched (Body b i)) es → IsNode p b k n h → word_of q (Body b i) ≡ word_of p (Body b i)
     child_there b k n h i low free good x =
         let y = node_there b k n h free x in
@@ -168,6 +175,10 @@ module _ (p q : Pool) (es : List Event) (cp : IsCalm p) (cq : IsCalm q) (start :
   -- a child of it
   pub child_kept : (b k n h i : ℕ) → i < 2 → AllByRecursion (Unfreed b) es → AllByRecursion (Untouched (Body b i)) es → IsNode p b k n h → word_of q (Body b i) ≡ word_of p (Body b i)
   child_kept b k n h i low free good x = from_started (λ z. word_of z (Body b i) ≡ word_of p (Body b i)) p q start (child_there p es cp q.words q.accounts q.turns calm_started did_started b k n h i low free good x)
+
+  -- the home that no event changes
+  pub home_kept : AllByRecursion (Untouched (Home 0)) es → word_of q (Home 0) ≡ word_of p (Home 0)
+  home_kept good = from_started (λ z. word_of z (Home 0) ≡ word_of p (Home 0)) p q start (home_there p es cp q.words q.accounts q.turns calm_started did_started good)
 
   -- a block that is neither made nor freed is live or not as it was
   pub life_same : (b : ℕ) → AllByRecursion (Unlived b) es → is_live q b ≡ is_live p b

@@ -40,7 +40,7 @@ use Rattle.shm_tree.specs.Keeping.{IsPart, IsReferring, IsStill, KeepsNode, chil
 use Rattle.shm_tree.specs.Standing.{IsNode, Stands, word_of}
 use Rattle.shm_tree.specs.Trees.{Tree, Empty, Node}
 use Rattle.shm_tree.specs.Working.{AreSameRoots, IsSameLatch, IsWorking, Reaches}
-use Rattle.shm_tree.proofs.Alive.{IsOn, after, before, known_word, still, works}
+use Rattle.shm_tree.proofs.Alive.{IsHomeless, IsOn, after, before, homeless_is, homeless_none, known_word, still, works}
 use Rattle.shm_tree.proofs.Firsts.{first_tells}
 use Rattle.shm_tree.proofs.Nodes.{body_names, child_kept, content_kept, life_same, names, node_kept}
 use Rattle.shm_tree.proofs.Reach.{reach_same_words}
@@ -200,8 +200,13 @@ module _ (p q : Pool) (es : List Event) (on : IsOn p q es) (b : ℕ) (s : Side) 
   set_latch a l = (set_lasts (setting me b i to) r0 r tr es a l).left.latch
 
   pub set_works : (u : Unit {0}) → SetLeaves (setting me b i to) r0 r tr es (Ok u) → IsWorking q
-  set_works u l = works p q es on (queues_quiet r0 r (set_lasts (setting me b i to) r0 r tr es (Ok u) l).left) (by l.did ∙ seen_dying b i l.tag l.old r0)
+  set_works u l = works p q es on (queues_quiet r0 r (set_lasts (setting me b i to) r0 r tr es (Ok u) l).left) (home l.did) (by l.did ∙ seen_dying b i l.tag l.old r0)
     where
+      home : SetDid me b i l.old to (word_seen b i l.tag l.old r0) r es → IsHomeless es
+      home (Kept same memo none) = homeless_none es none
+      home (Raised none some filled up) = homeless_is es (Up 0 (Body b i) to ∷ []) up (refl, tt)
+      home (Taken some other lost torn told walk) = absurd (untaken l.old torn some told)
+
       by : SetDid me b i l.old to (word_seen b i l.tag l.old r0) r es → r.dying ≡ (word_seen b i l.tag l.old r0).dying
       by (Kept same memo none) = ap (λ (x : Memo). x.dying) memo
       by (Raised none some filled up) = ap (λ (x : Memo). x.dying) filled.rest
@@ -219,7 +224,7 @@ module _ (p q : Pool) (es : List Event) (on : IsOn p q es) (b : ℕ) (s : Side) 
       record {
         still = still p q es on none (set_roots (Err f) l) dying;
         reaches = untouched_seen t old u;
-        works = works p q es on (queues_quiet r0 r (set_lasts (setting me b i to) r0 r tr es (Err f) l).left) dying;
+        works = works p q es on (queues_quiet r0 r (set_lasts (setting me b i to) r0 r tr es (Err f) l).left) (homeless_none es none) dying;
       }
 
   pub set_spent : (e : ℕ) → SetLeaves (setting me b i to) r0 r tr es (Err (fault.EraSpent e)) → IsUnset

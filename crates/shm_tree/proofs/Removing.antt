@@ -10,14 +10,14 @@ use Rattle.shm_tree.specs.declared.node.Content.{Content}
 use Rattle.shm_tree.specs.declared.node.Side.{Side}
 use Rattle.shm_tree.specs.declared.node.Side.TheVariants.{Left, Right}
 use Rattle.shm_tree.specs.Bounds.{fall_steps}
-use Rattle.shm_tree.specs.Building.{IsAtHand, IsBuilt, IsCut, IsHeld, IsRebuilt, StandsOf, block_of, joined_by, named_by, rooms}
+use Rattle.shm_tree.specs.Building.{IsAtHand, IsBuilt, IsCut, IsHeld, IsRebuilt, KeepsBlocks, StandsOf, block_of, joined_by, named_by, rooms}
 use Rattle.shm_tree.specs.Inserting.{IsRegistered, side_of}
 use Rattle.shm_tree.specs.Keeping.{IsShared, IsStill, KeepsTrees, child_of, node_by, other_side}
 use Rattle.shm_tree.specs.Living.{KeepsLives}
 use Rattle.shm_tree.specs.Removing.{IsKept, StandsAgain, StandsMoved, content_in, content_or, rest, side_tree}
-use Rattle.shm_tree.specs.Sharing.{IsSharingOver, KeepsBlocks, weight}
+use Rattle.shm_tree.specs.Sharing.{IsSharingOver}
 use Rattle.shm_tree.specs.Spending.{HasSpent}
-use Rattle.shm_tree.specs.Standing.{Stands, word_of}
+use Rattle.shm_tree.specs.Standing.{Stands, weight, word_of}
 use Rattle.shm_tree.specs.Trees.{Tree, Empty, Node, IsSearch, found}
 use Rattle.shm_tree.specs.Ways.{IsEnd, IsLast, IsPlace, IsSome, down}
 use Rattle.shm_tree.specs.Working.{AreSameRoots, IsSameLatch, IsWorking, Went}
@@ -29,7 +29,7 @@ use Rattle.shm_tree.proofs.Nodes.{made_then}
 use Rattle.shm_tree.proofs.Rotations.{content_is, parts}
 use Rattle.shm_tree.proofs.Growing.{down_tree}
 use Rattle.shm_tree.proofs.Ways.{down_found, tree_is}
-use Rattle.shm_tree.proofs.Weights.{weight_nodes}
+use Rattle.shm_tree.proofs.Weights.{blocks_nodes, weight_nodes}
 
 -- ---- a tree or none
 
@@ -46,18 +46,19 @@ kept_share {m = m} {p = p} {q = q} b is some s =
       rooted = record { low = s.rooted.low; empty = s.rooted.empty; names = s.rooted.names ∙ sym is; others = s.rooted.others };
       some = λ e. some (sym is ∙ e);
       trees = λ j t low h. s.trees (named_by p j) t h;
+      blocks = blocks_nodes s.nodes;
       made = s.made;
     }
 
 -- as many blocks, or more
 pub kept_more : (p q : Pool) (n k : ℕ) (o : Option Made) → n ≤ k → IsKept n o p q → IsKept k o p q
-kept_more p q n k None le h = (record { trees = h.0.trees; roots = h.0.roots; made = made_more n k p q h.0.made le }, h.1)
-kept_more p q n k (Some m) le h = record { rooted = h.rooted; some = h.some; trees = h.trees; made = made_more n k p q h.made le }
+kept_more p q n k None le h = (record { trees = h.0.trees; roots = h.0.roots; blocks = h.0.blocks; made = made_more n k p q h.0.made le }, h.1)
+kept_more p q n k (Some m) le h = record { rooted = h.rooted; some = h.some; trees = h.trees; blocks = h.blocks; made = made_more n k p q h.made le }
 
 -- after calls that read
 pub kept_after : (n : ℕ) (p q r : Pool) (o : Option Made) → IsRun p → IsRun q → q.start ≡ p.start → IsStill p q → IsKept n o q r → IsKept n o p r
 kept_after n p q r None hp hq start a h =
-    (let c = cut_then hp hq start (still_cut a) h.0 in record { trees = c.trees; roots = c.roots; made = made_more (0 + n) n p r c.made (omega arith) }, λ k. h.1 k ∙ a.roots k)
+    (let c = cut_then hp hq start (still_cut a) h.0 in record { trees = c.trees; roots = c.roots; blocks = c.blocks; made = made_more (0 + n) n p r c.made (omega arith) }, λ k. h.1 k ∙ a.roots k)
 kept_after n p q r (Some m) hp hq start a h = built_after hp hq start a h
 
 pub kept_held : (n : ℕ) (p q : Pool) (o : Option Made) (u : Tree) → IsKept n o p q → Stands q (block_of o) u → IfSome o (IsHeld q)
@@ -99,15 +100,16 @@ cut_at_hand {p = p} {q = q} {b = b} g h w =
 -- ---- one level more
 
 -- over what stays below it, if anything, after calls that read
-pub kept_up : (n : ℕ) {m : Made} {p q r s : Pool} (o : Option Made) → IsRun p → IsRun q → q.start ≡ p.start → IsRun r → r.start ≡ q.start → IsKept n o p q → IsStill q r → IsRebuilt 3 o m r s → IsBuilt (n + 3) m p s
-kept_up n (Some low) hp hq start hr onward a i b = built_up hp hq start hr onward a i b
-kept_up n {m = m} {p = p} {q = q} {r = r} {s = s} None hp hq start hr onward a i b =
+pub kept_up : (n : ℕ) {m : Made} {p q r s : Pool} (o : Option Made) → IsRun p → IsRun q → q.start ≡ p.start → IsRun r → r.start ≡ q.start → IsKept n o p q → IsStill q r → IsRebuilt 3 o m r s → KeepsBlocks p s → IsBuilt (n + 3) m p s
+kept_up n (Some low) hp hq start hr onward a i b blocks = built_up hp hq start hr onward a i b blocks
+kept_up n {m = m} {p = p} {q = q} {r = r} {s = s} None hp hq start hr onward a i b blocks =
     let same : (j : ℕ) → named_by r j ≡ named_by p j = λ j. i.roots j ∙ a.1 j in
     let all = cut_then hp hq start a.0 (still_cut i) in
     record {
       rooted = record { low = b.low; empty = sym (same m.root) ∙ b.empty; names = b.names; others = λ j h. b.others j h tt ∙ same j };
       some = b.some;
       trees = λ j t h st. subst (λ (k : ℕ). Stands s k t) (same j) (b.trees j t h tt (subst (λ (k : ℕ). Stands r k t) (sym (same j)) (all.trees j t h st)));
+      blocks = blocks;
       made = made_more ((n + 0) + 3) (n + 3) p s (made_then (n + 0) 3 p r s hp hr (onward ∙ start) all.made b.made) (omega arith);
     }
 

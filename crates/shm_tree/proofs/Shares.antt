@@ -25,7 +25,7 @@ use Rattle.shm_ref.proofs.RootKeeps.{share_dying, share_left, share_named}
 use Rattle.shm_tree.specs.Causes.{ShareRefused, Within}
 use Rattle.shm_tree.specs.Keeping.{IsShared, IsStill, KeepsNodes, made_in}
 use Rattle.shm_tree.specs.Working.{AreSameRoots, HasRoom, IsSameLatch, IsWorking, Reaches}
-use Rattle.shm_tree.proofs.Alive.{IsOn, IsQuiet, after, before, still, works}
+use Rattle.shm_tree.proofs.Alive.{IsHomeless, IsOn, IsQuiet, after, before, homeless_is, homeless_none, still, works}
 use Rattle.shm_tree.proofs.Nodes.{life_same, node_kept, trees_kept}
 use Rattle.shm_tree.proofs.Reach.{reach_grows, reach_same_words}
 
@@ -77,8 +77,14 @@ module _ (p q : Pool) (es : List Event) (on : IsOn p q es) where
     abbrev tr : Trail
     tr = r.call
 
+    share_home : (a : Result ℕ ShareFault) → UpRootLeaves me b r0 r tr es a → IsHomeless es
+    share_home (Ok k) h = homeless_is es (Up 0 (Root 0 k) b ∷ []) h.events (refl, tt)
+    share_home (Err (EraSpent e)) h = homeless_none es h.events
+    share_home (Err RootsFull) h = homeless_none es h.events
+    share_home (Err (CountFull d n)) h = homeless_none es h.events
+
     pub share_works : (a : Result ℕ ShareFault) → UpRootLeaves me b r0 r tr es a → IsWorking q
-    share_works a h = works p q es on (queues_quiet r0 r (share_left me b r0 r tr es a h)) (share_dying me b r0 r tr es a h)
+    share_works a h = works p q es on (queues_quiet r0 r (share_left me b r0 r tr es a h)) (share_home a h) (share_dying me b r0 r tr es a h)
 
     pub share_latch : (a : Result ℕ ShareFault) → UpRootLeaves me b r0 r tr es a → IsSameLatch p q
     share_latch a h = (share_left me b r0 r tr es a h).latch

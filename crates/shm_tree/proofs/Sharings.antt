@@ -11,8 +11,8 @@ use Rattle.shm_tree.specs.declared.node.Side.{Side}
 use Rattle.shm_tree.specs.declared.node.Side.TheVariants.{Left, Right}
 use Rattle.shm_tree.specs.Building.{IsBuilt, IsHeld, StandsOf, from_far, joined_by, named_by}
 use Rattle.shm_tree.specs.Keeping.{IsDropped, IsLinked, IsStill, KeepsNode, child_of, node_by, other_side}
-use Rattle.shm_tree.specs.Sharing.{CountsTop, IsOver, IsSharing, IsSharingOver, WeighsCrowned, WeighsFar, WeighsJoined, WeighsRaised, WeighsTurned, WeighsTurnedTwice, weight}
-use Rattle.shm_tree.specs.Standing.{Stands, word_of}
+use Rattle.shm_tree.specs.Sharing.{CountsTop, IsOver, IsSharing, IsSharingOver, WeighsCrowned, WeighsFar, WeighsJoined, WeighsRaised, WeighsTurned, WeighsTurnedTwice}
+use Rattle.shm_tree.specs.Standing.{Stands, weight, word_of}
 use Rattle.shm_tree.specs.Trees.{Tree, height}
 use Rattle.shm_tree.specs.Working.{IsEmptied, IsWorking}
 use Rattle.shm_tree.proofs.Answering.{height_none}

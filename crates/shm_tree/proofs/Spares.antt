@@ -1,7 +1,7 @@
 -- Of sixteen roots at most twelve are those of registers.
-use Rattle.std.proofs.Common.{◌≡◌, ◌≢◌, ◌==◌, ℕ, zero, suc, ◌+◌, ◌<◌, ◌≤◌, Bool, true, false, cond, List, [], ◌∷◌, length, lit≤, refl, sym, ap, ◌∙◌, subst, arith, inl, inr, ◌⊎◌, true≢false}
+use Rattle.std.proofs.Common.{◌≡◌, ◌≢◌, ◌==◌, ℕ, zero, suc, ◌+◌, ◌<◌, ◌≤◌, Bool, true, false, cond, List, [], ◌∷◌, length, lit≤, refl, sym, ap, ◌∙◌, arith, inl, inr, ◌⊎◌, true≢false}
 use Rattle.std.specs.Prelude.{slice_index}
-use Rattle.std.proofs.lemmas.Bool.{cases_eq, cond-false, cond-true, eq-eqb, ne_eqb}
+use Rattle.std.proofs.lemmas.Bool.{cases_Bool, cases_eq, cond-false, cond-true, eq-eqb, ne_eqb}
 use Rattle.shm_graph.specs.References.{one_if, sum_below}
 use Rattle.shm_plain.specs.Pools.{Pool}
 use Rattle.shm_tree.specs.declared.registers.Registers.{Registers}
@@ -54,6 +54,23 @@ none_at (x ∷ xs) k e (suc r) lt is =
     elim (cases_eq k x) [
       | inl eq ↦ true≢false (sym (cond-true (k == x) true (among xs k) (eq-eqb k x eq)) ∙ e)
       | inr ne ↦ none_at xs k (sym (among_other x k xs ne) ∙ e) r (omega arith) is
+    ]
+
+-- and what is among these is at one
+some_at : (xs : List ℕ) (k : ℕ) → among xs k ≡ true → (r : ℕ) × (r < length xs) × (slice_index xs r ≡ k)
+some_at [] k e = absurd (true≢false (sym e))
+some_at (x ∷ xs) k e =
+    elim (cases_eq k x) [
+      | inl is ↦ (0, omega arith, sym is)
+      | inr ne ↦ (let s = some_at xs k (sym (among_other x k xs ne) ∙ e) in let l = s.1 in (suc s.0, omega (arith, l), s.2))
+    ]
+
+-- a root is a register's, or no register has it
+pub owner : (xs : List ℕ) (k : ℕ) → length xs ≡ 12 → ((r : ℕ) × (r < 12) × (slice_index xs r ≡ k)) ⊎ IsFree xs k
+owner xs k long =
+    elim (cases_Bool (among xs k)) [
+      | inl e ↦ (let s = some_at xs k e in let l = s.1 in inl (s.0, omega (arith, l, long), s.2))
+      | inr e ↦ inr (λ r lt. none_at xs k e r (omega (arith, lt, long)))
     ]
 
 empty_or_used : (p : Pool) (xs : List ℕ) → length xs ≡ 12 → ((k : ℕ) → k < 16 → IsFree xs k → named_by p k ≡ 0) → (k : ℕ) → k < 16 → 1 ≤ one_if (named_by p k == 0) + one_if (among xs k)

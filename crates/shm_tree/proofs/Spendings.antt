@@ -1,7 +1,7 @@
 -- Word steps of calls that come one after the other.
 use Rattle.std.proofs.Common.{◌≡◌, ℕ, ◌+◌, ◌-◌, ◌*◌, ◌<◌, ◌≤◌, ◌⊎◌, List, [], ◌∷◌, ◌++◌, length, refl, sym, subst, arith, inl, inr}
-use Rattle.std.specs.Prelude.{IfOk, Result, Ok, Err}
 use Rattle.std.specs.List.{All, Contains}
+use Rattle.std.proofs.lemmas.Nat.{mul-le}
 use Rattle.shm_words.specs.declared.geometry.Geometry.{Geometry}
 use Rattle.shm_graph.specs.declared.run.Start.{Start}
 use Rattle.shm_graph.specs.declared.spot.Spot.TheVariants.{Era}
@@ -13,11 +13,10 @@ use Rattle.shm_plain.specs.Calls.{state_of}
 use Rattle.shm_plain.specs.Pools.{IsRun, Pool, memo_of}
 use Rattle.shm_count.specs.Tear.Events.{Visit, frees}
 use Rattle.shm_ref.specs.Leaving.{frees-append}
-use Rattle.shm_tree.specs.declared.stop.Stop.{Stop}
 use Rattle.shm_tree.specs.Bounds.{climb_steps, drop_steps, insert_steps, lowest_steps, with_child_steps}
 use Rattle.shm_tree.specs.Spending.{HasSpent}
 use Rattle.shm_tree.specs.Tearing.{HasTorn}
-use Rattle.shm_tree.specs.Working.{IfAlive, IsSpent, IsWorking, Went}
+use Rattle.shm_tree.specs.Working.{IsSpent, IsWorking, Went}
 use Rattle.shm_tree.proofs.Turns.{did_leads, did_then}
 
 -- an own era that is spent stays so
@@ -84,10 +83,16 @@ spent_drop {p} {q} {x} {y} k h (n, torn, few) =
     by (inl none) = inl (empty torn.left (subst (λ (ds : List ℕ). All (λ (v : Visit). Contains ds v.block) torn.left) none torn.dying))
     by (inr l) = inr l
 
--- where it was done
-pub ok_alive : {T : Type 0} (P : Type 0) (o : Result T Stop) → IfAlive o P → IfOk o (λ a. P)
-ok_alive P (Ok a) h = h
-ok_alive P (Err e) h = tt
+-- ---- levels one above the other, each with the way down to it
+
+-- at most as many as for all levels of a tree of the height h: until the lowest one, and until any
+pub first_most : (c k e h : ℕ) → e ≤ h → 5 * e + c ≤ 5 * h + c + h * k
+first_most c k e h low = omega (arith, low)
+
+pub level_most : (c w j d e h : ℕ) → j + 1 ≤ e → d ≤ e → e ≤ h → 5 * e + c + j * (5 * e + w) + 5 * d + w ≤ 5 * h + c + h * (5 * h + w)
+level_most c w j d e h next low up =
+    let all = mul-le (j + 1) (5 * e + w) h (5 * h + w) (omega (arith, next, up)) (omega (arith, up)) in
+    omega (arith, all, low, up)
 
 -- ---- an insertion
 

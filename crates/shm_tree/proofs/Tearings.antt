@@ -24,8 +24,7 @@ use Rattle.shm_ref.specs.Leaving.{frees-append}
 use Rattle.shm_ref.specs.Lefts.{RootEvents}
 use Rattle.shm_ref.proofs.RefusedDrops.{spent_emptied}
 use Rattle.shm_tree.specs.Keeping.{IsDropped, IsStill, is_live}
-use Rattle.shm_tree.specs.Sharing.{weight}
-use Rattle.shm_tree.specs.Standing.{IsNode, Stands, word_of}
+use Rattle.shm_tree.specs.Standing.{IsNode, Stands, weight, word_of}
 use Rattle.shm_tree.specs.Tearing.{HasTorn, IsGone}
 use Rattle.shm_tree.specs.Trees.{Tree, Empty, Node, size}
 use Rattle.shm_tree.specs.Working.{IsWorking}

@@ -10,10 +10,9 @@ use Rattle.shm_tree.specs.declared.node.Content.{Content}
 use Rattle.shm_tree.specs.declared.node.Pair.{Pair}
 use Rattle.shm_tree.specs.declared.node.Side.{Side}
 use Rattle.shm_tree.specs.declared.node.Side.TheVariants.{Left, Right}
-use Rattle.shm_tree.specs.Building.{IsCut, named_by}
+use Rattle.shm_tree.specs.Building.{IsCut, KeepsBlocks, named_by}
 use Rattle.shm_tree.specs.Keeping.{IsBorn, IsDropped, IsLinked, KeepsNode, KeepsNodes, child_of, is_live, node_by, other_side}
-use Rattle.shm_tree.specs.Sharing.{KeepsBlocks, weight}
-use Rattle.shm_tree.specs.Standing.{IsNode, Stands, word_of}
+use Rattle.shm_tree.specs.Standing.{IsNode, Stands, weight, word_of}
 use Rattle.shm_tree.specs.Trees.{Tree, Empty, Node}
 use Rattle.shm_tree.specs.Working.{IsEmptied, IsWorking}
 use Rattle.shm_tree.proofs.Nodes.{IsCalm, body_names, calm_first, calm_held, names, root_is, root_names, working_calm}

@@ -12,7 +12,8 @@ use Rattle.shm_tree.specs.declared.node.Side.TheVariants.{Left, Right}
 use Rattle.shm_tree.specs.declared.stop.Stop.{Stop}
 use Rattle.shm_tree.specs.Causes.{StopCause}
 use Rattle.shm_tree.specs.Keeping.{HasMade, HasTree, node_by, other_side}
-use Rattle.shm_tree.specs.Standing.{Stands}
+use Rattle.shm_tree.specs.Spending.{HasSpent}
+use Rattle.shm_tree.specs.Standing.{Stands, weight}
 use Rattle.shm_tree.specs.Trees.{Tree, AreNear, from_left, from_right, height, joined}
 use Rattle.shm_tree.specs.Working.{IfAlive, IfRefused, IsOver, IsReached, IsRooted, IsSameLatch, IsWorking, Went}
 
@@ -28,26 +29,33 @@ rooms p = sum_below 16 (λ k. one_if (named_by p k == 0))
 abbrev pub KeepsRooted : Pool → Pool → Type 0
 KeepsRooted p q = (j : ℕ) (t : Tree) → j < 16 → Stands p (named_by p j) t → Stands q (named_by p j) t
 
--- The work stopped: what roots named they name still, and it stands; at most n blocks were made
+-- each tree that a root names has the blocks that it had
+abbrev pub KeepsBlocks : Pool → Pool → Type 0
+KeepsBlocks p q = (f : ℕ → ℕ) (j : ℕ) (t : Tree) → j < 16 → Stands p (named_by p j) t → weight f q (named_by p j) t ≡ weight f p (named_by p j) t
+
+-- The work stopped: what roots named they name still, and it stands, of the same blocks; at most n blocks were made
 pub record IsCut (n : ℕ) (p q : Pool) : Type 0 where
   pub trees : KeepsRooted p q
   pub roots : (k : ℕ) → named_by p k ≢ 0 → named_by q k ≡ named_by p k
+  pub blocks : KeepsBlocks p q
   pub made : HasMade n p q
 
--- A call that builds, in which n blocks are made at most: what it leaves of the pool p and x word steps is the pool q and y
-pub record Builds {T : Type 0} (n : ℕ) (r : Result T Stop) (p q : Pool) (x y : ℕ) : Type 0 where
+-- A call that builds, in which n blocks are made at most, and c word steps go beside those for blocks that are torn down: what it leaves of the pool p and x word steps is the pool q and y
+pub record Builds {T : Type 0} (n c : ℕ) (r : Result T Stop) (p q : Pool) (x y : ℕ) : Type 0 where
   pub went : Went p q x y
   pub working : IfAlive r (IsWorking q)
   pub latch : IfAlive r (IsSameLatch p q)
   pub refused : IfRefused r (IsCut n p q)
+  pub spent : IfAlive r (HasSpent c p q x y)
   pub cause : IfErr r (λ e. StopCause p q e)
   pub died : IfErr r (λ e. IsOver e y)
 
--- a tree was built: a root that was empty names it, and no other root changed
+-- a tree was built: a root that was empty names it, and no other root changed, nor what they name
 pub record IsBuilt (n : ℕ) (m : Made) (p q : Pool) : Type 0 where
   pub rooted : IsRooted m.root m.block p q
   pub some : m.block ≢ 0
   pub trees : KeepsRooted p q
+  pub blocks : KeepsBlocks p q
   pub made : HasMade n p q
 
 -- a root is another than that of a tree, if there is one

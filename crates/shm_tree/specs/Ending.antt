@@ -1,7 +1,7 @@
 -- The closing of a forest's pool: its one client leaves, or it is dead and is recovered.
-use Rattle.std.specs.Prelude.{◌≡◌, ◌⊎◌, Bool, true, false, List, Result}
+use Rattle.std.specs.Prelude.{◌≡◌, ◌^◌, ◌≤◌, ◌⊎◌, Bool, true, false, List, Result}
 use Rattle.shm_graph.specs.declared.memo.Kind.TheVariants.{Recoverer}
-use Rattle.shm_graph.specs.Agents.{entered}
+use Rattle.shm_graph.specs.Agents.{entered, steps_made}
 use Rattle.shm_graph.specs.Events.{Event}
 use Rattle.shm_plain.specs.Calls.{Did}
 use Rattle.shm_plain.specs.Pools.{Pool, after_fall, memo_of}
@@ -12,6 +12,11 @@ use Rattle.shm_recover.specs.Leave.{LeaveLeaves}
 use Rattle.shm_recover.specs.Recover.Control.{recovering}
 use Rattle.shm_recover.specs.Recover.{RecoverLeaves}
 use Rattle.shm_tree.specs.Working.{IsSpent}
+
+-- its client has made few word steps, and began with era 1
+pub record IsYoung (p : Pool) : Type 0 where
+  pub first : p.start.first_era ≡ 1
+  pub few : steps_made (memo_of p 0) ≤ 2 ^ 46
 
 -- the client left, from p to q, with this answer
 pub record HasParted (p q : Pool) (a : Result (Unit {0}) EraSpent) : Type 0 where

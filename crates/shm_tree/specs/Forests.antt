@@ -19,9 +19,10 @@ use Rattle.shm_tree.specs.declared.stop.Stop.{Stop}
 use Rattle.shm_tree.specs.declared.stop.Stop.TheVariants as stop
 use Rattle.shm_tree.specs.Building.{named_by}
 use Rattle.shm_tree.specs.Causes.{StopCause}
-use Rattle.shm_tree.specs.Standing.{IsTree, Stands}
+use Rattle.shm_tree.specs.Falling.{AreFalling}
+use Rattle.shm_tree.specs.Standing.{IsTree, Stands, weight}
 use Rattle.shm_tree.specs.Trees.{Tree, Empty, found, inserted, removed}
-use Rattle.shm_tree.specs.Working.{AreSameRoots, IfAlive, IfRefused, IsOver, IsRooted, IsSameLatch, IsWorking, Went}
+use Rattle.shm_tree.specs.Working.{AreSameRoots, IfAlive, IfRefused, IsOver, IsRooted, IsSameLatch, IsSpent, IsWorking, Went}
 
 -- ---- registers and their versions
 
@@ -69,12 +70,21 @@ pub record IsForest (f : Registers) : Type 0 where
   pub tidy : f.tidy ≡ true → IsTidy f
   pub versions : (ts : List Tree) × HasVersions f ts
 
+-- the own era leaves room for a step down
+abbrev pub IsUnspent : Registers → Type 0
+IsUnspent f = IsSpent (memo_of f.pool 0) → ⊥
+
+-- where it does they are told to be tidy
+abbrev pub IsSwept : Registers → Type 0
+IsSwept f = IsUnspent f → f.tidy ≡ true
+
 -- ---- what calls keep
 
--- a root names the block that it named, and what stood there stands there
+-- a root names the block that it named, and what stood there stands there, of the same blocks
 pub record KeepsRoot (p q : Pool) (k : ℕ) : Type 0 where
   pub same : block_in q k ≡ block_in p k
   pub trees : (t : Tree) → Stands p (block_in p k) t → Stands q (block_in p k) t
+  pub blocks : (f : ℕ → ℕ) (t : Tree) → Stands p (block_in p k) t → weight f q (block_in p k) t ≡ weight f p (block_in p k) t
 
 -- each root of these does so
 abbrev pub KeepsRoots : List ℕ → Pool → Pool → Type 0
@@ -91,6 +101,11 @@ KeepsNamed p q = (k : ℕ) → (k < 16 → named_by p k ≢ 0) → KeepsRoot p q
 -- each register has the version that it had
 abbrev pub KeepsVersions : Registers → Registers → Type 0
 KeepsVersions f g = (ts : List Tree) → HasVersions f ts → HasVersions g ts
+
+-- each register names the block that it named, and what stood there stands there, of the same blocks
+pub record KeepsRegisters (f g : Registers) : Type 0 where
+  pub same : g.roots ≡ f.roots
+  pub roots : KeepsRoots f.roots f.pool g.pool
 
 -- a call between two moments was refused so, and the client came by itself from the first to the second
 pub record Stopped (p q : Pool) (e : Stop) : Type 0 where
@@ -109,11 +124,11 @@ pub record Calls {T : Type 0} (K : Pool → Pool → Type 0) (r : Result T Stop)
   pub cause : IfErr r (λ e. Stopped p q e)
   pub died : IfErr r (λ e. IsOver e y)
 
--- a part of a line: what it leaves of the registers f and x word steps is the registers g and y. Where it was refused each register has its version still
+-- a part of a line: what it leaves of the registers f and x word steps is the registers g and y. Where it was refused each register has its version still, of the same blocks
 pub record Moves {T : Type 0} (r : Result T Stop) (f g : Registers) (x y : ℕ) : Type 0 where
   pub went : Went f.pool g.pool x y
   pub forest : IfAlive r (IsForest g)
-  pub kept : IfRefused r (KeepsVersions f g)
+  pub kept : IfRefused r (KeepsRegisters f g)
   pub cause : IfErr r (λ e. Stopped f.pool g.pool e)
   pub died : IfErr r (λ e. IsOver e y)
 
@@ -236,10 +251,13 @@ pub record IsLost (p : Pool) : Type 0 where
   pub one : p.start.geometry.clients ≡ 1
   pub geometry : GeometryFits p.start.geometry
 
--- its pool is one for single calls; it is between two lines, or its client died
+-- its pool is one for single calls, with first eras 1, in which references of blocks fall; it is between two lines, or its client died
 pub record IsSound (f : Forested) : Type 0 where
   pub single : f.registers.pool.start.tables ≡ false
+  pub first : f.registers.pool.start.first_era ≡ 1
+  pub falling : AreFalling f.registers.pool
   pub forest : f.died ≡ false → IsForest f.registers
+  pub swept : f.died ≡ false → IsSwept f.registers
   pub lost : f.died ≡ true → IsLost f.registers.pool
 
 -- no word step was left

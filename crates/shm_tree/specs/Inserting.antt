@@ -7,9 +7,9 @@ use Rattle.shm_tree.specs.declared.node.Side.{Side}
 use Rattle.shm_tree.specs.declared.node.Side.TheVariants.{Left, Right}
 use Rattle.shm_tree.specs.Building.{joined_by, named_by}
 use Rattle.shm_tree.specs.Keeping.{HasMade, child_of, other_side}
-use Rattle.shm_tree.specs.Standing.{IsTree, Stands, word_of}
+use Rattle.shm_tree.specs.Standing.{IsTree, Stands, weight, word_of}
 use Rattle.shm_tree.specs.Trees.{Tree, Empty, Node, AreNear, height, inserted}
-use Rattle.shm_tree.specs.Sharing.{CountsTop, IsCount, weight}
+use Rattle.shm_tree.specs.Sharing.{CountsTop, IsCount}
 use Rattle.shm_tree.specs.Ways.{IsEnd}
 
 -- the side of a node with the key k on which the key x stands

@@ -17,3 +17,7 @@ pub mod Sharing
 pub mod Living
 pub mod Removing
 pub mod Ending
+pub mod Costing
+pub mod Holding
+pub mod Falling
+pub mod ForestCalls

@@ -1,29 +1,19 @@
 -- The blocks that trees have in common.
 use Rattle.std.specs.Prelude.{◌≡◌, ℕ, ◌+◌, ◌<◌, ◌≤◌, false, Option}
-use Rattle.shm_graph.specs.declared.spot.Spot.TheVariants.{Body}
 use Rattle.shm_plain.specs.Pools.{Pool}
 use Rattle.shm_count.specs.declared.answer.Made.{Made}
-use Rattle.shm_tree.specs.Building.{IsOther, from_far, joined_by, named_by}
+use Rattle.shm_tree.specs.Building.{IsOther, KeepsBlocks, from_far, joined_by, named_by}
 use Rattle.shm_tree.specs.declared.balance.Plan.{Plan}
 use Rattle.shm_tree.specs.declared.node.Content.{Content}
 use Rattle.shm_tree.specs.declared.node.Pair.{Pair}
 use Rattle.shm_tree.specs.declared.node.Side.{Side}
 use Rattle.shm_tree.specs.Keeping.{child_of, is_live, node_by, other_side}
-use Rattle.shm_tree.specs.Standing.{Stands, word_of}
-use Rattle.shm_tree.specs.Trees.{Tree, Empty, Node, AreNear, height}
-
--- of the nodes of the tree that stands at b, how many f counts by their blocks
-abbrev pub weight : (f : ℕ → ℕ) → Pool → ℕ → Tree → ℕ
-weight f p b Empty = 0
-weight f p b (Node k n l r) = f b + weight f p (word_of p (Body b 0)) l + weight f p (word_of p (Body b 1)) r
+use Rattle.shm_tree.specs.Standing.{Stands, weight}
+use Rattle.shm_tree.specs.Trees.{Tree, AreNear, height}
 
 -- f counts a block once, or not
 abbrev pub IsCount : (ℕ → ℕ) → Type 0
 IsCount f = (b : ℕ) → f b ≤ 1
-
--- each tree that a root names has the blocks that it had
-abbrev pub KeepsBlocks : Pool → Pool → Type 0
-KeepsBlocks p q = (f : ℕ → ℕ) (j : ℕ) (t : Tree) → j < 16 → Stands p (named_by p j) t → weight f q (named_by p j) t ≡ weight f p (named_by p j) t
 
 -- what was built is at a block that wasn't live, and leaves the blocks of the trees that stood
 pub record IsSharing (m : Made) (p q : Pool) : Type 0 where

@@ -1,5 +1,5 @@
 -- Trees that stand in the words of a pool: their nodes are blocks.
-use Rattle.std.specs.Prelude.{◌≡◌, ◌≢◌, ℕ, true}
+use Rattle.std.specs.Prelude.{◌≡◌, ◌≢◌, ℕ, ◌+◌, true}
 use Rattle.shm_words.specs.Headers.{header_of}
 use Rattle.shm_words.specs.Tags.{tag_plain, tag_refs}
 use Rattle.shm_graph.specs.declared.spot.Spot.{Spot}
@@ -32,3 +32,8 @@ pub record IsTree (p : Pool) (b : ℕ) (t : Tree) : Type 0 where
   pub stands : Stands p b t
   pub search : IsSearch t
   pub balanced : IsBalanced t
+
+-- of the nodes of the tree that stands at b, how many f counts by their blocks
+abbrev pub weight : (f : ℕ → ℕ) → Pool → ℕ → Tree → ℕ
+weight f p b Empty = 0
+weight f p b (Node k n l r) = f b + weight f p (word_of p (Body b 0)) l + weight f p (word_of p (Body b 1)) r

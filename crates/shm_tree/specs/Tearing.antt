@@ -7,8 +7,7 @@ use Rattle.shm_plain.specs.Pools.{Pool, memo_of}
 use Rattle.shm_count.specs.Roots.{root_word}
 use Rattle.shm_count.specs.Tear.Events.{Visit, frees}
 use Rattle.shm_tree.specs.Keeping.{is_live}
-use Rattle.shm_tree.specs.Sharing.{weight}
-use Rattle.shm_tree.specs.Standing.{Stands}
+use Rattle.shm_tree.specs.Standing.{Stands, weight}
 use Rattle.shm_tree.specs.Trees.{Tree}
 
 -- a block isn't live, or is a zero-count block

@@ -1,7 +1,7 @@
 -- The one client of a forest's pool at work.
 use Rattle.std.specs.Prelude.{◌≡◌, ◌≢◌, ℕ, ◌+◌, ◌-◌, ◌^◌, ◌<◌, ◌⊎◌, true, false, List, [], slice_index, Result, Ok, Err}
 use Rattle.shm_graph.specs.declared.memo.Memo.{Memo}
-use Rattle.shm_graph.specs.declared.spot.Spot.TheVariants.{Era}
+use Rattle.shm_graph.specs.declared.spot.Spot.TheVariants.{Era, Home}
 use Rattle.shm_graph.specs.Agents.{acts, recovers, steps_made}
 use Rattle.shm_graph.specs.Events.{Event}
 use Rattle.shm_graph.specs.Held.{is_loose}
@@ -12,30 +12,34 @@ use Rattle.shm_plain.specs.Pools.{IsRun, Pool, memo_of}
 use Rattle.shm_count.specs.Roots.{AreRootsReached, root_word}
 use Rattle.shm_tree.specs.declared.stop.Stop.{Stop}
 use Rattle.shm_tree.specs.declared.stop.Stop.TheVariants as stop
+use Rattle.shm_tree.specs.Falling.{KeepsFalling}
+use Rattle.shm_tree.specs.Standing.{word_of}
 
 -- the own era leaves no room for a step down
 abbrev pub IsSpent : Memo → Type 0
 IsSpent m = 2 ^ 47 - 3 < own_word m.own (Era 0 0)
 
--- the one client of a pool for single calls is between two calls, whether it holds its latch or not: what roots name is in reach, nothing waits in its queues, and no count came to 0, or the own era is spent
+-- the one client of a pool for single calls is between two calls, whether it holds its latch or not: what roots name is in reach, its home names nothing, nothing waits in its queues, and no count came to 0, or the own era is spent
 pub record IsWorking (p : Pool) : Type 0 where
   pub work : IsAtWork 0 p
   pub run : IsRun p
   pub one : p.start.geometry.clients ≡ 1
   pub client : recovers (memo_of p 0) ≡ false
   pub reached : AreRootsReached 0 (memo_of p 0)
+  pub home : word_of p (Home 0) ≡ 0
   pub loose : is_loose (memo_of p 0).part ≡ true
   pub dying : ((memo_of p 0).dying ≡ []) ⊎ IsSpent (memo_of p 0)
   pub unsent : (j : ℕ) → slice_index (memo_of p 0).unsent j ≡ 0
   pub untaken : (j : ℕ) → slice_index (memo_of p 0).untaken j ≡ 0
 
--- what any call of the client leaves, finished or not: it acts, its turns alone came to those of the pool, and each word step of life that went, of x before it and y after it, was one of its own
+-- what any call of the client leaves, finished or not: it acts, its turns alone came to those of the pool, each word step of life that went, of x before it and y after it, was one of its own, and references of blocks fall where they did
 pub record Went (p q : Pool) (x y : ℕ) : Type 0 where
   pub start : q.start ≡ p.start
   pub run : IsRun q
   pub acts : acts (memo_of q 0) ≡ true
   pub did : (es : List Event) × Did 0 p q es
   pub spent : y + steps_made (memo_of q 0) ≡ x + steps_made (memo_of p 0)
+  pub falls : KeepsFalling p q
 
 -- a call came to an end, done or refused: there were word steps for it
 abbrev pub IfAlive : {T : Type 0} → Result T Stop → Type 0 → Type 0

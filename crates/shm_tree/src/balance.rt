@@ -7,7 +7,6 @@ ghost use Rattle.shm_tree.specs.Building.{Builds, IsAtHand, IsBuilt, IsCheap, Is
 ghost use Rattle.shm_tree.specs.Keeping.{HasNode, HasTree, child_of, other_side};
 ghost use Rattle.shm_tree.specs.Living.{KeepsLives};
 ghost use Rattle.shm_tree.specs.Sharing.{IsOver, IsSharing, IsSharingOver, WeighsCrowned, WeighsFar, WeighsJoined, WeighsRaised, WeighsTurned, WeighsTurnedTwice};
-ghost use Rattle.shm_tree.specs.Spending.{HasSpent};
 ghost use Rattle.shm_tree.specs.Working.{IfAlive, IsReached, IsWorking};
 
 use crate::calls::{child, drop_root, height};
@@ -39,9 +38,8 @@ fn raised(
     requires near { IsAtHand pool.old below.trees.near }
     requires middle { IsAtHand pool.old below.trees.far }
     requires far { IsAtHand pool.old far }
-    ensures builds { Builds 2 result pool.old pool.new life.old.left life.new.left }
+    ensures builds { Builds 2 (raised_steps pool.old.start.geometry) result pool.old pool.new life.old.left life.new.left }
     ensures built { IfOk result (λ m. IsBuilt 2 m pool.old pool.new) }
-    ensures spent { IfOk result (λ m. HasSpent (raised_steps pool.old.start.geometry) pool.old pool.new life.old.left life.new.left) }
     ensures stands { IfOk result (λ m. StandsRaised top side below far m.block pool.old pool.new) }
     ensures sharing { IfOk result (λ m. IsSharing m pool.old pool.new) }
     ensures rests { IfOk result (λ m. KeepsLives pool.old pool.new) }
@@ -73,9 +71,8 @@ fn crowned(
     requires near_far { IsAtHand pool.old near.trees.far }
     requires far_near { IsAtHand pool.old far.trees.near }
     requires far_far { IsAtHand pool.old far.trees.far }
-    ensures builds { Builds 3 result pool.old pool.new life.old.left life.new.left }
+    ensures builds { Builds 3 (crowned_steps pool.old.start.geometry) result pool.old pool.new life.old.left life.new.left }
     ensures built { IfOk result (λ m. IsBuilt 3 m pool.old pool.new) }
-    ensures spent { IfOk result (λ m. HasSpent (crowned_steps pool.old.start.geometry) pool.old pool.new life.old.left life.new.left) }
     ensures stands { IfOk result (λ m. StandsCrowned top side near far m.block pool.old pool.new) }
     ensures sharing { IfOk result (λ m. IsSharing m pool.old pool.new) }
     ensures rests { IfOk result (λ m. KeepsLives pool.old pool.new) }
@@ -106,9 +103,8 @@ fn single(
     requires grand_far { IsAtHand pool.old grand.far }
     requires near_is { grand.near ≡ child_of pool.old trees.far side }
     requires far_is { grand.far ≡ child_of pool.old trees.far (other_side side) }
-    ensures builds { Builds 2 result pool.old pool.new life.old.left life.new.left }
+    ensures builds { Builds 2 (turned_steps pool.old.start.geometry) result pool.old pool.new life.old.left life.new.left }
     ensures built { IfOk result (λ m. IsBuilt 2 m pool.old pool.new) }
-    ensures spent { IfOk result (λ m. HasSpent (turned_steps pool.old.start.geometry) pool.old pool.new life.old.left life.new.left) }
     ensures stands { IfOk result (λ m. StandsTurned middle side trees m.block pool.old pool.new) }
     ensures sharing { IfOk result (λ m. IsSharing m pool.old pool.new) }
     ensures rests { IfOk result (λ m. KeepsLives pool.old pool.new) }
@@ -145,9 +141,8 @@ fn double(
     requires grand_far { IsAtHand pool.old grand.far }
     requires near_is { grand.near ≡ child_of pool.old trees.far side }
     requires far_is { grand.far ≡ child_of pool.old trees.far (other_side side) }
-    ensures builds { Builds 3 result pool.old pool.new life.old.left life.new.left }
+    ensures builds { Builds 3 (turned_steps pool.old.start.geometry) result pool.old pool.new life.old.left life.new.left }
     ensures built { IfOk result (λ m. IsBuilt 3 m pool.old pool.new) }
-    ensures spent { IfOk result (λ m. HasSpent (turned_steps pool.old.start.geometry) pool.old pool.new life.old.left life.new.left) }
     ensures stands { IfOk result (λ m. StandsTurnedTwice middle side trees m.block pool.old pool.new) }
     ensures sharing { IfOk result (λ m. IsSharing m pool.old pool.new) }
     ensures rests { IfOk result (λ m. KeepsLives pool.old pool.new) }
@@ -187,9 +182,8 @@ fn rotated(
     requires near { IsAtHand pool.old trees.near }
     requires far { IsAtHand pool.old trees.far }
     requires some { trees.far ≢ 0 }
-    ensures builds { Builds 3 result pool.old pool.new life.old.left life.new.left }
+    ensures builds { Builds 3 (rotated_steps pool.old.start.geometry) result pool.old pool.new life.old.left life.new.left }
     ensures built { IfOk result (λ m. IsBuilt 3 m pool.old pool.new) }
-    ensures spent { IfOk result (λ m. HasSpent (rotated_steps pool.old.start.geometry) pool.old pool.new life.old.left life.new.left) }
     ensures stands { IfOk result (λ m. StandsOf (from_far side middle) trees m.block pool.old pool.new) }
     ensures sharing { IfOk result (λ m. IsSharing m pool.old pool.new) }
     ensures rests { IfOk result (λ m. KeepsLives pool.old pool.new) }
@@ -218,9 +212,8 @@ fn balanced(
     requires room { 3 ≤ rooms pool.old }
     requires near { IsAtHand pool.old trees.near }
     requires far { IsAtHand pool.old trees.far }
-    ensures builds { Builds 3 result pool.old pool.new life.old.left life.new.left }
+    ensures builds { Builds 3 (balanced_steps pool.old.start.geometry) result pool.old pool.new life.old.left life.new.left }
     ensures built { IfOk result (λ m. IsBuilt 3 m pool.old pool.new) }
-    ensures spent { IfOk result (λ m. HasSpent (balanced_steps pool.old.start.geometry) pool.old pool.new life.old.left life.new.left) }
     ensures stands { IfOk result (λ m. StandsOf (joined_by side middle) trees m.block pool.old pool.new) }
     ensures cheap { IfAlive result (IsCheap trees pool.old pool.new) }
     ensures sharing { IfOk result (λ m. IsSharing m pool.old pool.new) }
@@ -273,9 +266,8 @@ pub fn renewed(
     requires far { HasTree pool.old (child_of pool.old node (other_side side)) }
     requires reached { IsReached pool.old node }
     requires tree { IfSome tree (IsHeld pool.old) }
-    ensures builds { Builds 3 result pool.old pool.new life.old.left life.new.left }
+    ensures builds { Builds 3 (renewed_steps pool.old.start.geometry) result pool.old pool.new life.old.left life.new.left }
     ensures rebuilt { IfOk result (λ m. IsRebuilt 3 tree m pool.old pool.new) }
-    ensures spent { IfOk result (λ m. HasSpent (renewed_steps pool.old.start.geometry) pool.old pool.new life.old.left life.new.left) }
     ensures stands { IfOk result (λ m. StandsOf (joined_by side middle) (record { near = block_of tree; far = child_of pool.old node (other_side side) }) m.block pool.old pool.new) }
     ensures cheap { IfAlive result (IsCheap (record { near = block_of tree; far = child_of pool.old node (other_side side) }) pool.old pool.new) }
     ensures sharing { IfOk result (λ m. IsSharingOver tree m pool.old pool.new) }

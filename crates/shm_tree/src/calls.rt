@@ -8,11 +8,12 @@ ghost use Rattle.shm_count.specs.Roots.{root_word};
 ghost use Rattle.shm_tree.specs.declared.stop.Stop.TheVariants as stop;
 ghost use Rattle.shm_tree.specs.Bounds.{drop_steps, make_steps, refer_steps, share_steps};
 ghost use Rattle.shm_tree.specs.Causes.{StopCause};
+ghost use Rattle.shm_tree.specs.Falling.{IsUnnamed};
 ghost use Rattle.shm_tree.specs.Keeping.{HasNode, HasTree, IsDropped, IsMade, IsReferring, IsShared, IsStill, child_of};
 ghost use Rattle.shm_tree.specs.Standing.{Stands, word_of};
 ghost use Rattle.shm_tree.specs.Tearing.{HasTorn};
 ghost use Rattle.shm_tree.specs.Trees.{Tree as ATree, height as height_of};
-ghost use Rattle.shm_tree.specs.Working.{HasRoom, IfAlive, IfRefused, IsEmptied, IsOver, IsReached, IsSameLatch, IsWorking, Reaches, Went};
+ghost use Rattle.shm_tree.specs.Working.{HasRoom, IfAlive, IfRefused, IsEmptied, IsOver, IsReached, IsSameLatch, IsSpent, IsWorking, Reaches, Went};
 
 use crate::node::{Content, Side};
 use crate::stop::Stop;
@@ -203,6 +204,7 @@ pub fn make(
     ensures latch { IfAlive result (IsSameLatch pool.old pool.new) }
     ensures reaches { IfAlive result (Reaches pool.old pool.new) }
     ensures made { IfOk result (λ m. IsMade content height m pool.old pool.new) }
+    ensures unnamed { IfOk result (λ m. IsUnnamed pool.new m.block) }
     ensures still { IfRefused result (IsStill pool.old pool.new) }
     ensures steps { IfAlive result (life.old.left ≤ life.new.left + make_steps pool.old.start.geometry) }
     ensures cause { IfErr result (λ e. StopCause pool.old pool.new e) }
@@ -220,7 +222,7 @@ pub fn make(
     }
 }
 
-/// Has a node that a root names refer to a child on a side on which it has none.
+/// Has a node that a root names, and no other node, refer to a child on a side on which it has none.
 ///
 /// # Errors
 ///
@@ -237,12 +239,15 @@ pub fn refer(
     requires node { HasNode pool.old node }
     requires named { (k : ℕ) × (k < 16) × (root_word 0 (memo_of pool.old 0) k ≡ node) }
     requires empty { child_of pool.old node side ≡ 0 }
+    requires unnamed { IsUnnamed pool.old node }
     requires reached { IsReached pool.old child }
+    requires other { child ≢ node }
     ensures went { Went pool.old pool.new life.old.left life.new.left }
     ensures working { IfAlive result (IsWorking pool.new) }
     ensures latch { IfAlive result (IsSameLatch pool.old pool.new) }
     ensures reaches { IfAlive result (Reaches pool.old pool.new) }
     ensures refers { IfOk result (λ u. IsReferring node side child pool.old pool.new) }
+    ensures unnamed { IfOk result (λ u. IsUnnamed pool.new node) }
     ensures still { IfRefused result (IsStill pool.old pool.new) }
     ensures steps { IfAlive result (life.old.left ≤ life.new.left + refer_steps pool.old.start.geometry) }
     ensures cause { IfErr result (λ e. StopCause pool.old pool.new e) }
@@ -309,6 +314,7 @@ pub fn drop_root(pool: &mut PlainPool, root: u8, life: &mut Life) -> Result<(), 
     ensures reaches { IfRefused result (Reaches pool.old pool.new) }
     ensures steps { IfOk result (λ u. (n : ℕ) × HasTorn root n pool.old pool.new × (life.old.left ≤ life.new.left + drop_steps pool.old.start.geometry n)) }
     ensures refused_steps { IfRefused result (life.old.left ≤ life.new.left + drop_steps pool.old.start.geometry 0) }
+    ensures spent { IfRefused result (IsSpent (memo_of pool.new 0)) }
     ensures cause { IfErr result (λ e. StopCause pool.old pool.new e) }
     ensures died { IfErr result (λ e. IsOver e life.new.left) }
 {

@@ -1,12 +1,14 @@
 //! The closing of a forest's pool.
 
-ghost use Rattle.std.specs.Prelude.{◌≡◌, ◌++◌, ◌↔◌, false, true, List, [], None, Ok, Err, IfErr, IfOk};
+ghost use Rattle.std.specs.Prelude.{◌≡◌, ℕ, ◌++◌, ◌↔◌, false, true, List, [], None, Ok, Err, IfErr, IfOk, is_ok};
 ghost use Rattle.shm_graph.specs.declared.run.Move.{Move as AMove};
 ghost use Rattle.shm_graph.specs.Agents.{acts, last_agent};
 ghost use Rattle.shm_graph.specs.Runs.{fell_by};
 ghost use Rattle.shm_plain.specs.Closings.{IsClosedRun};
 ghost use Rattle.shm_plain.specs.Pools.{IsRun, Pool as APool, memo_of};
-ghost use Rattle.shm_tree.specs.Ending.{HasEnded, HasParted, IsRevived};
+ghost use Rattle.shm_tree.specs.Ending.{HasEnded, HasParted, IsRevived, IsYoung};
+ghost use Rattle.shm_tree.specs.Falling.{AreFalling};
+ghost use Rattle.shm_tree.specs.Keeping.{is_live};
 ghost use Rattle.shm_tree.specs.Working.{IsSpent, IsWorking};
 
 use plain_calls::die;
@@ -39,6 +41,7 @@ fn leave(pool: &mut PlainPool) -> Result<(), EraSpent>
     ensures start { pool.new.start ≡ pool.old.start }
     ensures run { IsRun pool.new }
     ensures parted { HasParted pool.old pool.new result }
+    ensures roomy { IsYoung pool.old → is_ok result ≡ true }
 {
     let mut leaving = Calls::new(Leave::new(pool.me(0)));
     pool.call(0, &mut leaving, &mut Life::of(LIFE)).unwrap()
@@ -51,6 +54,7 @@ fn recover_dead(pool: &mut PlainPool) -> Result<(), EraSpent>
     ensures start { pool.new.start ≡ pool.old.start }
     ensures run { IsRun pool.new }
     ensures revived { IsRevived pool.old pool.new result }
+    ensures roomy { IsYoung pool.old → is_ok result ≡ true }
 {
     let mut recovery = Calls::new(Recover::new(pool.me(0)));
     pool.call(0, &mut recovery, &mut Life::of(LIFE)).unwrap()
@@ -65,6 +69,7 @@ fn depart(pool: &mut PlainPool, died: bool) -> Result<(), EraSpent>
     ensures start { pool.new.start ≡ pool.old.start }
     ensures run { IsRun pool.new }
     ensures ended { HasEnded died pool.old pool.new result }
+    ensures roomy { IsYoung pool.old → is_ok result ≡ true }
 {
     if died || is_spent(pool) {
         die(pool, 0);
@@ -88,8 +93,12 @@ pub fn finish(mut pool: PlainPool, died: bool) -> Result<PlainClosed, EraSpent>
     ensures closed { IfOk result IsClosedRun }
     ensures ended { IfOk result (λ q. HasEnded died pool q (Ok tt)) }
     ensures turns { IfOk result (λ q. (ms : List AMove) × (q.turns ≡ pool.turns ++ ms)) }
+    ensures empty { IfOk result (λ q. AreFalling pool → (b : ℕ) → is_live q b ≡ false) }
     ensures spent { IfErr result (λ e. (q : APool) × HasEnded died pool q (Err e)) }
+    ensures roomy { IsYoung pool → is_ok result ≡ true }
 {
+    // for the proof: the pool is a run
+    pool.geometry();
     depart(&mut pool, died)?;
     Ok(pool.close())
 }

@@ -1,16 +1,18 @@
 //! Versions of an ordered map in one pool.
 
-ghost use Rattle.std.specs.Prelude.{◌≡◌, ◌≤◌, ◌++◌, true, false, replicate, List, Ok, Err, IfErr, IfOk};
-ghost use Rattle.shm_graph.specs.declared.run.Move.{Move as AMove};
-ghost use Rattle.shm_plain.specs.Closings.{IsClosedRun};
-ghost use Rattle.shm_plain.specs.Pools.{Pool as APool};
+ghost use Rattle.std.specs.Prelude.{◌≡◌, ◌<◌, ◌≤◌, ◌^◌, true, false, List, Err, IfErr, IfOk, is_ok};
+ghost use Rattle.shm_graph.specs.Agents.{steps_made};
+ghost use Rattle.shm_graph.specs.References.{live_count};
+ghost use Rattle.shm_graph.specs.Spots.{see};
+ghost use Rattle.shm_plain.specs.Pools.{Pool as APool, memo_of};
 ghost use Rattle.shm_tree.specs.Ending.{HasEnded};
 ghost use Rattle.shm_tree.specs.declared.line.TreeTurn.TheVariants as turns;
-ghost use Rattle.shm_tree.specs.Forests.{DoesTurn, HasVersions, IsCaused, IsInRange, is_died, turn_by};
-ghost use Rattle.shm_tree.specs.Trees.{Empty};
-ghost use Rattle.shm_tree.specs.Working.{Went};
+ghost use Rattle.shm_tree.specs.ForestCalls.{IsClosedForest, IsFirstForest, RanLine};
+ghost use Rattle.shm_tree.specs.Forests.{HasVersions, IsInRange, is_died, turn_by, version};
+ghost use Rattle.shm_tree.specs.Trees.{Tree as ATree, size};
 
 use crate::closing::finish;
+use crate::counting::{block_in, live_blocks, size_of};
 use crate::line::{TreeAnswer, TreeLine, TreeTurn};
 use crate::registers::{NONE, Registers};
 use crate::stop::Stop;
@@ -61,9 +63,7 @@ impl Forest {
     /// A pool of one client and this many segments, with twelve empty registers.
     pub fn make(alloc: Global, segments: u16) -> Result<Forest, AllocError>
         requires segments { (1 ≤ segments) × (segments ≤ 256) }
-        ensures alive { IfOk result (λ f. f.died ≡ false) }
-        ensures empty { IfOk result (λ f. HasVersions f.registers (replicate 12 Empty)) }
-        ensures segments { IfOk result (λ f. f.registers.pool.start.geometry.segments ≡ segments) }
+        ensures { IfOk result (IsFirstForest segments) }
     {
         let Ok(geometry) = Geometry::new(1, segments) else {
             unreachable!()
@@ -85,10 +85,7 @@ impl Forest {
     /// Runs a line, on registers below 12. Once a line was answered by Died each is, and nothing is done.
     pub fn run(&mut self, line: &TreeLine, life: &mut Life) -> TreeTurn
         requires line { IsInRange line.now }
-        ensures went { self.old.died ≡ false → Went self.old.registers.pool self.new.registers.pool life.old.left life.new.left }
-        ensures does { self.old.died ≡ false → DoesTurn line.now self.old.registers self.new.registers result }
-        ensures cause { self.old.died ≡ false → IsCaused self.old.registers.pool self.new.registers.pool result }
-        ensures over { self.old.died ≡ false → result ≡ turns.Died → life.new.left ≡ 0 }
+        ensures ran { self.old.died ≡ false → RanLine line.now self.old self.new life.old.left life.new.left result }
         ensures died { self.new.died ≡ is_died result }
         ensures stays { self.old.died ≡ true → (result ≡ turns.Died) × (self.new ≡ self.old) × (life.new.left ≡ life.old.left) }
     {
@@ -100,17 +97,33 @@ impl Forest {
         turn
     }
 
+    /// How many keys the version of a register below 12 has. No run was answered by Died.
+    pub fn size(&self, at: u8) -> u32
+        requires alive { self.now.died ≡ false }
+        requires at { at < 12 }
+        ensures { (ts : List ATree) → HasVersions self.now.registers ts → result ≡ size (version ts at) }
+    {
+        let pool = &self.registers.pool;
+        let root = self.registers.roots[at as usize];
+        size_of(pool, block_in(pool, root))
+    }
+
+    /// How many blocks of the pool are live.
+    pub fn nodes(&self) -> u32
+        ensures { result ≡ live_count self.now.registers.pool.start.geometry (see self.now.registers.pool.start.geometry self.now.registers.pool.words) }
+    {
+        live_blocks(&self.registers.pool)
+    }
+
     /// Recovers the client where it died or its own era is spent, otherwise has it leave, and closes the pool.
     ///
     /// # Errors
     ///
     /// `EraSpent` where the recovery or the leaving was refused so: the own era leaves no room for a count step. The forest is given up then.
     pub fn close(self) -> Result<PlainClosed, EraSpent>
-        ensures start { IfOk result (λ q. q.start ≡ self.registers.pool.start) }
-        ensures closed { IfOk result IsClosedRun }
-        ensures turns { IfOk result (λ q. (ms : List AMove) × (q.turns ≡ self.registers.pool.turns ++ ms)) }
-        ensures ended { IfOk result (λ q. HasEnded self.died self.registers.pool q (Ok tt)) }
+        ensures closed { IfOk result (IsClosedForest self) }
         ensures spent { IfErr result (λ e. (q : APool) × HasEnded self.died self.registers.pool q (Err e)) }
+        ensures roomy { steps_made (memo_of self.registers.pool 0) ≤ 2 ^ 46 → is_ok result ≡ true }
     {
         finish(self.registers.pool, self.died)
     }

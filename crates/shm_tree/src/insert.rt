@@ -1,18 +1,16 @@
 //! A tree with a number at a key.
 
 ghost use Rattle.std.specs.Prelude.{◌≡◌, ◌≢◌, ℕ, ◌+◌, ◌≤◌, Some, IfErr, IfOk};
-ghost use Rattle.shm_graph.specs.declared.spot.Spot.TheVariants.{Home};
 ghost use Rattle.shm_graph.specs.Bounds.{tear_steps};
 ghost use Rattle.shm_plain.specs.Pools.{memo_of};
 ghost use Rattle.shm_tree.specs.Bounds.{insert_steps, lowest_steps, with_child_steps};
-ghost use Rattle.shm_tree.specs.Building.{Builds, IsAtHand, IsBuilt, IsHeld, IsRebuilt, rooms};
+ghost use Rattle.shm_tree.specs.Building.{Builds, IsAtHand, IsBuilt, IsHeld, IsRebuilt, KeepsBlocks, rooms};
 ghost use Rattle.shm_tree.specs.declared.stop.Stop.TheVariants as stop;
 ghost use Rattle.shm_tree.specs.Inserting.{IsCheapAt, IsOverAt, IsRegistered, StandsLowest, StandsRenewed, WeighsLowest, WeighsRenewed, left_of, outside, right_of};
 ghost use Rattle.shm_tree.specs.Keeping.{IsStill};
 ghost use Rattle.shm_tree.specs.Living.{AreFewNew, AreLivesTrees, KeepsLives};
-ghost use Rattle.shm_tree.specs.Sharing.{IsSharing, IsSharingOver, KeepsBlocks, weight};
-ghost use Rattle.shm_tree.specs.Spending.{HasSpent};
-ghost use Rattle.shm_tree.specs.Standing.{Stands, word_of};
+ghost use Rattle.shm_tree.specs.Sharing.{IsSharing, IsSharingOver};
+ghost use Rattle.shm_tree.specs.Standing.{Stands, weight};
 ghost use Rattle.shm_tree.specs.Trees.{Tree as ATree, height, inserted};
 ghost use Rattle.shm_tree.specs.Working.{IfAlive, IsReached, IsSameLatch, IsSpent, IsWorking, Reaches, Went};
 
@@ -55,9 +53,8 @@ fn lowest(pool: &mut PlainPool, node: u32, content: Content, life: &mut Life) ->
     requires latch { (memo_of pool.old 0).latch ≡ Some 0 }
     requires room { 1 ≤ rooms pool.old }
     requires node { IsAtHand pool.old node }
-    ensures builds { Builds 1 result pool.old pool.new life.old.left life.new.left }
+    ensures builds { Builds 1 (lowest_steps pool.old.start.geometry) result pool.old pool.new life.old.left life.new.left }
     ensures built { IfOk result (λ m. IsBuilt 1 m pool.old pool.new) }
-    ensures spent { IfOk result (λ m. HasSpent (lowest_steps pool.old.start.geometry) pool.old pool.new life.old.left life.new.left) }
     ensures stands { IfOk result (λ m. StandsLowest content.key content.number node m.block pool.old pool.new) }
     ensures sharing { IfOk result (λ m. IsSharing m pool.old pool.new) }
     ensures rests { IfOk result (λ m. KeepsLives pool.old pool.new) }
@@ -81,9 +78,8 @@ fn with_child(
     requires node { IsAtHand pool.old node }
     requires some { node ≢ 0 }
     requires below { IsHeld pool.old below }
-    ensures builds { Builds 3 result pool.old pool.new life.old.left life.new.left }
+    ensures builds { Builds 3 (with_child_steps pool.old.start.geometry) result pool.old pool.new life.old.left life.new.left }
     ensures rebuilt { IfOk result (λ m. IsRebuilt 3 (Some below) m pool.old pool.new) }
-    ensures spent { IfOk result (λ m. HasSpent (with_child_steps pool.old.start.geometry) pool.old pool.new life.old.left life.new.left) }
     ensures stands { IfOk result (λ m. StandsRenewed wanted node below.block m.block pool.old pool.new) }
     ensures cheap { IfAlive result (IsCheapAt wanted node below.block pool.old pool.new) }
     ensures sharing { IfOk result (λ m. IsSharingOver (Some below) m pool.old pool.new) }
@@ -118,15 +114,14 @@ pub fn insert(
     requires latch { (memo_of pool.old 0).latch ≡ Some 0 }
     requires room { 4 ≤ rooms pool.old }
     requires tree { IsRegistered pool.old tree }
-    ensures builds { (t : ATree) → Stands pool.old tree t → Builds (height t + 3) result pool.old pool.new life.old.left life.new.left }
+    ensures builds { (t : ATree) → Stands pool.old tree t → Builds (height t + 3) (insert_steps (height t) pool.old.start.geometry) result pool.old pool.new life.old.left life.new.left }
     ensures built { IfOk result (λ m. (t : ATree) → Stands pool.old tree t → IsBuilt (height t + 3) m pool.old pool.new) }
-    ensures spent { IfOk result (λ m. (t : ATree) → Stands pool.old tree t → HasSpent (insert_steps (height t) pool.old.start.geometry) pool.old pool.new life.old.left life.new.left) }
-    ensures steps { IfOk result (λ m. (t : ATree) → Stands pool.old tree t → (IsSpent (memo_of pool.new 0) → ⊥) → word_of pool.old (Home 0) ≡ 0 → AreLivesTrees pool.old → life.old.left ≤ life.new.left + insert_steps (height t) pool.old.start.geometry + tear_steps pool.old.start.geometry.wide (height t + 3)) }
+    ensures steps { IfOk result (λ m. (t : ATree) → Stands pool.old tree t → (IsSpent (memo_of pool.new 0) → ⊥) → AreLivesTrees pool.old → life.old.left ≤ life.new.left + insert_steps (height t) pool.old.start.geometry + tear_steps pool.old.start.geometry.wide (height t + 3)) }
     ensures stands { IfOk result (λ m. (t : ATree) → Stands pool.old tree t → Stands pool.new m.block (inserted wanted number t)) }
     ensures blocks { IfOk result (λ m. KeepsBlocks pool.old pool.new) }
     ensures rests { IfOk result (λ m. KeepsLives pool.old pool.new) }
     ensures shares { IfOk result (λ m. (t : ATree) → Stands pool.old tree t → weight (outside pool.old tree t) pool.new m.block (inserted wanted number t) ≤ height t + 1) }
-    ensures lives { IfOk result (λ m. (t : ATree) → Stands pool.old tree t → (IsSpent (memo_of pool.new 0) → ⊥) → word_of pool.new (Home 0) ≡ 0 → AreLivesTrees pool.old → AreFewNew (height t + 1) pool.old pool.new) }
+    ensures lives { IfOk result (λ m. (t : ATree) → Stands pool.old tree t → (IsSpent (memo_of pool.new 0) → ⊥) → AreLivesTrees pool.old → AreFewNew (height t + 1) pool.old pool.new) }
 {
     let place = find(pool, tree, wanted, life)?;
     let content = Content {

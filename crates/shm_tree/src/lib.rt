@@ -7,6 +7,7 @@
 mod balance;
 mod calls;
 mod closing;
+mod counting;
 mod find;
 mod forest;
 mod insert;

@@ -1,15 +1,17 @@
 //! Twelve registers over the calls of the one client of a pool.
 
-ghost use Rattle.std.specs.Prelude.{◌≡◌, ◌≢◌, ◌<◌, ◌≤◌, ◌⊎◌, ℕ, List, true, false, Ok, None, Some, length, slice_set, IfErr, IfOk};
+ghost use Rattle.std.specs.Prelude.{◌≡◌, ◌≢◌, ◌+◌, ◌*◌, ◌<◌, ◌≤◌, ◌⊎◌, ℕ, List, true, false, Ok, None, Some, length, slice_set, IfErr, IfOk};
 ghost use Rattle.std.specs.Option.{is_some};
 ghost use Rattle.shm_plain.specs.Pools.{memo_of};
 ghost use Rattle.shm_tree.specs.declared.stop.Stop.TheVariants as stop;
+ghost use Rattle.shm_tree.specs.Bounds.{drop_steps};
 ghost use Rattle.shm_tree.specs.Building.{named_by, rooms};
-ghost use Rattle.shm_tree.specs.Forests.{Calls, DoesLine, HasVersions, IsForest, IsFree, IsInRange, IsLeft, IsOwn, IsPruned, IsPut, IsReading, IsSpare, IsTidy, KeepsNamed, KeepsOthers, KeepsRoots, KeepsVersions, Moves, Stopped, block_in, version};
+ghost use Rattle.shm_tree.specs.Costing.{Costs, CostsLine, EndsLine, FewSet, MakesFew, Spends, StopsLine, copied_steps, copy_steps, del_steps, planted_steps, pruned_steps, read_steps, set_steps, sweep_steps};
+ghost use Rattle.shm_tree.specs.Forests.{Calls, DoesLine, HasVersions, IsForest, IsFree, IsInRange, IsLeft, IsOwn, IsPruned, IsPut, IsReading, IsSpare, IsSwept, IsTidy, KeepsNamed, KeepsOthers, KeepsRegisters, KeepsRoots, Moves, Stopped, block_in, version};
 ghost use Rattle.shm_tree.specs.Keeping.{IsStill};
 ghost use Rattle.shm_tree.specs.Standing.{IsTree, Stands};
-ghost use Rattle.shm_tree.specs.Trees.{Empty, Tree as ATree, found, inserted, removed};
-ghost use Rattle.shm_tree.specs.Working.{IfAlive, IfRefused, IsOver, IsReached, IsRooted, IsSameLatch, IsWorking, Reaches, Went};
+ghost use Rattle.shm_tree.specs.Trees.{Empty, Tree as ATree, found, height, inserted, removed};
+ghost use Rattle.shm_tree.specs.Working.{IfAlive, IfRefused, IsOver, IsReached, IsRooted, IsSameLatch, IsSpent, IsWorking, Reaches, Went};
 
 use crate::calls::{drop_root, hold, release, root_of, share};
 use crate::find::number_at;
@@ -45,6 +47,7 @@ fn tree_in(pool: &mut PlainPool, root: u8, life: &mut Life) -> Result<u32, Stop>
     ensures still { IfOk result (λ b. IsStill pool.old pool.new) }
     ensures reaches { IfOk result (λ b. Reaches pool.old pool.new) }
     ensures reached { IfOk result (λ b. IsReached pool.new b) }
+    ensures steps { IfOk result (λ b. life.old.left ≤ life.new.left + 1) }
     ensures died { IfErr result (λ e. (e ≡ stop.Died) × (life.new.left ≡ 0)) }
 {
     if root == NONE {
@@ -65,6 +68,7 @@ fn read(pool: &mut PlainPool, root: u8, key: u32, life: &mut Life) -> Result<Opt
     ensures latch { IfOk result (λ o. IsSameLatch pool.old pool.new) }
     ensures still { IfOk result (λ o. IsStill pool.old pool.new) }
     ensures is { IfOk result (λ o. (t : ATree) → Stands pool.old (block_in pool.old root) t → o ≡ found key t) }
+    ensures costs { IfOk result (λ o. (t : ATree) → Stands pool.old (block_in pool.old root) t → Costs 0 (read_steps (height t)) pool.old pool.new life.old.left life.new.left) }
     ensures died { IfErr result (λ e. (e ≡ stop.Died) × (life.new.left ≡ 0)) }
 {
     hold(pool, life)?;
@@ -91,6 +95,9 @@ fn planted(
     ensures rooted { IfOk result (λ m. IsRooted m.root m.block pool.old pool.new) }
     ensures some { IfOk result (λ m. m.block ≢ 0) }
     ensures is { IfOk result (λ m. (t : ATree) → IsTree pool.old (block_in pool.old root) t → IsTree pool.new m.block (inserted key number t)) }
+    ensures costs { IfOk result (λ m. (t : ATree) → IsTree pool.old (block_in pool.old root) t → Costs (height t + 3) (planted_steps (height t) pool.old.start.geometry) pool.old pool.new life.old.left life.new.left) }
+    ensures refused { IfRefused result ((t : ATree) → IsTree pool.old (block_in pool.old root) t → Spends (height t + 3) (planted_steps (height t) pool.old.start.geometry) pool.old pool.new life.old.left life.new.left) }
+    ensures few { IfOk result (λ m. (t : ATree) → IsTree pool.old (block_in pool.old root) t → MakesFew (height t + 1) pool.old pool.new) }
 {
     hold(pool, life)?;
     let tree = tree_in(pool, root, life)?;
@@ -119,6 +126,8 @@ fn copied(pool: &mut PlainPool, root: u8, life: &mut Life) -> Result<Made, Stop>
     ensures rooted { IfOk result (λ m. IsRooted m.root m.block pool.old pool.new) }
     ensures some { IfOk result (λ m. m.block ≢ 0) }
     ensures is { IfOk result (λ m. (t : ATree) → Stands pool.old (named_by pool.old root) t → Stands pool.new m.block t) }
+    ensures costs { IfOk result (λ m. Costs 0 (copied_steps pool.old.start.geometry) pool.old pool.new life.old.left life.new.left) }
+    ensures refused { IfRefused result (Spends 0 (copied_steps pool.old.start.geometry) pool.old pool.new life.old.left life.new.left) }
 {
     let tree = root_of(pool, root, life)?;
     share(pool, tree, life)
@@ -138,6 +147,8 @@ fn pruned(
     requires tree { (t : ATree) × IsTree pool.old (block_in pool.old root) t }
     ensures calls { Calls KeepsNamed result pool.old pool.new life.old.left life.new.left }
     ensures pruned { IfOk result (λ o. IsPruned key root o pool.old pool.new) }
+    ensures costs { IfOk result (λ o. (t : ATree) → IsTree pool.old (block_in pool.old root) t → Costs (3 * height t) (pruned_steps (height t) pool.old.start.geometry) pool.old pool.new life.old.left life.new.left) }
+    ensures refused { IfRefused result ((t : ATree) → IsTree pool.old (block_in pool.old root) t → Spends (3 * height t) (pruned_steps (height t) pool.old.start.geometry) pool.old pool.new life.old.left life.new.left) }
 {
     hold(pool, life)?;
     let tree = tree_in(pool, root, life)?;
@@ -164,6 +175,9 @@ fn drop_other(pool: &mut PlainPool, roots: [u8; 12], root: u8, life: &mut Life) 
     ensures calls { Calls (KeepsRoots roots) result pool.old pool.new life.old.left life.new.left }
     ensures others { IfOk result (λ u. (k : ℕ) → k ≢ root → named_by pool.new k ≡ named_by pool.old k) }
     ensures empty { IfOk result (λ u. IsFree roots root → named_by pool.new root ≡ 0) }
+    ensures costs { IfOk result (λ u. Costs 0 (drop_steps pool.old.start.geometry 0) pool.old pool.new life.old.left life.new.left) }
+    ensures refused { IfRefused result (Spends 0 (drop_steps pool.old.start.geometry 0) pool.old pool.new life.old.left life.new.left) }
+    ensures spent { IfRefused result (IsSpent (memo_of pool.new 0)) }
 {
     if roots.contains(&root) {
         Ok(())
@@ -182,6 +196,9 @@ fn swept(pool: &mut PlainPool, roots: [u8; 12], life: &mut Life) -> Result<(), S
     requires long { length roots ≡ 12 }
     ensures calls { Calls (KeepsRoots roots) result pool.old pool.new life.old.left life.new.left }
     ensures empty { IfOk result (λ u. (k : ℕ) → k < 16 → IsFree roots k → named_by pool.new k ≡ 0) }
+    ensures costs { IfOk result (λ u. Costs 0 (sweep_steps pool.old.start.geometry) pool.old pool.new life.old.left life.new.left) }
+    ensures refused { IfRefused result (Spends 0 (sweep_steps pool.old.start.geometry) pool.old pool.new life.old.left life.new.left) }
+    ensures spent { IfRefused result (IsSpent (memo_of pool.new 0)) }
 {
     for root in 0..16u8 {
         drop_other(pool, roots, root, life)?;
@@ -201,6 +218,8 @@ fn emptied(pool: &mut PlainPool, root: u8, life: &mut Life) -> Result<(), Stop>
     ensures others { IfOk result (λ u. (k : ℕ) → k ≢ root → named_by pool.new k ≡ named_by pool.old k) }
     ensures empty { IfOk result (λ u. root < 16 → named_by pool.new root ≡ 0) }
     ensures still { IfRefused result (IsStill pool.old pool.new) }
+    ensures costs { IfOk result (λ u. Costs 0 (drop_steps pool.old.start.geometry 0) pool.old pool.new life.old.left life.new.left) }
+    ensures refused { IfRefused result (Spends 0 (drop_steps pool.old.start.geometry 0) pool.old pool.new life.old.left life.new.left) }
 {
     if root == NONE {
         Ok(())
@@ -218,9 +237,13 @@ impl Registers {
     pub fn sweep(&mut self, life: &mut Life) -> Result<(), Stop>
         requires forest { IsForest self.old }
         ensures moves { Moves result self.old self.new life.old.left life.new.left }
-        ensures same { IfOk result (λ u. KeepsVersions self.old self.new) }
+        ensures same { IfOk result (λ u. KeepsRegisters self.old self.new) }
         ensures roots { self.new.roots ≡ self.old.roots }
         ensures tidy { IfOk result (λ u. IsTidy self.new) }
+        ensures costs { IfOk result (λ u. Costs 0 (sweep_steps self.old.pool.start.geometry) self.old.pool self.new.pool life.old.left life.new.left) }
+        ensures told { IfOk result (λ u. self.new.tidy ≡ true) }
+        ensures refused { IfRefused result (Spends 0 (sweep_steps self.old.pool.start.geometry) self.old.pool self.new.pool life.old.left life.new.left) }
+        ensures spent { IfRefused result (IsSpent (memo_of self.new.pool 0)) }
     {
         if self.tidy {
             return Ok(());
@@ -242,7 +265,10 @@ impl Registers {
         requires tree { (t : ATree) × IsTree self.old.pool (block_in self.old.pool root) t }
         ensures moves { Moves result self.old self.new life.old.left life.new.left }
         ensures put { IfOk result (λ u. IsPut at root self.old self.new) }
+        ensures costs { IfOk result (λ u. Costs 0 (drop_steps self.old.pool.start.geometry 0) self.old.pool self.new.pool life.old.left life.new.left) }
         ensures left { IfOk result (λ u. (k : ℕ) → k < 16 → IsFree self.new.roots k → (k ≢ root) × IsLeft self.old self.new k) }
+        ensures told { self.new.tidy ≡ self.old.tidy }
+        ensures refused { IfRefused result (Spends 0 (drop_steps self.old.pool.start.geometry 0) self.old.pool self.new.pool life.old.left life.new.left) }
     {
         let old = self.roots[at as usize];
         emptied(&mut self.pool, old, life)?;
@@ -263,6 +289,9 @@ impl Registers {
         requires alone { (k : ℕ) → k < 16 → k ≢ root → IsFree self.old.roots k → named_by self.old.pool k ≡ 0 }
         ensures moves { Moves result self.old self.new life.old.left life.new.left }
         ensures put { IfOk result (λ u. IsPut at root self.old self.new) }
+        ensures costs { IfOk result (λ u. Costs 0 (drop_steps self.old.pool.start.geometry 0) self.old.pool self.new.pool life.old.left life.new.left) }
+        ensures told { IfOk result (λ u. self.new.tidy ≡ true) }
+        ensures refused { IfRefused result (Spends 0 (drop_steps self.old.pool.start.geometry 0) self.old.pool self.new.pool life.old.left life.new.left) }
     {
         self.replace(at, root, life)?;
         self.tidy = true;
@@ -276,6 +305,8 @@ impl Registers {
         ensures moves { Moves result self.old self.new life.old.left life.new.left }
         ensures died { IfErr result (λ e. e ≡ stop.Died) }
         ensures is { IfOk result (λ o. (ts : List ATree) → HasVersions self.old ts → (o ≡ found key (version ts at)) × HasVersions self.new ts) }
+        ensures costs { IfOk result (λ o. (ts : List ATree) → HasVersions self.old ts → Costs 0 (read_steps (height (version ts at))) self.old.pool self.new.pool life.old.left life.new.left) }
+        ensures told { self.new.tidy ≡ self.old.tidy }
     {
         read(&mut self.pool, self.roots[at as usize], key, life)
     }
@@ -294,6 +325,10 @@ impl Registers {
         requires from { from < 12 }
         ensures moves { Moves result self.old self.new life.old.left life.new.left }
         ensures done { IfOk result (λ u. (ts : List ATree) → HasVersions self.old ts → HasVersions self.new (slice_set ts to (inserted key number (version ts from)))) }
+        ensures costs { IfOk result (λ u. (ts : List ATree) → HasVersions self.old ts → Costs (height (version ts from) + 3) (set_steps (height (version ts from)) self.old.pool.start.geometry) self.old.pool self.new.pool life.old.left life.new.left) }
+        ensures few { IfOk result (λ u. (ts : List ATree) → HasVersions self.old ts → MakesFew (height (version ts from) + 1) self.old.pool self.new.pool) }
+        ensures told { IfOk result (λ u. self.new.tidy ≡ true) }
+        ensures refused { IfRefused result ((ts : List ATree) → HasVersions self.old ts → Spends (height (version ts from) + 3) (set_steps (height (version ts from)) self.old.pool.start.geometry) self.old.pool self.new.pool life.old.left life.new.left) }
     {
         self.sweep(life)?;
         self.tidy = false;
@@ -308,6 +343,9 @@ impl Registers {
         requires from { from < 12 }
         ensures moves { Moves result self.old self.new life.old.left life.new.left }
         ensures done { IfOk result (λ u. (ts : List ATree) → HasVersions self.old ts → HasVersions self.new (slice_set ts to (version ts from))) }
+        ensures costs { IfOk result (λ u. Costs 0 (copy_steps self.old.pool.start.geometry) self.old.pool self.new.pool life.old.left life.new.left) }
+        ensures told { IfOk result (λ u. self.new.tidy ≡ true) }
+        ensures refused { IfRefused result (Spends 0 (copy_steps self.old.pool.start.geometry) self.old.pool self.new.pool life.old.left life.new.left) }
     {
         self.sweep(life)?;
         let root = self.roots[from as usize];
@@ -325,6 +363,9 @@ impl Registers {
         requires at { at < 12 }
         ensures moves { Moves result self.old self.new life.old.left life.new.left }
         ensures done { IfOk result (λ u. (ts : List ATree) → HasVersions self.old ts → HasVersions self.new (slice_set ts at Empty)) }
+        ensures costs { IfOk result (λ u. Costs 0 (drop_steps self.old.pool.start.geometry 0) self.old.pool self.new.pool life.old.left life.new.left) }
+        ensures told { self.new.tidy ≡ self.old.tidy }
+        ensures refused { IfRefused result (Spends 0 (drop_steps self.old.pool.start.geometry 0) self.old.pool self.new.pool life.old.left life.new.left) }
     {
         self.replace(at, NONE, life)
     }
@@ -337,6 +378,9 @@ impl Registers {
         ensures moves { Moves result self.old self.new life.old.left life.new.left }
         ensures missing { result ≡ Ok false → (ts : List ATree) → HasVersions self.old ts → (found key (version ts from) ≡ None) × HasVersions self.new ts }
         ensures done { result ≡ Ok true → (ts : List ATree) → HasVersions self.old ts → (is_some (found key (version ts from)) ≡ true) × HasVersions self.new (slice_set ts to (removed key (version ts from))) }
+        ensures costs { IfOk result (λ b. (ts : List ATree) → HasVersions self.old ts → Costs (3 * height (version ts from)) (del_steps (height (version ts from)) self.old.pool.start.geometry) self.old.pool self.new.pool life.old.left life.new.left) }
+        ensures told { IfOk result (λ b. self.new.tidy ≡ true) }
+        ensures refused { IfRefused result ((ts : List ATree) → HasVersions self.old ts → Spends (3 * height (version ts from)) (del_steps (height (version ts from)) self.old.pool.start.geometry) self.old.pool self.new.pool life.old.left life.new.left) }
     {
         self.sweep(life)?;
         self.tidy = false;
@@ -363,8 +407,12 @@ impl Registers {
         requires line { IsInRange line.now }
         ensures moves { Moves result self.old self.new life.old.left life.new.left }
         ensures does { IfOk result (λ a. DoesLine line.now self.old self.new a) }
+        ensures costs { IfOk result (λ a. CostsLine line.now self.old self.new life.old.left life.new.left) }
+        ensures few { IfOk result (λ a. FewSet line.now self.old self.new) }
         ensures reading { IfErr result (λ e. IsReading line.now → e ≡ stop.Died) }
         ensures own { IfOk result (λ a. IsOwn a) }
+        ensures told { IfOk result (λ a. self.old.tidy ≡ true → self.new.tidy ≡ true) }
+        ensures refused { IfRefused result (StopsLine line.now self.old self.new life.old.left life.new.left) }
     {
         match *line {
             TreeLine::Set {
@@ -407,9 +455,11 @@ impl Registers {
         requires forest { IsForest self.old }
         requires alive { why ≢ stop.Died }
         ensures went { Went self.old.pool self.new.pool life.old.left life.new.left }
-        ensures kept { result ≢ stop.Died → IsForest self.new × KeepsVersions self.old self.new }
+        ensures kept { result ≢ stop.Died → IsForest self.new × KeepsRegisters self.old self.new }
         ensures why { (result ≡ why) ⊎ Stopped self.old.pool self.new.pool result }
         ensures died { IsOver result life.new.left }
+        ensures spends { result ≢ stop.Died → Spends 0 (sweep_steps self.old.pool.start.geometry) self.old.pool self.new.pool life.old.left life.new.left }
+        ensures swept { result ≢ stop.Died → IsSwept self.new }
     {
         match self.sweep(life) {
             Ok(()) => why,
@@ -423,8 +473,12 @@ impl Registers {
         requires line { IsInRange line.now }
         ensures moves { Moves result self.old self.new life.old.left life.new.left }
         ensures does { IfOk result (λ a. DoesLine line.now self.old self.new a) }
+        ensures costs { IfOk result (λ a. CostsLine line.now self.old self.new life.old.left life.new.left) }
+        ensures few { IfOk result (λ a. FewSet line.now self.old self.new) }
         ensures reading { IfErr result (λ e. IsReading line.now → e ≡ stop.Died) }
         ensures own { IfOk result (λ a. IsOwn a) }
+        ensures swept { IfAlive result (IsSwept self.old → IsSwept self.new) }
+        ensures refused { IfRefused result (EndsLine line.now self.old self.new life.old.left life.new.left) }
     {
         match self.answer(line, life) {
             Ok(answer) => Ok(answer),

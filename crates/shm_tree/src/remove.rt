@@ -2,19 +2,17 @@
 
 ghost use Rattle.std.specs.Prelude.{◌≡◌, ◌≢◌, ◌+◌, ◌*◌, ◌≤◌, ◌==◌, None, Some, IfErr, IfOk, IfSome, if◌then◌else◌};
 ghost use Rattle.shm_graph.specs.Bounds.{tear_steps};
-ghost use Rattle.shm_graph.specs.declared.spot.Spot.TheVariants.{Home};
 ghost use Rattle.shm_plain.specs.Pools.{memo_of};
 ghost use Rattle.shm_tree.specs.Bounds.{remnant_steps, remove_steps, share_steps, with_child_steps};
 ghost use Rattle.shm_tree.specs.declared.node.Side.TheVariants.{Left, Right};
 ghost use Rattle.shm_tree.specs.declared.stop.Stop.TheVariants as stop;
-ghost use Rattle.shm_tree.specs.Building.{Builds, IsAtHand, IsHeld, IsRebuilt, block_of, rooms};
+ghost use Rattle.shm_tree.specs.Building.{Builds, IsAtHand, IsHeld, IsRebuilt, KeepsBlocks, block_of, rooms};
 ghost use Rattle.shm_tree.specs.Inserting.{IsRegistered};
 ghost use Rattle.shm_tree.specs.Keeping.{IsStill, child_of};
 ghost use Rattle.shm_tree.specs.Living.{AreFewNew, AreLivesTrees, KeepsLives};
 ghost use Rattle.shm_tree.specs.Removing.{IsKept, IsRemoved, StandsAgain, StandsMoved, content_in, content_or};
-ghost use Rattle.shm_tree.specs.Sharing.{IsSharingOver, KeepsBlocks};
-ghost use Rattle.shm_tree.specs.Spending.{HasSpent};
-ghost use Rattle.shm_tree.specs.Standing.{Stands, word_of};
+ghost use Rattle.shm_tree.specs.Sharing.{IsSharingOver};
+ghost use Rattle.shm_tree.specs.Standing.{Stands};
 ghost use Rattle.shm_tree.specs.Trees.{Tree as ATree, height};
 ghost use Rattle.shm_tree.specs.Working.{IsSameLatch, IsSpent, IsWorking, Reaches, Went};
 
@@ -39,12 +37,11 @@ fn shared(pool: &mut PlainPool, tree: u32, life: &mut Life) -> Result<Option<Mad
     requires working { IsWorking pool.old }
     requires room { 1 ≤ rooms pool.old }
     requires tree { IsAtHand pool.old tree }
-    ensures builds { Builds 0 result pool.old pool.new life.old.left life.new.left }
+    ensures builds { Builds 0 (share_steps pool.old.start.geometry) result pool.old pool.new life.old.left life.new.left }
     ensures kept { IfOk result (λ o. IsKept 0 o pool.old pool.new) }
     ensures stands { IfOk result (λ o. StandsMoved tree (block_of o) pool.old pool.new) }
     ensures blocks { IfOk result (λ o. KeepsBlocks pool.old pool.new) }
     ensures rests { IfOk result (λ o. KeepsLives pool.old pool.new) }
-    ensures steps { IfOk result (λ o. life.old.left ≤ life.new.left + share_steps pool.old.start.geometry) }
 {
     if tree == 0 {
         return Ok(None);
@@ -65,12 +62,11 @@ fn remnant(
     requires room { 1 ≤ rooms pool.old }
     requires node { IsAtHand pool.old node }
     requires some { node ≢ 0 }
-    ensures builds { Builds 0 result pool.old pool.new life.old.left life.new.left }
+    ensures builds { Builds 0 (remnant_steps pool.old.start.geometry) result pool.old pool.new life.old.left life.new.left }
     ensures kept { IfOk result (λ o. IsKept 0 o pool.old pool.new) }
     ensures stands { IfOk result (λ o. StandsMoved (child_of pool.old node side) (block_of o) pool.old pool.new) }
     ensures blocks { IfOk result (λ o. KeepsBlocks pool.old pool.new) }
     ensures rests { IfOk result (λ o. KeepsLives pool.old pool.new) }
-    ensures steps { IfOk result (λ o. life.old.left ≤ life.new.left + remnant_steps pool.old.start.geometry) }
 {
     let tree = child(pool, node, side, life)?;
     shared(pool, tree, life)
@@ -147,9 +143,8 @@ fn raise(
     requires node { IsAtHand pool.old node }
     requires some { node ≢ 0 }
     requires below { IfSome below (IsHeld pool.old) }
-    ensures builds { Builds 3 result pool.old pool.new life.old.left life.new.left }
+    ensures builds { Builds 3 (with_child_steps pool.old.start.geometry) result pool.old pool.new life.old.left life.new.left }
     ensures rebuilt { IfOk result (λ m. IsRebuilt 3 below m pool.old pool.new) }
-    ensures spent { IfOk result (λ m. HasSpent (with_child_steps pool.old.start.geometry) pool.old pool.new life.old.left life.new.left) }
     ensures stands { IfOk result (λ m. StandsAgain wanted told node (block_of below) m.block pool.old pool.new) }
     ensures sharing { IfOk result (λ m. IsSharingOver below m pool.old pool.new) }
     ensures rests { IfOk result (λ m. KeepsLives pool.old pool.new) }
@@ -174,11 +169,10 @@ pub fn remove(
     requires latch { (memo_of pool.old 0).latch ≡ Some 0 }
     requires room { 4 ≤ rooms pool.old }
     requires tree { IsRegistered pool.old tree }
-    ensures builds { (t : ATree) → Stands pool.old tree t → Builds (3 * height t) result pool.old pool.new life.old.left life.new.left }
+    ensures builds { (t : ATree) → Stands pool.old tree t → Builds (3 * height t) (remove_steps (height t) pool.old.start.geometry) result pool.old pool.new life.old.left life.new.left }
     ensures removed { IfOk result (λ o. (t : ATree) → Stands pool.old tree t → IsRemoved wanted t o pool.old pool.new) }
     ensures blocks { IfOk result (λ o. KeepsBlocks pool.old pool.new) }
-    ensures spent { IfOk result (λ o. (t : ATree) → Stands pool.old tree t → HasSpent (remove_steps (height t) pool.old.start.geometry) pool.old pool.new life.old.left life.new.left) }
-    ensures steps { IfOk result (λ o. (t : ATree) → Stands pool.old tree t → (IsSpent (memo_of pool.new 0) → ⊥) → word_of pool.old (Home 0) ≡ 0 → AreLivesTrees pool.old → life.old.left ≤ life.new.left + remove_steps (height t) pool.old.start.geometry + tear_steps pool.old.start.geometry.wide (3 * height t)) }
+    ensures steps { IfOk result (λ o. (t : ATree) → Stands pool.old tree t → (IsSpent (memo_of pool.new 0) → ⊥) → AreLivesTrees pool.old → life.old.left ≤ life.new.left + remove_steps (height t) pool.old.start.geometry + tear_steps pool.old.start.geometry.wide (3 * height t)) }
     ensures rests { IfOk result (λ o. KeepsLives pool.old pool.new) }
     ensures lives { IfOk result (λ o. (t : ATree) → Stands pool.old tree t → AreFewNew (3 * height t) pool.old pool.new) }
 {

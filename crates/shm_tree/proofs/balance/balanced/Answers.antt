@@ -9,8 +9,7 @@ use Rattle.shm_tree.specs.Building.{IsBuilt, IsCheap, StandsOf, from_far, joined
 use Rattle.shm_tree.specs.Keeping.{IsLinked, node_by}
 use Rattle.shm_tree.proofs.Building.{alive_any, alive_kept, alive_over, at_hand_still, builds_from, cheap_after, link_cheap, born_built, builds_after, builds_died, builds_link, built_after, built_more, linked_some, looked, looked_none, looked_then, ok_any, ok_kept, rooms_still, rooms_some}
 use Rattle.shm_tree.proofs.Rotations.{joined_far, joined_flat, joined_near, joined_stands, seen_back, tall_some}
-use Rattle.shm_tree.specs.Bounds.{balanced_steps, link_steps, rotated_steps}
-use Rattle.shm_tree.proofs.Spendings.{ok_alive, spent_call, spent_more, spent_then}
+use Rattle.shm_tree.specs.Bounds.{link_steps, rotated_steps}
 use Rattle.shm_tree.proofs.balance.balanced.Goals as goal
 
 pub height-requires : goal.height-requires
@@ -95,9 +94,8 @@ returns-then-saturating_sub-gt1 c =
     let run = c.requires.working.run in
     let read = looked_then run (looked u.went u.working u.latch u.still u.reaches) (looked v.went v.working v.latch v.still v.reaches) in
     record {
-      builds = builds_after 3 3 _ (lit≤ tt) run read c.rotated.ensures.builds;
+      builds = (let d = u.steps in let e = v.steps in builds_after 3 3 4 rotated_steps _ (lit≤ tt) (omega arith) c.requires.working read (omega (arith, d, e)) c.rotated.ensures.builds);
       built = ok_kept _ (λ m b. built_after run read.went.run read.went.start read.still b) c.rotated.ensures.built;
-      spent = (let d = u.steps in let e = v.steps in ok_kept _ (λ m b. spent_then rotated_steps c.requires.working read.went c.rotated.ensures.builds.went (spent_call 4 read.went (omega (arith, d, e))) b) c.rotated.ensures.spent);
       stands =
           ok_kept {T = Made} {P = λ m. StandsOf (from_far c.args.side c.args.middle) c.args.trees m.block c.height-2.new.pool c.rotated.new.pool} {Q = λ m. StandsOf (joined_by c.args.side c.args.middle) c.args.trees m.block p c.rotated.new.pool} _ (λ m b. joined_stands (from_far c.args.side c.args.middle) p _ _ c.args.side c.args.middle c.args.trees m.block read.still.trees
           (λ x y sx sy.
@@ -137,9 +135,8 @@ returns-then-saturating_sub-gt1-2 c =
     let run = c.requires.working.run in
     let read = looked_then run (looked u.went u.working u.latch u.still u.reaches) (looked v.went v.working v.latch v.still v.reaches) in
     record {
-      builds = builds_after 3 3 _ (lit≤ tt) run read c.rotated-then-saturating_sub-gt1-2.ensures.builds;
+      builds = (let d = u.steps in let e = v.steps in builds_after 3 3 4 rotated_steps _ (lit≤ tt) (omega arith) c.requires.working read (omega (arith, d, e)) c.rotated-then-saturating_sub-gt1-2.ensures.builds);
       built = ok_kept _ (λ m b. built_after run read.went.run read.went.start read.still b) c.rotated-then-saturating_sub-gt1-2.ensures.built;
-      spent = (let d = u.steps in let e = v.steps in ok_kept _ (λ m b. spent_then rotated_steps c.requires.working read.went c.rotated-then-saturating_sub-gt1-2.ensures.builds.went (spent_call 4 read.went (omega (arith, d, e))) b) c.rotated-then-saturating_sub-gt1-2.ensures.spent);
       stands =
           ok_kept {T = Made} {P = λ m. StandsOf (from_far c.other.result c.args.middle) (record { near = c.args.trees.far; far = c.args.trees.near }) m.block c.height-2.new.pool c.rotated-then-saturating_sub-gt1-2.new.pool} {Q = λ m. StandsOf (joined_by c.args.side c.args.middle) c.args.trees m.block p c.rotated-then-saturating_sub-gt1-2.new.pool} _ (λ m b. joined_stands (λ x y. from_far c.other.result c.args.middle y x) p _ _ s c.args.middle c.args.trees m.block read.still.trees
           (λ x y sx sy.
@@ -182,9 +179,8 @@ returns-else-saturating_sub-gt1-2 c =
     let near = at_hand_still c.args.trees.near read c.requires.near in
     let far = at_hand_still c.args.trees.far read c.requires.far in
     record {
-      builds = builds_after 1 3 _ (lit≤ tt) run read (builds_link _ _ _ l.went l.working l.latch l.grown l.cause l.died);
+      builds = (let d = u.steps in let e = v.steps in builds_after 1 3 4 link_steps _ (lit≤ tt) (omega arith) c.requires.working read (omega (arith, d, e)) (builds_link _ _ _ l.went l.working l.latch l.grown l.steps l.cause l.died));
       built = ok_kept {T = Made} {P = λ m. IsLinked c.args.middle c.args.side c.args.trees m c.height-2.new.pool c.link.new.pool} {Q = λ m. IsBuilt 3 m p c.link.new.pool} _ (λ m b. built_more 1 3 (lit≤ tt) (built_after run read.went.run read.went.start read.still (born_built (linked_some b near.0 far.0) b.born))) l.linked;
-      spent = (let d = u.steps in let e = v.steps in ok_kept _ (λ m b. spent_more _ (balanced_steps c.args.pool.now.start.geometry) (omega arith) (spent_then link_steps c.requires.working read.went l.went (spent_call 4 read.went (omega (arith, d, e))) (spent_call (link_steps c.height-2.new.pool.start.geometry) l.went b))) (ok_alive _ c.link.result l.steps));
       stands =
           ok_kept {T = Made} {P = λ m. IsLinked c.args.middle c.args.side c.args.trees m c.height-2.new.pool c.link.new.pool} {Q = λ m. StandsOf (joined_by c.args.side c.args.middle) c.args.trees m.block p c.link.new.pool} _ (λ m b. joined_stands (node_by s c.args.middle) p _ _ s c.args.middle c.args.trees m.block read.still.trees
           (λ x y sx sy.

@@ -1,16 +1,17 @@
 use Rattle.shm_tree.proofs.Resting.{rests_dropped, rests_linked, rests_then}
-use Rattle.shm_tree.specs.Sharing.{weight}
 use Rattle.shm_tree.specs.Trees.{Tree}
 use Rattle.shm_tree.proofs.Weights.{blocks_dropped, blocks_nodes, blocks_then, fresh_under, weigh_link, weight_nodes, weight_root}
-use Rattle.std.proofs.Common.{◌≡◌, ◌∙◌, lit≤, ap, subst, arith}
+use Rattle.std.proofs.Common.{◌≡◌, ◌+◌, ◌∙◌, lit≤, ap, subst, arith}
 use Rattle.shm_count.specs.declared.answer.Made.{Made}
 use Rattle.shm_tree.specs.declared.node.Side.{Side}
 use Rattle.shm_tree.specs.Keeping.{node_by, other_side}
-use Rattle.shm_tree.specs.Standing.{Stands}
-use Rattle.shm_tree.proofs.Building.{apart, builds_from, at_hand_linked, born_built, builds_cut, builds_done, built_cut, built_over, cut_then, grown_cuts, linked_at_hand, linked_some, looked_none, rooms_rooted, rooms_some, still_cut, still_cuts, top_stands, went_on}
+use Rattle.shm_tree.specs.Standing.{Stands, weight}
+use Rattle.shm_tree.proofs.Building.{apart, builds_from, at_hand_linked, born_built, builds_cut, builds_done, built_cut, built_over, cut_then, grown_cuts, linked_at_hand, linked_some, looked_none, rooms_rooted, rooms_some, spent_calls, spent_refused, still_cut, still_cuts, top_stands, went_on}
 use Rattle.shm_tree.proofs.Rotations.{node_other}
 use Rattle.shm_tree.specs.Bounds.{drop_steps, link_steps, raised_steps}
+use Rattle.shm_tree.specs.Spending.{HasSpent}
 use Rattle.shm_tree.proofs.Spendings.{spent_call, spent_drop, spent_then}
+use Rattle.shm_tree.proofs.balance.crowned.Goals.{In_ok-made}
 use Rattle.shm_tree.proofs.balance.crowned.Goals as goal
 
 pub link-requires-clause-room : goal.link-requires-clause-room
@@ -44,6 +45,13 @@ raised-requires c =
 pub drop_root-requires : goal.drop_root-requires
 drop_root-requires c = record { working = c.in_ok-made.ensures.builds.working; root = c.in_ok-lower.ensures.linked.born.rooted.low }
 
+-- word steps for the nodes
+both : (c : In_ok-made) → HasSpent (link_steps c.args.pool.now.start.geometry + raised_steps c.args.pool.now.start.geometry) c.args.pool.now c.raised.new.pool c.args.life.now.left c.raised.new.life.left
+both c =
+    let l = c.in_ok-lower.ensures in
+    let m = c.in_ok-made.ensures.builds in
+    spent_then raised_steps c.requires.working l.went m.went (spent_call (link_steps c.args.pool.now.start.geometry) l.went l.steps) m.spent
+
 pub returns-clause-builds : goal.returns-clause-builds
 returns-clause-builds c =
     let run = c.requires.working.run in
@@ -51,6 +59,7 @@ returns-clause-builds c =
     let m = c.in_ok-made.ensures.builds in
     let d = c.in_ok-drop_root.ensures in
     builds_done c.in_ok-made.made (went_on run (went_on run l.went m.went) d.went) d.working (d.latch ∙ (m.latch ∙ l.latch))
+    (spent_then (λ g. drop_steps g 0) c.requires.working (went_on run l.went m.went) d.went (both (goal.at.returns-clause-builds c).In_ok-made) (spent_drop c.in_ok-lower.lower.root d.working d.steps))
 
 pub returns-clause-built : goal.returns-clause-built
 returns-clause-built c =
@@ -59,7 +68,7 @@ returns-clause-built c =
     let m = c.in_ok-made.ensures in
     let d = c.in_ok-drop_root.ensures in
     built_over run l.went.run l.went.start m.builds.went.run m.builds.went.start
-    (born_built (linked_some l.linked c.requires.near_near.0 c.requires.near_far.0) l.linked.born) m.built d.emptied d.dropped
+    (born_built (linked_some l.linked c.requires.near_near.0 c.requires.near_far.0) l.linked.born) m.built d.emptied d.dropped d.working
 
 pub returns-clause-stands : goal.returns-clause-stands
 returns-clause-stands c =
@@ -79,18 +88,16 @@ returns-clause-stands c =
 
 pub returns-in_err-lower-clause-builds : goal.returns-in_err-lower-clause-builds
 returns-in_err-lower-clause-builds c =
-    let run = c.requires.working.run in
     let e = c.in_err-lower.ensures in
     let n = looked_none c.args.pool.now c.args.life.now.left c.requires.working in
-    builds_from c.from_residual.result c.from_residual.ensures.1 (builds_cut Made 1 {T = Made} {n = 0} {k = 3} _ (lit≤ tt) run n.went n.latch (still_cut n.still) e.went e.working e.latch (grown_cuts Made 1 _ _ _ e.grown) e.cause e.died)
+    builds_from c.from_residual.result c.from_residual.ensures.1 (builds_cut Made 1 link_steps {T = Made} {n = 0} {k = 3} _ (lit≤ tt) (omega arith) c.requires.working n.went n.latch (still_cut n.still) (spent_call 0 n.went (omega arith)) e.went e.working e.latch (grown_cuts Made 1 _ _ _ e.grown) (spent_calls Made _ _ e.went e.steps) e.cause e.died)
 
 pub returns-in_err-made-clause-builds : goal.returns-in_err-made-clause-builds
 returns-in_err-made-clause-builds c =
-    let run = c.requires.working.run in
     let l = c.in_ok-lower.ensures in
     let e = c.in_err-made.ensures.builds in
     let low = born_built (linked_some l.linked c.requires.near_near.0 c.requires.near_far.0) l.linked.born in
-    builds_from c.from_residual-in_err-made.result c.from_residual-in_err-made.ensures.1 (builds_cut Made 2 {T = Made} {n = 1} {k = 3} _ (lit≤ tt) run l.went l.latch (built_cut low) e.went e.working e.latch e.refused e.cause e.died)
+    builds_from c.from_residual-in_err-made.result c.from_residual-in_err-made.ensures.1 (builds_cut Made 2 raised_steps {T = Made} {n = 1} {k = 3} _ (lit≤ tt) (omega arith) c.requires.working l.went l.latch (built_cut low) (spent_call _ l.went l.steps) e.went e.working e.latch e.refused e.spent e.cause e.died)
 
 pub returns-in_err-drop_root-clause-builds : goal.returns-in_err-drop_root-clause-builds
 returns-in_err-drop_root-clause-builds c =
@@ -99,7 +106,7 @@ returns-in_err-drop_root-clause-builds c =
     let e = c.in_err-drop_root.ensures in
     let run = c.requires.working.run in
     let low = born_built (linked_some l.linked c.requires.near_near.0 c.requires.near_far.0) l.linked.born in
-    builds_from c.from_residual-in_err-drop_root.result c.from_residual-in_err-drop_root.ensures.1 (builds_cut (Unit {0}) 0 {T = Made} {n = 3} {k = 3} _ (lit≤ tt) run (went_on run l.went m.builds.went) (m.builds.latch ∙ l.latch) (cut_then run l.went.run l.went.start (built_cut low) (built_cut m.built)) e.went e.working e.latch (still_cuts (Unit {0}) _ _ _ e.still) e.cause e.died)
+    builds_from c.from_residual-in_err-drop_root.result c.from_residual-in_err-drop_root.ensures.1 (builds_cut (Unit {0}) 0 (λ g. drop_steps g 0) {T = Made} {n = 3} {k = 3} _ (lit≤ tt) (omega arith) c.requires.working (went_on run l.went m.builds.went) (m.builds.latch ∙ l.latch) (cut_then run l.went.run l.went.start (built_cut low) (built_cut m.built)) (both (goal.at.returns-in_err-drop_root-clause-builds c).In_ok-made) e.went e.working e.latch (still_cuts (Unit {0}) _ _ _ e.still) (spent_refused (Unit {0}) _ _ e.went e.refused_steps) e.cause e.died)
 
 pub returns-clause-sharing : goal.returns-clause-sharing
 returns-clause-sharing c =
@@ -153,12 +160,3 @@ returns-clause-rests c =
     rests_then p c.raised.new.pool c.drop_root.new.pool m.builds.working d.working d.went
     (rests_then p c.link.new.pool c.raised.new.pool l.working m.builds.working m.builds.went (rests_linked l.linked c.requires.near_near.0 c.requires.near_far.0) m.rests)
     (rests_dropped c.in_ok-lower.lower.root c.raised.new.pool c.drop_root.new.pool d.working d.dropped)
-
-pub returns-clause-spent : goal.returns-clause-spent
-returns-clause-spent c =
-    let h = c.requires.working in
-    let l = c.in_ok-lower.ensures in
-    let m = c.in_ok-made.ensures in
-    let d = c.in_ok-drop_root.ensures in
-    let both = spent_then raised_steps h l.went m.builds.went (spent_call (link_steps c.args.pool.now.start.geometry) l.went l.steps) m.spent in
-    spent_then (λ g. drop_steps g 0) h (went_on h.run l.went m.builds.went) d.went both (spent_drop c.in_ok-lower.lower.root d.working d.steps)

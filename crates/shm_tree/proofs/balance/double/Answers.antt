@@ -10,8 +10,7 @@ use Rattle.shm_tree.specs.Standing.{Stands}
 use Rattle.shm_tree.specs.Trees.{Tree}
 use Rattle.shm_tree.proofs.Building.{builds_from, at_hand_still, builds_after, builds_died, built_after, looked, looked_none, looked_then, ok_kept, rooms_still, tree_still, went_on}
 use Rattle.shm_tree.proofs.Rotations.{child_at, content_is, node_of, node_other, parts}
-use Rattle.shm_tree.specs.Bounds.{crowned_steps, turned_steps}
-use Rattle.shm_tree.proofs.Spendings.{spent_call, spent_more, spent_then}
+use Rattle.shm_tree.specs.Bounds.{crowned_steps}
 use Rattle.shm_tree.proofs.balance.double.Goals as goal
 
 pub content_of-requires : goal.content_of-requires
@@ -62,7 +61,10 @@ returns-clause-builds c =
     let v = c.in_ok-outer.ensures in
     let run = c.requires.working.run in
     let read = looked_then run (looked_then run (looked t.went t.working t.latch t.still t.reaches) (looked u.went u.working u.latch u.still u.reaches)) (looked v.went v.working v.latch v.still v.reaches) in
-    builds_after 3 3 _ (lit≤ tt) run read c.crowned.ensures.builds
+    let d = t.steps in
+    let e = u.steps in
+    let f = v.steps in
+    builds_after 3 3 14 crowned_steps _ (lit≤ tt) (omega arith) c.requires.working read (omega (arith, d, e, f)) c.crowned.ensures.builds
 
 pub returns-clause-built : goal.returns-clause-built
 returns-clause-built c =
@@ -145,14 +147,3 @@ returns-clause-rests c =
     let run = c.requires.working.run in
     let read = looked_then run (looked_then run (looked t.went t.working t.latch t.still t.reaches) (looked u.went u.working u.latch u.still u.reaches)) (looked v.went v.working v.latch v.still v.reaches) in
     rests_after c.crowned.result c.args.pool.now c.content_of-2.new.pool c.crowned.new.pool read.working read.still c.crowned.ensures.builds c.crowned.ensures.rests
-
-pub returns-clause-spent : goal.returns-clause-spent
-returns-clause-spent c =
-    let h = c.requires.working in
-    let t = c.in_ok-top.ensures in
-    let u = c.in_ok-parts.ensures in
-    let v = c.in_ok-outer.ensures in
-    let d = t.steps in
-    let e = u.steps in
-    let f = v.steps in
-    ok_kept _ (λ m b. spent_more _ (turned_steps c.args.pool.now.start.geometry) (omega arith) (spent_then crowned_steps h (went_on h.run (went_on h.run t.went u.went) v.went) c.crowned.ensures.builds.went (spent_call 14 (went_on h.run (went_on h.run t.went u.went) v.went) (omega (arith, d, e, f))) b)) c.crowned.ensures.spent

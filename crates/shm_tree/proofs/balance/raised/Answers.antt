@@ -2,11 +2,13 @@ use Rattle.shm_tree.proofs.Resting.{rests_dropped, rests_linked, rests_then}
 use Rattle.shm_tree.specs.Keeping.{node_by}
 use Rattle.shm_tree.specs.Trees.{Tree}
 use Rattle.shm_tree.proofs.Weights.{blocks_dropped, blocks_nodes, blocks_then, fresh_under, weigh_link, weight_nodes, weight_root}
-use Rattle.std.proofs.Common.{◌∙◌, lit≤, arith}
+use Rattle.std.proofs.Common.{◌+◌, ◌∙◌, lit≤, arith}
 use Rattle.shm_count.specs.declared.answer.Made.{Made}
-use Rattle.shm_tree.proofs.Building.{apart, builds_from, at_hand_linked, born_built, builds_cut, builds_done, built_cut, built_over, cut_then, grown_cuts, linked_at_hand, linked_some, looked_none, rooms_rooted, rooms_some, still_cut, still_cuts, top_stands, went_on}
+use Rattle.shm_tree.proofs.Building.{apart, builds_from, at_hand_linked, born_built, builds_cut, builds_done, built_cut, built_over, cut_then, grown_cuts, linked_at_hand, linked_some, looked_none, rooms_rooted, rooms_some, spent_calls, spent_refused, still_cut, still_cuts, top_stands, went_on}
 use Rattle.shm_tree.specs.Bounds.{drop_steps, link_steps}
+use Rattle.shm_tree.specs.Spending.{HasSpent}
 use Rattle.shm_tree.proofs.Spendings.{spent_call, spent_drop, spent_then}
+use Rattle.shm_tree.proofs.balance.raised.Goals.{In_ok-made}
 use Rattle.shm_tree.proofs.balance.raised.Goals as goal
 
 pub link-requires-clause-room : goal.link-requires-clause-room
@@ -43,6 +45,13 @@ link-requires-2 c =
 pub drop_root-requires : goal.drop_root-requires
 drop_root-requires c = record { working = c.in_ok-made.ensures.working; root = c.in_ok-lower.ensures.linked.born.rooted.low }
 
+-- word steps for both nodes
+both : (c : In_ok-made) → HasSpent (link_steps c.args.pool.now.start.geometry + link_steps c.args.pool.now.start.geometry) c.args.pool.now c.link-2.new.pool c.args.life.now.left c.link-2.new.life.left
+both c =
+    let l = c.in_ok-lower.ensures in
+    let m = c.in_ok-made.ensures in
+    spent_then link_steps c.requires.working l.went m.went (spent_call (link_steps c.args.pool.now.start.geometry) l.went l.steps) (spent_call (link_steps c.link.new.pool.start.geometry) m.went m.steps)
+
 pub returns-clause-builds : goal.returns-clause-builds
 returns-clause-builds c =
     let run = c.requires.working.run in
@@ -50,6 +59,7 @@ returns-clause-builds c =
     let m = c.in_ok-made.ensures in
     let d = c.in_ok-drop_root.ensures in
     builds_done c.in_ok-made.made (went_on run (went_on run l.went m.went) d.went) d.working (d.latch ∙ (m.latch ∙ l.latch))
+    (spent_then (λ g. drop_steps g 0) c.requires.working (went_on run l.went m.went) d.went (both (goal.at.returns-clause-builds c).In_ok-made) (spent_drop c.in_ok-lower.lower.root d.working d.steps))
 
 pub returns-clause-built : goal.returns-clause-built
 returns-clause-built c =
@@ -60,7 +70,7 @@ returns-clause-built c =
     let far = at_hand_linked c.args.far l.linked l.reaches c.requires.far in
     let low = linked_at_hand l.linked c.requires.near.0 c.requires.middle.0 l.working in
     built_over run l.went.run l.went.start m.went.run m.went.start
-    (born_built (linked_some l.linked c.requires.near.0 c.requires.middle.0) l.linked.born) (born_built (linked_some m.linked low.0 far.0) m.linked.born) d.emptied d.dropped
+    (born_built (linked_some l.linked c.requires.near.0 c.requires.middle.0) l.linked.born) (born_built (linked_some m.linked low.0 far.0) m.linked.born) d.emptied d.dropped d.working
 
 pub returns-clause-stands : goal.returns-clause-stands
 returns-clause-stands c =
@@ -73,18 +83,16 @@ returns-clause-stands c =
 
 pub returns-in_err-lower-clause-builds : goal.returns-in_err-lower-clause-builds
 returns-in_err-lower-clause-builds c =
-    let run = c.requires.working.run in
     let e = c.in_err-lower.ensures in
     let n = looked_none c.args.pool.now c.args.life.now.left c.requires.working in
-    builds_from c.from_residual.result c.from_residual.ensures.1 (builds_cut Made 1 {T = Made} {n = 0} {k = 2} _ (lit≤ tt) run n.went n.latch (still_cut n.still) e.went e.working e.latch (grown_cuts Made 1 _ _ _ e.grown) e.cause e.died)
+    builds_from c.from_residual.result c.from_residual.ensures.1 (builds_cut Made 1 link_steps {T = Made} {n = 0} {k = 2} _ (lit≤ tt) (omega arith) c.requires.working n.went n.latch (still_cut n.still) (spent_call 0 n.went (omega arith)) e.went e.working e.latch (grown_cuts Made 1 _ _ _ e.grown) (spent_calls Made _ _ e.went e.steps) e.cause e.died)
 
 pub returns-in_err-made-clause-builds : goal.returns-in_err-made-clause-builds
 returns-in_err-made-clause-builds c =
-    let run = c.requires.working.run in
     let l = c.in_ok-lower.ensures in
     let e = c.in_err-made.ensures in
     let low = born_built (linked_some l.linked c.requires.near.0 c.requires.middle.0) l.linked.born in
-    builds_from c.from_residual-in_err-made.result c.from_residual-in_err-made.ensures.1 (builds_cut Made 1 {T = Made} {n = 1} {k = 2} _ (lit≤ tt) run l.went l.latch (built_cut low) e.went e.working e.latch (grown_cuts Made 1 _ _ _ e.grown) e.cause e.died)
+    builds_from c.from_residual-in_err-made.result c.from_residual-in_err-made.ensures.1 (builds_cut Made 1 link_steps {T = Made} {n = 1} {k = 2} _ (lit≤ tt) (omega arith) c.requires.working l.went l.latch (built_cut low) (spent_call _ l.went l.steps) e.went e.working e.latch (grown_cuts Made 1 _ _ _ e.grown) (spent_calls Made _ _ e.went e.steps) e.cause e.died)
 
 pub returns-in_err-drop_root-clause-builds : goal.returns-in_err-drop_root-clause-builds
 returns-in_err-drop_root-clause-builds c =
@@ -96,7 +104,7 @@ returns-in_err-drop_root-clause-builds c =
     let node = linked_at_hand l.linked c.requires.near.0 c.requires.middle.0 l.working in
     let low = born_built (linked_some l.linked c.requires.near.0 c.requires.middle.0) l.linked.born in
     let high = born_built (linked_some m.linked node.0 far.0) m.linked.born in
-    builds_from c.from_residual-in_err-drop_root.result c.from_residual-in_err-drop_root.ensures.1 (builds_cut (Unit {0}) 0 {T = Made} {n = 2} {k = 2} _ (lit≤ tt) run (went_on run l.went m.went) (m.latch ∙ l.latch) (cut_then run l.went.run l.went.start (built_cut low) (built_cut high)) e.went e.working e.latch (still_cuts (Unit {0}) _ _ _ e.still) e.cause e.died)
+    builds_from c.from_residual-in_err-drop_root.result c.from_residual-in_err-drop_root.ensures.1 (builds_cut (Unit {0}) 0 (λ g. drop_steps g 0) {T = Made} {n = 2} {k = 2} _ (lit≤ tt) (omega arith) c.requires.working (went_on run l.went m.went) (m.latch ∙ l.latch) (cut_then run l.went.run l.went.start (built_cut low) (built_cut high)) (both (goal.at.returns-in_err-drop_root-clause-builds c).In_ok-made) e.went e.working e.latch (still_cuts (Unit {0}) _ _ _ e.still) (spent_refused (Unit {0}) _ _ e.went e.refused_steps) e.cause e.died)
 
 pub returns-clause-sharing : goal.returns-clause-sharing
 returns-clause-sharing c =
@@ -143,12 +151,3 @@ returns-clause-rests c =
     rests_then p c.link-2.new.pool c.drop_root.new.pool m.working d.working d.went
     (rests_then p c.link.new.pool c.link-2.new.pool l.working m.working m.went (rests_linked l.linked c.requires.near.0 c.requires.middle.0) (rests_linked m.linked node.0 far.0))
     (rests_dropped c.in_ok-lower.lower.root c.link-2.new.pool c.drop_root.new.pool d.working d.dropped)
-
-pub returns-clause-spent : goal.returns-clause-spent
-returns-clause-spent c =
-    let h = c.requires.working in
-    let l = c.in_ok-lower.ensures in
-    let m = c.in_ok-made.ensures in
-    let d = c.in_ok-drop_root.ensures in
-    let both = spent_then link_steps h l.went m.went (spent_call (link_steps c.args.pool.now.start.geometry) l.went l.steps) (spent_call (link_steps c.link.new.pool.start.geometry) m.went m.steps) in
-    spent_then (λ g. drop_steps g 0) h (went_on h.run l.went m.went) d.went both (spent_drop c.in_ok-lower.lower.root d.working d.steps)

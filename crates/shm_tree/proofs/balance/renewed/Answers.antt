@@ -1,13 +1,15 @@
 use Rattle.shm_tree.proofs.Resting.{rests_dropped, rests_still, rests_then}
 use Rattle.shm_tree.specs.Sharing.{IsSharingOver}
 use Rattle.shm_tree.proofs.Sharings.{alone_sharing, over_after, renewed_sharing, renewed_top, renewed_weighs, sharing_after, weighs_after}
-use Rattle.std.proofs.Common.{◌∙◌, lit≤, sym, ap, subst, arith}
+use Rattle.std.proofs.Common.{◌+◌, ◌∙◌, lit≤, sym, ap, subst, arith}
 use Rattle.shm_count.specs.declared.answer.Made.{Made}
-use Rattle.shm_tree.proofs.Building.{alive_over, alive_refused, at_hand_still, builds_from, cheap_after, cheap_then, builds_after, builds_cut, builds_died, builds_done, built_after, built_cut, looked, looked_none, rebuilt_alone, rebuilt_over, rooms_still, still_cuts, tree_still, went_on}
+use Rattle.shm_tree.proofs.Building.{alive_over, alive_refused, at_hand_still, builds_from, cheap_after, cheap_then, builds_after, builds_cut, builds_died, builds_done, built_after, built_cut, looked, looked_none, rebuilt_alone, rebuilt_over, rooms_still, spent_refused, still_cuts, tree_still, went_on}
 use Rattle.std.proofs.lemmas.Result.{err_from_is_err_and}
 use Rattle.shm_tree.proofs.Answering.{alive_map}
-use Rattle.shm_tree.specs.Bounds.{balanced_steps, drop_steps, renewed_steps}
-use Rattle.shm_tree.proofs.Spendings.{spent_call, spent_drop, spent_more, spent_then}
+use Rattle.shm_tree.specs.Bounds.{balanced_steps, drop_steps}
+use Rattle.shm_tree.specs.Spending.{HasSpent}
+use Rattle.shm_tree.proofs.Spendings.{spent_call, spent_drop, spent_then}
+use Rattle.shm_tree.proofs.balance.renewed.Goals.{In_ok-made}
 use Rattle.shm_tree.proofs.balance.renewed.Goals as goal
 use Rattle.std.specs.Prelude.{IfSome}
 use Rattle.shm_tree.specs.Building.{IsAtHand, IsCheap, IsHeld, StandsOf, joined_by, IsRebuilt, block_of}
@@ -39,9 +41,17 @@ returns-in_err-far-clause-builds c =
 
 pub returns-in_err-made-clause-builds : goal.returns-in_err-made-clause-builds
 returns-in_err-made-clause-builds c =
-    let run = c.requires.working.run in
     let u = c.in_ok-far.ensures in
-    builds_from c.from_residual-in_err-made.result c.from_residual-in_err-made.ensures.1 (builds_after 3 3 _ (lit≤ tt) run (looked u.went u.working u.latch u.still u.reaches) c.in_err-made.ensures.builds)
+    let d = u.steps in
+    builds_from c.from_residual-in_err-made.result c.from_residual-in_err-made.ensures.1 (builds_after 3 3 3 balanced_steps _ (lit≤ tt) (omega arith) c.requires.working (looked u.went u.working u.latch u.still u.reaches) (omega (arith, d)) c.in_err-made.ensures.builds)
+
+-- word steps until the tree is made
+made_spent : (c : In_ok-made) → HasSpent (3 + balanced_steps c.args.pool.now.start.geometry) c.args.pool.now c.balanced.new.pool c.args.life.now.left c.balanced.new.life.left
+made_spent c =
+    let u = c.in_ok-far.ensures in
+    let m = c.in_ok-made.ensures.builds in
+    let d = u.steps in
+    spent_then balanced_steps c.requires.working u.went m.went (spent_call 3 u.went (omega (arith, d))) m.spent
 
 pub drop_root-requires : goal.drop_root-requires
 drop_root-requires c =
@@ -59,9 +69,8 @@ returns-in-None c =
     let trees : Pair = record { near = block_of c.args.tree; far = child_of p c.args.node (other_side c.args.side) } in
     let others : Pair = record { near = c.block_of.result; far = c.in_ok-far.far } in
     record {
-      builds = builds_after 3 3 _ (lit≤ tt) run (looked u.went u.working u.latch u.still u.reaches) m.builds;
+      builds = (let d = u.steps in builds_after 3 3 3 balanced_steps _ (lit≤ tt) (omega arith) c.requires.working (looked u.went u.working u.latch u.still u.reaches) (omega (arith, d)) m.builds);
       rebuilt = subst (λ o. IsRebuilt 3 o c.in_ok-made.made p c.balanced.new.pool) (sym c.in-None.is) (rebuilt_alone built);
-      spent = spent_more _ (renewed_steps c.args.pool.now.start.geometry) (omega arith) (spent_then balanced_steps c.requires.working u.went m.builds.went (spent_call 3 u.went (let e = u.steps in omega (arith, e))) m.spent);
       stands =
           λ x y sx sy.
           m.stands x y (u.still.trees _ x (subst (λ k. Stands p k x) (sym c.block_of.ensures) sx)) (u.still.trees _ y (subst (λ k. Stands p k y) (sym far) sy));
@@ -88,9 +97,8 @@ returns-in_ok-drop_root-in-Some c =
     let stands : StandsOf (joined_by c.args.side c.args.middle) trees c.in_ok-made.made.block p c.balanced.new.pool =
     λ x y sx sy. m.stands x y (u.still.trees _ x (subst (λ k. Stands p k x) (sym c.block_of.ensures) sx)) (u.still.trees _ y (subst (λ k. Stands p k y) (sym far) sy)) in
     record {
-      builds = builds_done c.in_ok-made.made (went_on run went d.went) d.working (d.latch ∙ (m.builds.latch ∙ u.latch));
+      builds = builds_done c.in_ok-made.made (went_on run went d.went) d.working (d.latch ∙ (m.builds.latch ∙ u.latch)) (spent_then (λ g. drop_steps g 0) c.requires.working went d.went (made_spent (goal.at.returns-in_ok-drop_root-in-Some c).In_ok-made) (spent_drop _ d.working d.steps));
       rebuilt = subst (λ o. IsRebuilt 3 o c.in_ok-made.made p c.drop_root.new.pool) (sym c.in-Some.is) (rebuilt_over run went.run went.start held built d.emptied d.dropped);
-      spent = spent_then (λ g. drop_steps g 0) c.requires.working went d.went (spent_then balanced_steps c.requires.working u.went m.builds.went (spent_call 3 u.went (let e = u.steps in omega (arith, e))) m.spent) (spent_drop _ d.working d.steps);
       stands =
           λ x y sx sy.
           rebuilt_stands _ held built d.dropped
@@ -111,7 +119,7 @@ returns-in_err-drop_root-in-Some-clause-builds c =
     let e = c.in_err-drop_root-in-Some.ensures in
     let run = c.requires.working.run in
     let built = built_after run u.went.run u.went.start u.still m.built in
-    builds_from c.from_residual-in_err-drop_root-in-Some.result c.from_residual-in_err-drop_root-in-Some.ensures.1 (builds_cut (Unit {0}) 0 {T = Made} {n = 3} {k = 3} _ (lit≤ tt) run (went_on run u.went m.builds.went) (m.builds.latch ∙ u.latch) (built_cut built) e.went e.working e.latch (still_cuts (Unit {0}) _ _ _ e.still) e.cause e.died)
+    builds_from c.from_residual-in_err-drop_root-in-Some.result c.from_residual-in_err-drop_root-in-Some.ensures.1 (builds_cut (Unit {0}) 0 (λ g. drop_steps g 0) {T = Made} {n = 3} {k = 3} _ (lit≤ tt) (omega arith) c.requires.working (went_on run u.went m.builds.went) (m.builds.latch ∙ u.latch) (built_cut built) (made_spent (goal.at.returns-in_err-drop_root-in-Some-clause-builds c).In_ok-made) e.went e.working e.latch (still_cuts (Unit {0}) _ _ _ e.still) (spent_refused (Unit {0}) _ _ e.went e.refused_steps) e.cause e.died)
 
 pub returns-in_err-far-clause-cheap : goal.returns-in_err-far-clause-cheap
 returns-in_err-far-clause-cheap c = let d = c.in_err-far.ensures.died in alive_over (IsCheap (record { near = block_of c.args.tree; far = child_of c.args.pool.now c.args.node (other_side c.args.side) }) c.args.pool.now c.child.new.pool) c.from_residual.result c.from_residual.ensures.1 d.0

@@ -9,7 +9,6 @@ use Rattle.shm_tree.specs.Standing.{Stands}
 use Rattle.shm_tree.proofs.Building.{builds_from, at_hand_still, builds_after, builds_died, built_after, built_more, looked, looked_none, looked_then, ok_kept, rooms_still, tree_still, went_on}
 use Rattle.shm_tree.proofs.Rotations.{child_kept, child_tree, node_of, rotated_once, rotated_twice, tall_some}
 use Rattle.shm_tree.specs.Bounds.{turned_steps}
-use Rattle.shm_tree.proofs.Spendings.{spent_call, spent_then}
 use Rattle.shm_tree.proofs.balance.rotated.Goals as goal
 
 pub children-requires : goal.children-requires
@@ -116,9 +115,8 @@ returns-then-near-far c =
     let near = subst (HasTree p) (sym u.near) (child_tree p c.args.trees.far c.args.side c.requires.some c.requires.far.0) in
     let some = tall_some _ c.in_ok-grand.grand.near c.in_ok-near.near (tree_still c.in_ok-grand.grand.near u.still near) v.is (omega arith) in
     record {
-      builds = builds_after 3 3 _ (lit≤ tt) run read c.double.ensures.builds;
+      builds = (let d = u.steps in let e = v.steps in let f = w.steps in builds_after 3 3 10 turned_steps _ (lit≤ tt) (omega arith) c.requires.working read (omega (arith, d, e, f)) c.double.ensures.builds);
       built = ok_kept _ (λ m b. built_after run read.went.run read.went.start read.still b) c.double.ensures.built;
-      spent = (let d = u.steps in let e = v.steps in let f = w.steps in ok_kept _ (λ m b. spent_then turned_steps c.requires.working read.went c.double.ensures.builds.went (spent_call 10 read.went (omega (arith, d, e, f))) b) c.double.ensures.spent);
       stands =
           ok_kept {T = Made} {P = λ m. StandsTurnedTwice c.args.middle c.args.side c.args.trees m.block c.height-2.new.pool c.double.new.pool} {Q = λ m. StandsOf (from_far c.args.side c.args.middle) c.args.trees m.block p c.double.new.pool} _ (λ m b. rotated_twice p _ _ c.args.side c.args.middle c.args.trees m.block c.requires.some (subst (λ k. k ≢ 0) u.near some) read.still.trees
           (λ y z sy sz.
@@ -144,9 +142,8 @@ returns-else-near-far c =
     let run = c.requires.working.run in
     let read = looked_then run (looked_then run (looked u.went u.working u.latch u.still u.reaches) (looked v.went v.working v.latch v.still v.reaches)) (looked w.went w.working w.latch w.still w.reaches) in
     record {
-      builds = builds_after 2 3 _ (lit≤ tt) run read c.single.ensures.builds;
+      builds = (let d = u.steps in let e = v.steps in let f = w.steps in builds_after 2 3 10 turned_steps _ (lit≤ tt) (omega arith) c.requires.working read (omega (arith, d, e, f)) c.single.ensures.builds);
       built = ok_kept _ (λ m b. built_more 2 3 (lit≤ tt) (built_after run read.went.run read.went.start read.still b)) c.single.ensures.built;
-      spent = (let d = u.steps in let e = v.steps in let f = w.steps in ok_kept _ (λ m b. spent_then turned_steps c.requires.working read.went c.single.ensures.builds.went (spent_call 10 read.went (omega (arith, d, e, f))) b) c.single.ensures.spent);
       stands =
           ok_kept {T = Made} {P = λ m. StandsTurned c.args.middle c.args.side c.args.trees m.block c.height-2.new.pool c.single.new.pool} {Q = λ m. StandsOf (from_far c.args.side c.args.middle) c.args.trees m.block p c.single.new.pool} _ (λ m b. rotated_once p _ _ c.args.side c.args.middle c.args.trees m.block c.requires.some read.still.trees
           (λ y z sy sz.

@@ -9,8 +9,7 @@ use Rattle.shm_tree.specs.Keeping.{node_by}
 use Rattle.shm_tree.specs.Standing.{Stands}
 use Rattle.shm_tree.proofs.Building.{builds_from, at_hand_still, builds_after, builds_died, built_after, looked, looked_none, ok_kept, rooms_still}
 use Rattle.shm_tree.proofs.Rotations.{content_is, node_of, parts}
-use Rattle.shm_tree.specs.Bounds.{raised_steps, turned_steps}
-use Rattle.shm_tree.proofs.Spendings.{spent_call, spent_more, spent_then}
+use Rattle.shm_tree.specs.Bounds.{raised_steps}
 use Rattle.shm_tree.proofs.balance.single.Goals as goal
 
 pub content_of-requires : goal.content_of-requires
@@ -32,9 +31,9 @@ raised-requires c =
 
 pub returns-clause-builds : goal.returns-clause-builds
 returns-clause-builds c =
-    let run = c.requires.working.run in
     let t = c.in_ok-top.ensures in
-    builds_after 2 2 _ (lit≤ tt) run (looked t.went t.working t.latch t.still t.reaches) c.raised.ensures.builds
+    let e = t.steps in
+    builds_after 2 2 4 raised_steps _ (lit≤ tt) (omega arith) c.requires.working (looked t.went t.working t.latch t.still t.reaches) (omega (arith, e)) c.raised.ensures.builds
 
 pub returns-clause-built : goal.returns-clause-built
 returns-clause-built c =
@@ -75,10 +74,3 @@ pub returns-clause-rests : goal.returns-clause-rests
 returns-clause-rests c =
     let t = c.in_ok-top.ensures in
     rests_after c.raised.result c.args.pool.now c.content_of.new.pool c.raised.new.pool t.working t.still c.raised.ensures.builds c.raised.ensures.rests
-
-pub returns-clause-spent : goal.returns-clause-spent
-returns-clause-spent c =
-    let h = c.requires.working in
-    let t = c.in_ok-top.ensures in
-    let e = t.steps in
-    ok_kept _ (λ m b. spent_more _ (turned_steps c.args.pool.now.start.geometry) (omega arith) (spent_then raised_steps h t.went c.raised.ensures.builds.went (spent_call 4 t.went (omega (arith, e))) b)) c.raised.ensures.spent

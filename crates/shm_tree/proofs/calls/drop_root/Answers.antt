@@ -1,9 +1,9 @@
-use Rattle.std.proofs.Common.{◌≡◌, ◌≢◌, ℕ, ◌+◌, ◌≤◌, length, arith, refl, sym, ap, ◌∙◌, subst, inr, true}
+use Rattle.std.proofs.Common.{◌≡◌, ◌≢◌, ℕ, ◌+◌, ◌≤◌, length, arith, refl, sym, ap, ◌∙◌, subst, inr, true, Bool, false}
 use Rattle.std.specs.Prelude.{Some, Ok, Err}
 use Rattle.std.proofs.lemmas.Result.{err_from_is_err_and}
 use Rattle.shm_graph.specs.declared.ask.Me.{Me}
 use Rattle.shm_graph.specs.Asks.{IsWithin}
-use Rattle.shm_calls.specs.CallsControl.{calls_control, calls_of}
+use Rattle.shm_calls.specs.CallsControl.{calls_control, calls_of, calls_does}
 use Rattle.shm_plain.specs.Calls.{Ran, Took}
 use Rattle.shm_plain.specs.Pools.{Pool, memo_of}
 use Rattle.shm_count.specs.Roots.{member, root_word}
@@ -14,17 +14,25 @@ use Rattle.shm_ref.specs.DropRoot.{DropLeaves, drop_plan}
 use Rattle.shm_ref.specs.RootTasks.{DropMay}
 use Rattle.plain_calls.proofs.Running.{plan_done, plan_may}
 use Rattle.shm_tree.specs.Keeping.{IsStill}
-use Rattle.shm_tree.specs.Working.{IsSameLatch, IsWorking, Reaches}
+use Rattle.shm_tree.specs.Working.{IsSameLatch, IsSpent, IsWorking, Reaches}
 use Rattle.shm_tree.proofs.Alive.{went_alive, went_dead}
 use Rattle.shm_tree.proofs.Answering.{Answered, alive_died, answered_at, cause_died, emptied_then, reaches_then, refused_died, within_before}
-use Rattle.shm_tree.proofs.Drops.{drop_done, drop_kept, drop_latch, drop_torn, drop_works, dropped_then, kept_within}
+use Rattle.shm_tree.proofs.Drops.{drop_done, drop_kept, drop_latch, drop_spent, drop_torn, drop_works, dropped_then, kept_within}
+use Rattle.shm_tree.proofs.Eras.{spent_stays}
 use Rattle.shm_tree.proofs.Links.{still_then, went_then}
 use Rattle.shm_tree.proofs.Makes.{spent_over}
 use Rattle.shm_tree.proofs.SureCalls.{drop_most}
 use Rattle.shm_tree.proofs.Tearings.{done_torn, stopped_torn, torn_then}
 use Rattle.shm_ref.proofs.RefusedDrops.{spent_some}
-use Rattle.shm_tree.proofs.calls.drop_root.Goals.{After-new-dropping, In-Some-Ok, In-Some-Err}
+use Rattle.shm_tree.specs.Falling.{AreFalling}
+use Rattle.shm_tree.proofs.Anytime.{always_falls}
+use Rattle.shm_tree.proofs.Harmless.{drop_keeps}
+use Rattle.shm_tree.proofs.calls.drop_root.Goals.{After-new-dropping, In-Some-Ok, In-Some-Err, After-run}
 use Rattle.shm_tree.proofs.calls.drop_root.Goals as goal
+
+-- references fall after it, whether it was answered or not
+falls : (c : After-run) (answered : Bool) → Ran 0 true answered c.args.pool.now c.run.new.self c.args.life.now.left c.run.new.life.left → AreFalling c.args.pool.now → AreFalling c.run.new.self
+falls c answered ran = always_falls (calls_control drop_parts drop_plan) (calls_does drop_parts drop_plan) (calls_of drop_plan c.new-dropping.result) answered c.args.pool.now c.run.new.self c.args.life.now.left c.run.new.life.left drop_keeps c.requires.working ran c.run.ensures.told
 
 pub run-requires-clause-may : goal.run-requires-clause-may
 run-requires-clause-may c =
@@ -64,7 +72,7 @@ root_of-requires-clause-working c = working (goal.at.root_of-requires-clause-wor
 pub returns-in-None : goal.returns-in-None
 returns-in-None c =
     record {
-      went = went_dead true c.args.pool.now c.run.new.self _ _ c.requires.working c.in-None.ensures.ran;
+      went = went_dead true c.args.pool.now c.run.new.self _ _ c.requires.working c.in-None.ensures.ran (falls (goal.at.returns-in-None c).After-run false c.in-None.ensures.ran);
       working = tt;
       latch = tt;
       emptied = tt;
@@ -73,6 +81,7 @@ returns-in-None c =
       reaches = tt;
       steps = tt;
       refused_steps = tt;
+      spent = tt;
       cause = tt;
       died = λ e. c.in-None.ensures.ran.died refl;
     }
@@ -88,7 +97,7 @@ returns-in-Some-Ok c =
     let wide = p.start.geometry.wide in
     let most = took_most (goal.at.returns-in-Some-Ok c).After-new-dropping _ q _ c.in-Some-Ok.ensures.took c.in-Some-Ok.ensures.ran h.bound in
     record {
-      went = went_alive true p q _ _ c.in-Some-Ok.ensures.ran (c.in-Some-Ok.ensures.at_work tt);
+      went = went_alive true p q _ _ c.in-Some-Ok.ensures.ran (c.in-Some-Ok.ensures.at_work tt) (falls (goal.at.returns-in-Some-Ok c).After-run true c.in-Some-Ok.ensures.ran);
       working = drop_works p q es on k (Ok z) h;
       latch = drop_latch p q es on k (Ok z) h;
       emptied = done.0;
@@ -97,6 +106,7 @@ returns-in-Some-Ok c =
       reaches = tt;
       steps = (frees es, done_torn p q es on k z h, omega (arith, most));
       refused_steps = tt;
+      spent = tt;
       cause = tt;
       died = tt;
     }
@@ -110,7 +120,7 @@ returns-in_err-tree-in-Some-Err c =
     let died = c.in_err-tree-in-Some-Err.ensures.died in
     let handed = err_from_is_err_and c.from_residual.result c.from_residual.ensures.1 in
     rw (handed.1, handed.2) (record {
-      went = went_then p m q _ _ _ c.requires.working.run (went_alive true p m _ _ c.in-Some-Err.ensures.ran (c.in-Some-Err.ensures.at_work tt)) c.in_err-tree-in-Some-Err.ensures.went;
+      went = went_then p m q _ _ _ c.requires.working.run (went_alive true p m _ _ c.in-Some-Err.ensures.ran (c.in-Some-Err.ensures.at_work tt) (falls (goal.at.returns-in_err-tree-in-Some-Err c).After-run true c.in-Some-Err.ensures.ran)) c.in_err-tree-in-Some-Err.ensures.went;
       working = alive_died (Unit {0}) (IsWorking q) _ died.0;
       latch = alive_died (Unit {0}) (IsSameLatch p q) _ died.0;
       emptied = tt;
@@ -119,6 +129,7 @@ returns-in_err-tree-in-Some-Err c =
       reaches = refused_died (Unit {0}) (Reaches p q) _ died.0;
       steps = tt;
       refused_steps = refused_died (Unit {0}) _ _ died.0;
+      spent = refused_died (Unit {0}) (IsSpent (memo_of q 0)) _ died.0;
       cause = cause_died p q _ died.0;
       died = λ e. died.1;
     })
@@ -139,7 +150,7 @@ returns-then-tree-eq0 c =
     let most = took_most (goal.at.returns-then-tree-eq0 c).After-new-dropping _ m _ c.in-Some-Err.ensures.took c.in-Some-Err.ensures.ran h.1.bound in
     let more = asked.steps in
     record {
-      went = went_then p m q _ _ _ c.requires.working.run (went_alive true p m _ _ c.in-Some-Err.ensures.ran (c.in-Some-Err.ensures.at_work tt)) asked.went;
+      went = went_then p m q _ _ _ c.requires.working.run (went_alive true p m _ _ c.in-Some-Err.ensures.ran (c.in-Some-Err.ensures.at_work tt) (falls (goal.at.returns-then-tree-eq0 c).After-run true c.in-Some-Err.ensures.ran)) asked.went;
       working = asked.working;
       latch = asked.latch ∙ drop_latch p m es on k (Err s) h;
       emptied = emptied_then k p m q torn.0 asked.still;
@@ -148,6 +159,7 @@ returns-then-tree-eq0 c =
       reaches = tt;
       steps = (frees es + length h.0, torn_then k (frees es + length h.0) p m q c.requires.working (working first) on.start (stopped_torn p m es on k s h empty (spent_some 0 k (memo_of p 0) (memo_of m 0) es s.era h.0 h.1.at)) asked.quiet asked.still, omega (arith, most, more));
       refused_steps = tt;
+      spent = tt;
       cause = tt;
       died = tt;
     }
@@ -168,7 +180,7 @@ returns-else-tree-eq0 c =
     let most = took_most (goal.at.returns-else-tree-eq0 c).After-new-dropping _ m _ c.in-Some-Err.ensures.took c.in-Some-Err.ensures.ran (kept_within p m es on k s h some) in
     let more = asked.steps in
     record {
-      went = went_then p m q _ _ _ c.requires.working.run (went_alive true p m _ _ c.in-Some-Err.ensures.ran (c.in-Some-Err.ensures.at_work tt)) asked.went;
+      went = went_then p m q _ _ _ c.requires.working.run (went_alive true p m _ _ c.in-Some-Err.ensures.ran (c.in-Some-Err.ensures.at_work tt) (falls (goal.at.returns-else-tree-eq0 c).After-run true c.in-Some-Err.ensures.ran)) asked.went;
       working = asked.working;
       latch = asked.latch ∙ drop_latch p m es on k (Err s) h;
       emptied = tt;
@@ -177,6 +189,7 @@ returns-else-tree-eq0 c =
       reaches = reaches_then p m q kept.1 asked.reaches;
       steps = tt;
       refused_steps = omega (arith, most, more);
+      spent = spent_stays m q (working first) asked.working asked.went (drop_spent p m es on k s h);
       cause = inr (inr (inr (k, within_before (λ r0 r tr xs. DropLeaves (dropping (member p.start.geometry 0) k) r0 r tr xs (Err s)) p m q es on.did h asked.went.did)));
       died = spent_over s.era c.root_of.new.life.left;
     }

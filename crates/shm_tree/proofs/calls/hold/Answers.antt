@@ -1,8 +1,8 @@
-use Rattle.std.proofs.Common.{◌≡◌, refl, ap, ◌∙◌, subst, true}
+use Rattle.std.proofs.Common.{◌≡◌, refl, ap, ◌∙◌, subst, true, Bool, false}
 use Rattle.std.specs.Prelude.{Some, Ok, Err}
 use Rattle.shm_graph.specs.declared.ask.Me.{Me}
-use Rattle.shm_plain.specs.Calls.{Took}
-use Rattle.shm_calls.specs.CallsControl.{calls_control, calls_of}
+use Rattle.shm_plain.specs.Calls.{Took, Ran}
+use Rattle.shm_calls.specs.CallsControl.{calls_control, calls_of, calls_does}
 use Rattle.shm_calls.specs.Words.{word_control}
 use Rattle.shm_count.specs.Roots.{member}
 use Rattle.shm_ref.specs.declared.hold.HoldState.{HoldState}
@@ -13,8 +13,14 @@ use Rattle.shm_tree.proofs.Alive.{went_alive, went_dead}
 use Rattle.shm_tree.proofs.Answering.{Answered, answered_at}
 use Rattle.shm_tree.proofs.Counts.{taken_by}
 use Rattle.shm_tree.proofs.Latches.{held_latch, held_reaches, held_still, held_works, hold_free}
-use Rattle.shm_tree.proofs.calls.hold.Goals.{In-Some-Ok, In-Some-Err}
+use Rattle.shm_tree.specs.Falling.{AreFalling}
+use Rattle.shm_tree.proofs.Anytime.{always_falls}
+use Rattle.shm_tree.proofs.calls.hold.Goals.{In-Some-Ok, In-Some-Err, After-run}
 use Rattle.shm_tree.proofs.calls.hold.Goals as goal
+
+-- references fall after it, whether it was answered or not
+falls : (c : After-run) (answered : Bool) → Ran 0 true answered c.args.pool.now c.run.new.self c.args.life.now.left c.run.new.life.left → AreFalling c.args.pool.now → AreFalling c.run.new.self
+falls c answered ran = always_falls (calls_control word_control hold_plan) (calls_does word_control hold_plan) (calls_of hold_plan c.new-holding.result) answered c.args.pool.now c.run.new.self c.args.life.now.left c.run.new.life.left (λ r n s i. tt) c.requires.working ran c.run.ensures.told
 
 held : (c : In-Some-Ok) → Answered hold_plan (holding (member c.args.pool.now.start.geometry 0) 0) c.args.pool.now c.run.new.self (Ok tt)
 held c =
@@ -45,7 +51,7 @@ unreachable-requires c =
 pub returns-in-None : goal.returns-in-None
 returns-in-None c =
     record {
-      went = went_dead true c.args.pool.now c.run.new.self _ _ c.requires.working c.in-None.ensures.ran;
+      went = went_dead true c.args.pool.now c.run.new.self _ _ c.requires.working c.in-None.ensures.ran (falls (goal.at.returns-in-None c).After-run false c.in-None.ensures.ran);
       working = tt;
       latch = tt;
       still = tt;
@@ -60,7 +66,7 @@ returns-in-Some-Ok c =
     let q = c.run.new.self in
     let (es, on, h) = held (goal.at.returns-in-Some-Ok c).In-Some-Ok in
     record {
-      went = went_alive true p q _ _ c.in-Some-Ok.ensures.ran (c.in-Some-Ok.ensures.at_work tt);
+      went = went_alive true p q _ _ c.in-Some-Ok.ensures.ran (c.in-Some-Ok.ensures.at_work tt) (falls (goal.at.returns-in-Some-Ok c).After-run true c.in-Some-Ok.ensures.ran);
       working = held_works p q es on tt h;
       latch = held_latch p q es on tt h;
       still = held_still p q es on tt h;

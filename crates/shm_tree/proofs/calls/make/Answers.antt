@@ -1,4 +1,4 @@
-use Rattle.std.proofs.Common.{◌≡◌, refl, ap, ◌∙◌, arith, inl, inr, List, true}
+use Rattle.std.proofs.Common.{◌≡◌, refl, ap, ◌∙◌, arith, inl, inr, List, true, false}
 use Rattle.std.specs.Prelude.{Some, Ok, Err}
 use Rattle.shm_graph.specs.Events.{Event}
 use Rattle.shm_alloc.specs.declared.alloc.AllocFault.TheVariants as fault
@@ -6,6 +6,8 @@ use Rattle.shm_alloc.specs.Alloc.Events.{own_events}
 use Rattle.shm_count.specs.Roots.{member}
 use Rattle.shm_tree.proofs.Alive.{on_answer, went_alive, went_dead}
 use Rattle.shm_tree.proofs.Makes.{full_over, make_cause, make_latch, make_made, make_reaches, make_room, make_within, make_works, refused_reaches, refused_still, spent_over}
+use Rattle.shm_tree.proofs.Harmless.{alloc_falls}
+use Rattle.shm_tree.proofs.Unnamed.{made_unnamed}
 use Rattle.shm_tree.proofs.calls.make.Goals as goal
 
 pub unreachable-requires : goal.unreachable-requires
@@ -31,11 +33,12 @@ returns-in-Ok-None c =
     let x = c.in-Ok-None in
     let ran = rw x.field-0-is at x.ensures.ran in
     record {
-      went = went_dead true c.args.pool.now c.allocate.new.pool _ _ c.requires.working ran;
+      went = went_dead true c.args.pool.now c.allocate.new.pool _ _ c.requires.working ran (alloc_falls _ false c.args.pool.now c.allocate.new.pool _ _ c.requires.working ran x.ensures.told);
       working = tt;
       latch = tt;
       reaches = tt;
       made = tt;
+      unnamed = tt;
       still = tt;
       steps = tt;
       cause = tt;
@@ -60,11 +63,12 @@ returns-in-Ok-Some-Ok c =
     let d = c.args.content in
     let h = c.args.height in
     record {
-      went = went_alive true p q _ _ ran at;
-      working = make_works p q es on d h m asked (Ok a) y;
+      went = went_alive true p q _ _ ran at (alloc_falls _ true p q _ _ c.requires.working ran x.ensures.told);
+      working = make_works p q es on d h m asked (Ok a) y (refl, tt);
       latch = make_latch p q es on d h m asked (Ok a) y;
       reaches = make_reaches p q es on d h m asked a y refl low names others;
       made = make_made p q es on d h m asked a y refl low names others;
+      unnamed = made_unnamed p q es on a (tt, tt) (make_made p q es on d h m asked a y refl low names others).born;
       still = tt;
       steps = make_within p q es on d h m asked _ _ (Ok a) y (ran.spent refl refl);
       cause = tt;
@@ -86,11 +90,12 @@ returns-in-Ok-Some-Err-Full c =
     let d = c.args.content in
     let h = c.args.height in
     record {
-      went = went_alive true p q _ _ ran at;
-      working = make_works p q es on d h m asked (Err f) y;
+      went = went_alive true p q _ _ ran at (alloc_falls _ true p q _ _ c.requires.working ran x.ensures.told);
+      working = make_works p q es on d h m asked (Err f) y tt;
       latch = make_latch p q es on d h m asked (Err f) y;
       reaches = refused_reaches p q es on d h m asked f y;
       made = tt;
+      unnamed = tt;
       still = refused_still p q es on d h m asked f y refl;
       steps = make_within p q es on d h m asked _ _ (Err f) y (ran.spent refl refl);
       cause = make_cause p q es on d h m asked f y;
@@ -112,11 +117,12 @@ returns-in-Ok-Some-Err-EraSpent c =
     let d = c.args.content in
     let h = c.args.height in
     record {
-      went = went_alive true p q _ _ ran at;
-      working = make_works p q es on d h m asked (Err f) y;
+      went = went_alive true p q _ _ ran at (alloc_falls _ true p q _ _ c.requires.working ran x.ensures.told);
+      working = make_works p q es on d h m asked (Err f) y tt;
       latch = make_latch p q es on d h m asked (Err f) y;
       reaches = refused_reaches p q es on d h m asked f y;
       made = tt;
+      unnamed = tt;
       still = refused_still p q es on d h m asked f y refl;
       steps = make_within p q es on d h m asked _ _ (Err f) y (ran.spent refl refl);
       cause = inl (make_cause p q es on d h m asked f y);

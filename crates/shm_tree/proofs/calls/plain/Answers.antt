@@ -1,4 +1,4 @@
-use Rattle.std.proofs.Common.{◌≡◌, true, refl}
+use Rattle.std.proofs.Common.{◌≡◌, true, refl, Bool, false}
 use Rattle.std.specs.Prelude.{Some, Ok, Err}
 use Rattle.shm_graph.specs.declared.ask.Me.{Me}
 use Rattle.shm_graph.specs.Reach.{is_reached}
@@ -13,8 +13,16 @@ use Rattle.shm_tree.proofs.Alive.{went_alive, went_dead}
 use Rattle.shm_tree.proofs.Answering.{Answered, answered_at}
 use Rattle.shm_tree.proofs.Counts.{taken_by}
 use Rattle.shm_tree.proofs.Findings.{plain_is, plain_refused, plain_still, read_only, read_reaches, read_works}
-use Rattle.shm_tree.proofs.calls.plain.Goals.{After-me, In-Some-Ok, In-Some-Err}
+use Rattle.shm_calls.specs.CallsControl.{calls_control, calls_does, calls_of}
+use Rattle.shm_plain.specs.Calls.{Ran}
+use Rattle.shm_tree.specs.Falling.{AreFalling}
+use Rattle.shm_tree.proofs.Anytime.{always_falls}
+use Rattle.shm_tree.proofs.calls.plain.Goals.{After-me, In-Some-Ok, In-Some-Err, After-run}
 use Rattle.shm_tree.proofs.calls.plain.Goals as goal
+
+-- references fall after it, whether it was answered or not
+falls : (c : After-run) (answered : Bool) → Ran 0 true answered c.args.pool.now c.run.new.self c.args.life.now.left c.run.new.life.left → AreFalling c.args.pool.now → AreFalling c.run.new.self
+falls c answered ran = always_falls (calls_control word_control read_plan) (calls_does word_control read_plan) (calls_of read_plan c.new-reading.result) answered c.args.pool.now c.run.new.self c.args.life.now.left c.run.new.life.left (λ r n s i. tt) c.requires.working ran c.run.ensures.told
 
 reached : (c : After-me) → is_reached 0 (memo_of c.args.pool.now 0) c.args.node ≡ true
 reached c = c.requires.reached c.requires.node.3.some
@@ -55,7 +63,7 @@ unreachable-requires c =
 pub returns-in-None : goal.returns-in-None
 returns-in-None c =
     record {
-      went = went_dead true c.args.pool.now c.run.new.self _ _ c.requires.working c.in-None.ensures.ran;
+      went = went_dead true c.args.pool.now c.run.new.self _ _ c.requires.working c.in-None.ensures.ran (falls (goal.at.returns-in-None c).After-run false c.in-None.ensures.ran);
       working = tt;
       latch = tt;
       is = tt;
@@ -76,7 +84,7 @@ returns-in-Some-Ok c =
     let v = c.in-Some-Ok.word in
     let only = read_only p q es on b i tr (Ok v) h in
     record {
-      went = went_alive true p q _ _ c.in-Some-Ok.ensures.ran (c.in-Some-Ok.ensures.at_work tt);
+      went = went_alive true p q _ _ c.in-Some-Ok.ensures.ran (c.in-Some-Ok.ensures.at_work tt) (falls (goal.at.returns-in-Some-Ok c).After-run true c.in-Some-Ok.ensures.ran);
       working = read_works p q es on b i tr (Ok v) h;
       latch = only.latch;
       is = plain_is p q es on b i tr v c.requires.node c.requires.index h;

@@ -1,12 +1,12 @@
-use Rattle.std.proofs.Common.{◌≡◌, ℕ, ◌+◌, ◌≤◌, true, refl, sym, ap, ◌∙◌, subst, arith, inl, inr}
+use Rattle.std.proofs.Common.{◌≡◌, ℕ, ◌+◌, ◌≤◌, true, refl, sym, ap, ◌∙◌, subst, arith, inl, inr, Bool, ◌<◌, false}
 use Rattle.std.specs.Prelude.{Some, Result, Ok, Err}
 use Rattle.std.proofs.lemmas.Bool.{cases_eq}
 use Rattle.shm_words.specs.Layout.{total_of}
 use Rattle.shm_graph.specs.declared.ask.Me.{Me}
 use Rattle.shm_graph.specs.Asks.{IsWithin}
 use Rattle.shm_graph.specs.Reach.{is_reached}
-use Rattle.shm_calls.specs.CallsControl.{calls_control, calls_of}
-use Rattle.shm_plain.specs.Calls.{IsAtWork, Ran, Took}
+use Rattle.shm_calls.specs.CallsControl.{calls_control, calls_of, calls_does}
+use Rattle.shm_plain.specs.Calls.{IsAtWork, Ran, Took, Did}
 use Rattle.shm_plain.specs.Pools.{Pool, memo_of}
 use Rattle.shm_count.specs.Roots.{member}
 use Rattle.shm_ref.specs.declared.answer.SetFault.{SetFault}
@@ -23,7 +23,10 @@ use Rattle.shm_tree.proofs.Alive.{went_alive, went_dead}
 use Rattle.shm_tree.proofs.Answering.{Answered, answered_at}
 use Rattle.shm_tree.proofs.Refers.{full_within, set_cause, set_full, set_latch, set_reaches, set_refers, set_refused, set_spent, set_within, set_works, spent_within}
 use Rattle.shm_tree.proofs.SureCalls.{set_most}
-use Rattle.shm_tree.proofs.calls.refer.Goals.{After-me, After-new-setting}
+use Rattle.shm_graph.specs.Tells.{happens_along}
+use Rattle.shm_tree.specs.Falling.{AreFalling, IsUnnamed}
+use Rattle.shm_tree.proofs.Referring.{setting_falls, setting_unnamed}
+use Rattle.shm_tree.proofs.calls.refer.Goals.{After-me, After-new-setting, After-run}
 use Rattle.shm_tree.proofs.calls.refer.Goals as goal
 
 -- the node is in reach, as a root names it
@@ -34,6 +37,17 @@ reached c =
 
 planned : (c : After-new-setting) → c.new-setting.result ≡ setting c.me.result c.args.node (side_word c.args.side) c.args.child
 planned c = c.new-setting.ensures ∙ ap (λ k. setting c.me.result c.args.node k c.args.child) c.word.ensures
+
+-- its events are told, of the plan as it was made
+told : (c : After-run) → 0 < c.args.life.now.left → Did 0 c.args.pool.now c.run.new.self (happens_along (calls_control set_parts set_plan) (calls_does set_parts set_plan) (calls_of set_plan (setting c.me.result c.args.node (side_word c.args.side) c.args.child)) (memo_of c.run.new.self 0).call)
+told c = subst (λ (z : SetState). 0 < c.args.life.now.left → Did 0 c.args.pool.now c.run.new.self (happens_along (calls_control set_parts set_plan) (calls_does set_parts set_plan) (calls_of set_plan z) (memo_of c.run.new.self 0).call)) (planned (goal.at.After-run c).After-new-setting) c.run.ensures.told
+
+-- references fall after it, whether it was answered or not
+falls : (c : After-run) (answered : Bool) → Ran 0 true answered c.args.pool.now c.run.new.self c.args.life.now.left c.run.new.life.left → AreFalling c.args.pool.now → AreFalling c.run.new.self
+falls c answered ran = setting_falls c.args.node (side_word c.args.side) c.args.child c.me.result c.args.pool.now c.run.new.self c.args.life.now.left c.run.new.life.left c.requires.working (told c) c.requires.unnamed c.requires.other answered ran
+
+unnamed : (c : After-run) → Ran 0 true true c.args.pool.now c.run.new.self c.args.life.now.left c.run.new.life.left → IsUnnamed c.run.new.self c.args.node
+unnamed c ran = setting_unnamed c.args.node (side_word c.args.side) c.args.child c.me.result c.args.pool.now c.run.new.self c.args.life.now.left c.run.new.life.left c.requires.working (told c) c.requires.unnamed c.requires.other c.requires.node.3.some ran
 
 pub new-setting-requires-clause-block : goal.new-setting-requires-clause-block
 new-setting-requires-clause-block c =
@@ -102,11 +116,12 @@ unreachable-requires-in-Some-Err-NotHeld c =
 pub returns-in-None : goal.returns-in-None
 returns-in-None c =
     record {
-      went = went_dead true c.args.pool.now c.run.new.self _ _ c.requires.working c.in-None.ensures.ran;
+      went = went_dead true c.args.pool.now c.run.new.self _ _ c.requires.working c.in-None.ensures.ran (falls (goal.at.returns-in-None c).After-run false c.in-None.ensures.ran);
       working = tt;
       latch = tt;
       reaches = tt;
       refers = tt;
+      unnamed = tt;
       still = tt;
       steps = tt;
       cause = tt;
@@ -124,11 +139,12 @@ returns-in-Some-Ok c =
     let x = c.in-Some-Ok in
     let (es, on, h) = left (goal.at.returns-in-Some-Ok c).After-new-setting q _ x.field-0 (Ok tt) x.field-0-is x.ensures.ran (x.ensures.at_work tt) x.ensures.leaves in
     record {
-      went = went_alive true p q _ _ x.ensures.ran (x.ensures.at_work tt);
+      went = went_alive true p q _ _ x.ensures.ran (x.ensures.at_work tt) (falls (goal.at.returns-in-Some-Ok c).After-run true x.ensures.ran);
       working = set_works p q es on b s to i n d node c.requires.empty tt h;
       latch = set_latch p q es on b s to i n d node c.requires.empty (Ok tt) h;
       reaches = set_reaches p q es on b s to i n d node c.requires.empty tt h;
       refers = set_refers p q es on b s to i n d node c.requires.empty tt h;
+      unnamed = unnamed (goal.at.returns-in-Some-Ok c).After-run x.ensures.ran;
       still = tt;
       steps = took_few (goal.at.returns-in-Some-Ok c).After-new-setting q _ x.ensures.took x.ensures.ran (set_within p q es on b s to i n d node c.requires.empty tt h);
       cause = tt;
@@ -148,11 +164,12 @@ returns-in-Some-Err-EraSpent c =
     let (es, on, h) = left (goal.at.returns-in-Some-Err-EraSpent c).After-new-setting q _ x.field-0 (Err f) (x.field-0-is ∙ ap Err x.field-0-0-is) x.ensures.ran (x.ensures.at_work tt) x.ensures.leaves in
     let none = set_spent p q es on b s to i n d node c.requires.empty x.era h in
     record {
-      went = went_alive true p q _ _ x.ensures.ran (x.ensures.at_work tt);
+      went = went_alive true p q _ _ x.ensures.ran (x.ensures.at_work tt) (falls (goal.at.returns-in-Some-Err-EraSpent c).After-run true x.ensures.ran);
       working = none.works;
       latch = set_latch p q es on b s to i n d node c.requires.empty (Err f) h;
       reaches = none.reaches;
       refers = tt;
+      unnamed = tt;
       still = none.still;
       steps = took_few (goal.at.returns-in-Some-Err-EraSpent c).After-new-setting q _ x.ensures.took x.ensures.ran (spent_within p q es on b s to i n d node c.requires.empty x.era h);
       cause = inr (inl (set_cause p q es on b s to i n d node c.requires.empty f h));
@@ -172,11 +189,12 @@ returns-in-Some-Err-CountFull c =
     let (es, on, h) = left (goal.at.returns-in-Some-Err-CountFull c).After-new-setting q _ x.field-0 (Err f) (x.field-0-is ∙ ap Err x.field-0-0-is) x.ensures.ran (x.ensures.at_work tt) x.ensures.leaves in
     let none = set_full p q es on b s to i n d node c.requires.empty x.block x.count h in
     record {
-      went = went_alive true p q _ _ x.ensures.ran (x.ensures.at_work tt);
+      went = went_alive true p q _ _ x.ensures.ran (x.ensures.at_work tt) (falls (goal.at.returns-in-Some-Err-CountFull c).After-run true x.ensures.ran);
       working = none.works;
       latch = set_latch p q es on b s to i n d node c.requires.empty (Err f) h;
       reaches = none.reaches;
       refers = tt;
+      unnamed = tt;
       still = none.still;
       steps = took_few (goal.at.returns-in-Some-Err-CountFull c).After-new-setting q _ x.ensures.took x.ensures.ran (full_within p q es on b s to i n d node c.requires.empty x.block x.count h);
       cause = inl (set_cause p q es on b s to i n d node c.requires.empty f h);

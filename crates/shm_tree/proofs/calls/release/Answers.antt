@@ -1,4 +1,4 @@
-use Rattle.std.proofs.Common.{refl, true}
+use Rattle.std.proofs.Common.{refl, true, Bool, false}
 use Rattle.std.specs.Prelude.{Some}
 use Rattle.shm_plain.specs.Pools.{memo_of}
 use Rattle.shm_calls.specs.Words.{word_control}
@@ -10,8 +10,16 @@ use Rattle.shm_tree.proofs.Alive.{went_alive, went_dead}
 use Rattle.shm_tree.proofs.Answering.{Answered, answered_at}
 use Rattle.shm_tree.proofs.Counts.{taken_by}
 use Rattle.shm_tree.proofs.Latches.{released_still, released_works}
-use Rattle.shm_tree.proofs.calls.release.Goals.{In-Some}
+use Rattle.shm_calls.specs.CallsControl.{calls_control, calls_does, calls_of}
+use Rattle.shm_plain.specs.Calls.{Ran}
+use Rattle.shm_tree.specs.Falling.{AreFalling}
+use Rattle.shm_tree.proofs.Anytime.{always_falls}
+use Rattle.shm_tree.proofs.calls.release.Goals.{In-Some, After-run}
 use Rattle.shm_tree.proofs.calls.release.Goals as goal
+
+-- references fall after it, whether it was answered or not
+falls : (c : After-run) (answered : Bool) → Ran 0 true answered c.args.pool.now c.run.new.self c.args.life.now.left c.run.new.life.left → AreFalling c.args.pool.now → AreFalling c.run.new.self
+falls c answered ran = always_falls (calls_control word_control release_plan) (calls_does word_control release_plan) (calls_of release_plan c.new-releasing.result) answered c.args.pool.now c.run.new.self c.args.life.now.left c.run.new.life.left (λ r n s i. tt) c.requires.working ran c.run.ensures.told
 
 pub run-requires-clause-may : goal.run-requires-clause-may
 run-requires-clause-may c =
@@ -29,7 +37,7 @@ released c =
 pub returns-in-None : goal.returns-in-None
 returns-in-None c =
     record {
-      went = went_dead true c.args.pool.now c.run.new.self _ _ c.requires.working c.in-None.ensures.ran;
+      went = went_dead true c.args.pool.now c.run.new.self _ _ c.requires.working c.in-None.ensures.ran (falls (goal.at.returns-in-None c).After-run false c.in-None.ensures.ran);
       working = tt;
       latch = tt;
       still = tt;
@@ -43,7 +51,7 @@ returns-in-Some c =
     let q = c.run.new.self in
     let (es, on, h) = released (goal.at.returns-in-Some c).In-Some in
     record {
-      went = went_alive true p q _ _ c.in-Some.ensures.ran (c.in-Some.ensures.at_work tt);
+      went = went_alive true p q _ _ c.in-Some.ensures.ran (c.in-Some.ensures.at_work tt) (falls (goal.at.returns-in-Some c).After-run true c.in-Some.ensures.ran);
       working = released_works p q es on h;
       latch = h.latch;
       still = released_still p q es on h;

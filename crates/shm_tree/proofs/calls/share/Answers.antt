@@ -1,8 +1,8 @@
-use Rattle.std.proofs.Common.{◌≡◌, ℕ, true, refl, ap, ◌∙◌, subst, inl, inr}
+use Rattle.std.proofs.Common.{◌≡◌, ℕ, true, refl, ap, ◌∙◌, subst, inl, inr, Bool, false}
 use Rattle.std.specs.Prelude.{Some, Ok, Err}
 use Rattle.shm_graph.specs.declared.ask.Me.{Me}
-use Rattle.shm_calls.specs.CallsControl.{calls_control, calls_of}
-use Rattle.shm_plain.specs.Calls.{Took}
+use Rattle.shm_calls.specs.CallsControl.{calls_control, calls_of, calls_does}
+use Rattle.shm_plain.specs.Calls.{Took, Ran}
 use Rattle.shm_plain.specs.Pools.{Pool, memo_of}
 use Rattle.shm_count.specs.declared.answer.ShareFault.TheVariants as fault
 use Rattle.shm_count.specs.declared.up_root.RootingState.{RootingState}
@@ -16,8 +16,15 @@ use Rattle.shm_tree.proofs.Alive.{went_alive, went_dead}
 use Rattle.shm_tree.proofs.Answering.{Answered, answered_at}
 use Rattle.shm_tree.proofs.Shares.{share_cause, share_latch, share_reaches, share_room, share_shared, share_still, share_works}
 use Rattle.shm_tree.proofs.SureCalls.{share_within}
-use Rattle.shm_tree.proofs.calls.share.Goals.{In-Some-Ok, In-Some-Err-EraSpent, In-Some-Err-CountFull, In-Some-Err-RootsFull}
+use Rattle.shm_tree.specs.Falling.{AreFalling}
+use Rattle.shm_tree.proofs.Anytime.{always_falls}
+use Rattle.shm_tree.proofs.Harmless.{share_keeps}
+use Rattle.shm_tree.proofs.calls.share.Goals.{In-Some-Ok, In-Some-Err-EraSpent, In-Some-Err-CountFull, In-Some-Err-RootsFull, After-run}
 use Rattle.shm_tree.proofs.calls.share.Goals as goal
+
+-- references fall after it, whether it was answered or not
+falls : (c : After-run) (answered : Bool) → Ran 0 true answered c.args.pool.now c.run.new.self c.args.life.now.left c.run.new.life.left → AreFalling c.args.pool.now → AreFalling c.run.new.self
+falls c answered ran = always_falls (calls_control rooting_parts rooting_plan) (calls_does rooting_parts rooting_plan) (calls_of rooting_plan c.new-sharing.result) answered c.args.pool.now c.run.new.self c.args.life.now.left c.run.new.life.left share_keeps c.requires.working ran c.run.ensures.told
 
 -- as it was made
 made : (e : RootingState) (x : Me) (p : Pool) (b : ℕ) → e ≡ rooting x b → x ≡ member p.start.geometry 0 → e ≡ rooting (member p.start.geometry 0) b
@@ -75,7 +82,7 @@ unreachable-requires c =
 pub returns-in-None : goal.returns-in-None
 returns-in-None c =
     record {
-      went = went_dead true c.args.pool.now c.run.new.self _ _ c.requires.working c.in-None.ensures.ran;
+      went = went_dead true c.args.pool.now c.run.new.self _ _ c.requires.working c.in-None.ensures.ran (falls (goal.at.returns-in-None c).After-run false c.in-None.ensures.ran);
       working = tt;
       latch = tt;
       reaches = tt;
@@ -95,7 +102,7 @@ returns-in-Some-Ok c =
     let k = c.in-Some-Ok.root in
     let (es, on, h) = shared (goal.at.returns-in-Some-Ok c).In-Some-Ok in
     record {
-      went = went_alive true p q _ _ c.in-Some-Ok.ensures.ran (c.in-Some-Ok.ensures.at_work tt);
+      went = went_alive true p q _ _ c.in-Some-Ok.ensures.ran (c.in-Some-Ok.ensures.at_work tt) (falls (goal.at.returns-in-Some-Ok c).After-run true c.in-Some-Ok.ensures.ran);
       working = share_works p q es on b (Ok k) h;
       latch = share_latch p q es on b (Ok k) h;
       reaches = share_reaches p q es on b (Ok k) h;
@@ -116,7 +123,7 @@ returns-in-Some-Err-EraSpent c =
     let f = fault.EraSpent x.era in
     let (es, on, h) = spent (goal.at.returns-in-Some-Err-EraSpent c).In-Some-Err-EraSpent in
     record {
-      went = went_alive true p q _ _ x.ensures.ran (x.ensures.at_work tt);
+      went = went_alive true p q _ _ x.ensures.ran (x.ensures.at_work tt) (falls (goal.at.returns-in-Some-Err-EraSpent c).After-run true x.ensures.ran);
       working = share_works p q es on b (Err f) h;
       latch = share_latch p q es on b (Err f) h;
       reaches = share_reaches p q es on b (Err f) h;
@@ -137,7 +144,7 @@ returns-in-Some-Err-CountFull c =
     let f = fault.CountFull x.block x.count in
     let (es, on, h) = full (goal.at.returns-in-Some-Err-CountFull c).In-Some-Err-CountFull in
     record {
-      went = went_alive true p q _ _ x.ensures.ran (x.ensures.at_work tt);
+      went = went_alive true p q _ _ x.ensures.ran (x.ensures.at_work tt) (falls (goal.at.returns-in-Some-Err-CountFull c).After-run true x.ensures.ran);
       working = share_works p q es on b (Err f) h;
       latch = share_latch p q es on b (Err f) h;
       reaches = share_reaches p q es on b (Err f) h;

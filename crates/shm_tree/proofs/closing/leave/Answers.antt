@@ -1,5 +1,5 @@
-use Rattle.std.proofs.Common.{◌≡◌, ℕ, ◌^◌, ◌<◌, ap, ◌∙◌, subst, arith, Option}
-use Rattle.std.specs.Prelude.{IfSome, IsSome, Result}
+use Rattle.std.proofs.Common.{◌≡◌, ◌^◌, ◌<◌, ◌≤◌, ap, ◌∙◌, subst, arith, Option}
+use Rattle.std.specs.Prelude.{IfSome, Result}
 use Rattle.shm_calls.specs.CallsControl.{calls_of}
 use Rattle.shm_calls.specs.CallsFit.{CallsFits, CallsGives}
 use Rattle.shm_count.specs.declared.answer.EraSpent.{EraSpent}
@@ -9,7 +9,8 @@ use Rattle.shm_recover.specs.Leave.{leave_plan}
 use Rattle.shm_plain.proofs.Called.{Called}
 use Rattle.shm_tree.specs.Ending.{HasParted}
 use Rattle.shm_tree.proofs.Ending.{leave_answers, leave_control, leave_fits, leave_parted, leaver}
-use Rattle.shm_tree.proofs.closing.leave.Goals.{After-new-leaving, After-call}
+use Rattle.shm_tree.proofs.Roomy.{parted_ok, young_room}
+use Rattle.shm_tree.proofs.closing.leave.Goals.{After-new-leaving, After-call, After-unwrap}
 use Rattle.shm_tree.proofs.closing.leave.Goals as goal
 
 made : (c : After-new-leaving) → c.new-leaving.result ≡ leaver c.args.pool.now
@@ -30,8 +31,18 @@ unwrap-requires c =
     let long : 2 ^ 38 < c.of.result.left = let life = c.of.ensures in omega arith in
     leave_answers c.args.pool.now c.requires.working c.requires.latch c.requires.dying c.new-leaving.result (made (goal.at.After-call at).After-new-leaving) c.call.new.self c.of.result.left c.call.new.life.left c.call.result (say at) c.call.ensures.spent long
 
-pub returns-clause-parted : goal.returns-clause-parted
-returns-clause-parted c =
-    let at = (goal.at.returns-clause-parted c).After-call in
+parted : (c : After-unwrap) → HasParted c.args.pool.now c.call.new.self c.unwrap.result
+parted c =
+    let at = (goal.at.After-unwrap c).After-call in
     subst (λ (o : Option (Result (Unit {0}) EraSpent)). IfSome o (HasParted c.args.pool.now c.call.new.self)) c.unwrap.ensures
     (leave_parted c.args.pool.now c.requires.working c.requires.latch c.requires.dying c.new-leaving.result (made (goal.at.After-call at).After-new-leaving) c.call.new.self c.of.result.left c.call.new.life.left c.call.result (say at))
+
+pub returns-clause-parted : goal.returns-clause-parted
+returns-clause-parted c = parted (goal.at.returns-clause-parted c).After-unwrap
+
+pub returns-clause-roomy : goal.returns-clause-roomy
+returns-clause-roomy c young =
+    let p = c.args.pool.now in
+    let ran = c.call.ensures.ran in
+    let life : c.of.result.left ≤ 2 ^ 40 = let is = c.of.ensures in omega (arith, is) in
+    parted_ok p c.call.new.self c.unwrap.result (parted (goal.at.returns-clause-roomy c).After-unwrap) (young_room p c.call.new.self _ _ ran.run c.requires.working.work.who ran.start ran.made life young)

@@ -1,5 +1,5 @@
-use Rattle.std.proofs.Common.{◌≡◌, ℕ, ◌^◌, ◌<◌, ap, ◌∙◌, subst, arith, Option}
-use Rattle.std.specs.Prelude.{IfSome, IsSome, Result}
+use Rattle.std.proofs.Common.{◌≡◌, ◌^◌, ◌<◌, ◌≤◌, ap, ◌∙◌, subst, arith, Option}
+use Rattle.std.specs.Prelude.{IfSome, Result}
 use Rattle.shm_calls.specs.CallsControl.{calls_of}
 use Rattle.shm_calls.specs.CallsFit.{CallsFits, CallsGives}
 use Rattle.shm_count.specs.declared.answer.EraSpent.{EraSpent}
@@ -9,7 +9,8 @@ use Rattle.shm_recover.specs.Recover.{recover_plan}
 use Rattle.shm_plain.proofs.Called.{Called}
 use Rattle.shm_tree.specs.Ending.{IsRevived}
 use Rattle.shm_tree.proofs.Ending.{recover_answers, recover_control, recover_fits, recover_revived, recoverer}
-use Rattle.shm_tree.proofs.closing.recover_dead.Goals.{After-new-recovery, After-call}
+use Rattle.shm_tree.proofs.Roomy.{revived_ok, young_room}
+use Rattle.shm_tree.proofs.closing.recover_dead.Goals.{After-new-recovery, After-call, After-unwrap}
 use Rattle.shm_tree.proofs.closing.recover_dead.Goals as goal
 
 made : (c : After-new-recovery) → c.new-recovery.result ≡ recoverer c.args.pool.now
@@ -34,9 +35,20 @@ unwrap-requires c =
     let long : 2 ^ 38 < c.of.result.left = let life = c.of.ensures in omega arith in
     recover_answers c.args.pool.now c.me.ensures.run (who new) c.requires.fell c.new-recovery.result (made new) c.call.new.self c.of.result.left c.call.new.life.left c.call.result (say at) c.call.ensures.spent long
 
-pub returns-clause-revived : goal.returns-clause-revived
-returns-clause-revived c =
-    let at = (goal.at.returns-clause-revived c).After-call in
+revived : (c : After-unwrap) → IsRevived c.args.pool.now c.call.new.self c.unwrap.result
+revived c =
+    let at = (goal.at.After-unwrap c).After-call in
     let new = (goal.at.After-call at).After-new-recovery in
     subst (λ (o : Option (Result (Unit {0}) EraSpent)). IfSome o (IsRevived c.args.pool.now c.call.new.self)) c.unwrap.ensures
     (recover_revived c.args.pool.now c.me.ensures.run (who new) c.requires.fell c.new-recovery.result (made new) c.call.new.self c.of.result.left c.call.new.life.left c.call.result (say at))
+
+pub returns-clause-revived : goal.returns-clause-revived
+returns-clause-revived c = revived (goal.at.returns-clause-revived c).After-unwrap
+
+pub returns-clause-roomy : goal.returns-clause-roomy
+returns-clause-roomy c young =
+    let p = c.args.pool.now in
+    let ran = c.call.ensures.ran in
+    let life : c.of.result.left ≤ 2 ^ 40 = let is = c.of.ensures in omega (arith, is) in
+    revived_ok p c.call.new.self c.unwrap.result (revived (goal.at.returns-clause-roomy c).After-unwrap)
+    (young_room p c.call.new.self _ _ ran.run (who (goal.at.After-call (goal.at.returns-clause-roomy c).After-call).After-new-recovery) ran.start ran.made life young)

@@ -1,6 +1,5 @@
 use Rattle.std.proofs.Common.{◌≡◌, ℕ, ◌≤◌, ◌∙◌, subst, arith}
-use Rattle.shm_tree.specs.Sharing.{weight}
-use Rattle.shm_tree.specs.Standing.{Stands}
+use Rattle.shm_tree.specs.Standing.{Stands, weight}
 use Rattle.shm_tree.specs.Ways.{down}
 use Rattle.shm_tree.proofs.Answering.{node_still, reached_then}
 use Rattle.shm_tree.proofs.Building.{looked, looked_none, looked_then, went_on}

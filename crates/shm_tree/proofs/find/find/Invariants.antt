@@ -1,6 +1,5 @@
 use Rattle.std.proofs.Common.{ℕ, ◌<◌, ◌≤◌, ◌≡◌, ◌+◌, ◌*◌}
-use Rattle.shm_tree.specs.Sharing.{weight}
-use Rattle.shm_tree.specs.Standing.{Stands}
+use Rattle.shm_tree.specs.Standing.{Stands, weight}
 use Rattle.shm_tree.specs.Trees.{Tree}
 use Rattle.shm_tree.specs.Ways.{IsOther, down}
 use Rattle.shm_tree.specs.Working.{IsReached}

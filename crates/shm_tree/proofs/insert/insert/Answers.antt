@@ -4,7 +4,7 @@ use Rattle.shm_count.specs.declared.answer.Made.{Made}
 use Rattle.shm_tree.specs.Building.{IsCut}
 use Rattle.shm_tree.specs.declared.node.Side.{Side}
 use Rattle.shm_tree.specs.Inserting.{IsCheapAt, outside}
-use Rattle.shm_tree.specs.Sharing.{CountsTop, weight}
+use Rattle.shm_tree.specs.Sharing.{CountsTop}
 use Rattle.shm_tree.proofs.Growing.{down_tree}
 use Rattle.shm_tree.proofs.Lights.{blocks_up, level_few, level_tops, lowest_tops, outside_count, outside_new, outside_none, registered_same}
 use Rattle.shm_tree.proofs.LiveCounts.{spent_made}
@@ -12,7 +12,7 @@ use Rattle.shm_tree.proofs.Named.{lives_fresh, lives_stay}
 use Rattle.shm_tree.proofs.Sharings.{top_kept}
 use Rattle.shm_tree.proofs.Weights.{blocks_nodes, blocks_then, weight_nodes}
 use Rattle.shm_tree.specs.Keeping.{HasMade}
-use Rattle.shm_tree.specs.Standing.{Stands}
+use Rattle.shm_tree.specs.Standing.{Stands, weight}
 use Rattle.shm_tree.specs.Trees.{Tree, height, inserted}
 use Rattle.shm_tree.specs.Ways.{IsDeep, IsEnd, IsOther, down, toward}
 use Rattle.shm_tree.proofs.Building.{builds_cut, builds_died, builds_done, builds_from, built_after, built_cut, built_made, built_more, cut_made, cut_then, looked_none, made_more, refused_with, root_reached, rooms_rooted, rooms_still, still_cut, went_on}
@@ -21,9 +21,9 @@ use Rattle.shm_tree.proofs.Descents.{others_deep}
 use Rattle.shm_tree.proofs.Inserting.{built_held, built_up, held_kept, level_made, level_up, registered_at_hand, registered_kept}
 use Rattle.shm_tree.proofs.Nodes.{made_then}
 use Rattle.shm_tree.proofs.Ways.{down_lower, other_block, stands_one, tree_is}
-use Rattle.shm_tree.specs.Bounds.{insert_steps, lowest_steps, with_child_steps}
+use Rattle.shm_tree.specs.Bounds.{climb_steps, insert_steps, lowest_steps, with_child_steps}
 use Rattle.shm_tree.specs.Spending.{HasSpent}
-use Rattle.shm_tree.proofs.Spendings.{climbed_low, climbed_more, climbed_none, spent_call, spent_then}
+use Rattle.shm_tree.proofs.Spendings.{climbed_low, climbed_more, climbed_none, first_most, level_most, spent_call, spent_then}
 use Rattle.shm_tree.proofs.insert.insert.Goals as goal
 
 pub above-requires : goal.above-requires
@@ -96,7 +96,7 @@ levels-init c =
     (m.stands (down c.args.wanted t e) (f.place t st).stands (subst (λ (k : ℕ). IsEnd k (down c.args.wanted t e)) (sym key) (f.place t st).end)) in
     record {
       went = went_on run f.went m.builds.went;
-      spent = (let s = f.steps in climbed_none c.args.pool.now c.lowest.new.pool e (spent_then lowest_steps c.requires.working f.went m.builds.went (spent_call (5 * e + 2) f.went (omega (arith, s))) m.spent));
+      spent = (let s = f.steps in climbed_none c.args.pool.now c.lowest.new.pool e (spent_then lowest_steps c.requires.working f.went m.builds.went (spent_call (5 * e + 2) f.went (omega (arith, s))) m.builds.spent));
       working = m.builds.working;
       latch = m.builds.latch ∙ f.latch;
       low = omega arith;
@@ -148,11 +148,11 @@ levels-preserved c =
     (r.tops t st (subst (λ (n : ℕ). height (inserted x y (down x t n)) ≡ height (down x t n) + 1) (sym same) grew) s) in
     record {
       went = went_on run (went_on run r.went a.went) b.builds.went;
-      spent = (let s = a.steps in climbed_more p v (e - c.levels.depth) d e (e - d) (omega arith) (omega arith) (spent_then with_child_steps c.requires.working (went_on run r.went a.went) b.builds.went (spent_then (λ u. 5 * d) c.requires.working r.went a.went r.spent (spent_call (5 * d) a.went (omega (arith, s)))) b.spent));
+      spent = (let s = a.steps in climbed_more p v (e - c.levels.depth) d e (e - d) (omega arith) (omega arith) (spent_then with_child_steps c.requires.working (went_on run r.went a.went) b.builds.went (spent_then (λ u. 5 * d) c.requires.working r.went a.went r.spent (spent_call (5 * d) a.went (omega (arith, s)))) b.builds.spent));
       working = b.builds.working;
       latch = b.builds.latch ∙ (a.latch ∙ r.latch);
       low = omega arith;
-      built = built_more (1 + 3 * (e - c.levels.depth) + 3) (1 + 3 * (e - d)) (omega arith) (built_up run r.went.run r.went.start a.went.run a.went.start r.built a.still b.rebuilt);
+      built = built_more (1 + 3 * (e - c.levels.depth) + 3) (1 + 3 * (e - d)) (omega arith) (built_up run r.went.run r.went.start a.went.run a.went.start r.built a.still b.rebuilt (blocks_up r.built r.blocks a.still b.sharing));
       on = r.on;
       stands = λ t st. level_up v x y c.in_ok-node.node c.levels.made.block _ (down x t d) (r.on t st d (omega arith)) (here t st) (under t st) b.stands;
       made =
@@ -212,16 +212,15 @@ returns c =
     let some : HasMade (cost x y t) p q = subst (λ (n : ℕ). HasMade (cost x y (down x t n)) p q) none (r.made t st) in
     made_more (cost x y t) (height t + 3) p q some (cost_low x y t i.search i.balanced)) in
     record {
-      builds = λ t st. builds_done c.levels.made r.went r.working r.latch;
+      builds = λ t st. builds_done c.levels.made r.went r.working r.latch (spent t st);
       built =
           λ t st.
           built_made (height t + 3) r.built (made t st);
-      spent = spent;
-      steps = λ t st calm home trees. elim (spent_made (insert_steps (height t) p.start.geometry) (height t + 3) c.requires.working.run r.went.run r.went.start (lives_stay p q c.requires.working r.working r.went calm home trees r.built r.blocks) (made t st) (spent t st)) [ inl e ↦ absurd (calm e) | inr few ↦ few ];
+      steps = λ t st calm trees. elim (spent_made (insert_steps (height t) p.start.geometry) (height t + 3) c.requires.working.run r.went.run r.went.start (lives_stay p q c.requires.working r.working r.went calm trees r.built r.blocks) (made t st) (spent t st)) [ inl e ↦ absurd (calm e) | inr few ↦ few ];
       stands = stands;
       blocks = r.blocks;
       shares = shares;
-      lives = λ t st calm home trees. lives_fresh p q (height t + 1) c.args.tree t (inserted x y t) c.requires.working r.working calm home trees r.rests r.built r.blocks st (stands t st) (shares t st);
+      lives = λ t st calm trees. lives_fresh p q (height t + 1) c.args.tree t (inserted x y t) c.requires.working r.working calm trees r.rests r.built r.blocks st (stands t st) (shares t st);
       rests = r.rests;
     }
 
@@ -234,12 +233,17 @@ returns-in_err-place-clause-builds c =
 
 pub returns-in_err-made-clause-builds : goal.returns-in_err-made-clause-builds
 returns-in_err-made-clause-builds c =
-    let run = c.requires.working.run in
     let f = c.in_ok-place.ensures in
     let e = c.in_err-made.ensures.builds in
-    let cut = still_cut f.still in
-    λ t st. builds_from c.from_residual-in_err-made.result c.from_residual-in_err-made.ensures.1
-    (builds_cut Made 1 {T = Made} {n = 0} {k = height t + 3} _ (omega arith) run f.went f.latch cut e.went e.working e.latch e.refused e.cause e.died)
+    let x = c.args.wanted in
+    let n = c.in_ok-place.place.depth in
+    let s = f.steps in
+    let g = c.args.pool.now.start.geometry in
+    λ t st.
+    let low = down_lower x t n (others_deep x n t (f.place t st).on) in
+    let most = first_most (2 + lowest_steps g) (5 * height t + with_child_steps g) n (height t) (omega (arith, low)) in
+    builds_from c.from_residual-in_err-made.result c.from_residual-in_err-made.ensures.1
+    (builds_cut Made 1 lowest_steps {T = Made} {n = 0} {k = height t + 3} {a = 5 * n + 2} _ (omega arith) (omega (arith, most)) c.requires.working f.went f.latch (still_cut f.still) (spent_call (5 * n + 2) f.went (omega (arith, s))) e.went e.working e.latch e.refused e.spent e.cause e.died)
 
 pub returns-in_err-node-clause-builds : goal.returns-in_err-node-clause-builds
 returns-in_err-node-clause-builds c =
@@ -278,7 +282,12 @@ returns-in_err-made-2-clause-builds c =
     let is : cost x y (down x t d) ≡ i + j = cost_level x y (down x t d) o in
     let most : cost x y (down x t d) ≤ cost x y t = cost_down x y t d on in
     let few : cost x y t ≤ height t + 3 = cost_low x y t it.search it.balanced in
+    let s = a.steps in
+    let n = c.in_ok-place.place.depth in
+    let up = down_lower x t n (others_deep x n t (r.on t st)) in
+    let geo = p.start.geometry in
+    let levels = level_most (2 + lowest_steps geo) (with_child_steps geo) (n - c.levels.depth) d n (height t) (omega (arith, low, same)) (omega (arith, low, same)) (omega (arith, up)) in
     builds_from c.from_residual-in_err-made-2.result c.from_residual-in_err-made-2.ensures.1
-    (builds_cut Made j {T = Made} {n = i + 0} {k = height t + 3} _ (omega (arith, is, most, few)) run (went_on run r.went a.went) (a.latch ∙ r.latch) cut e.builds.went e.builds.working e.builds.latch
+    (builds_cut Made j with_child_steps {T = Made} {n = i + 0} {k = height t + 3} {a = climb_steps (n - c.levels.depth) n geo + 5 * d} _ (omega (arith, is, most, few)) (omega (arith, levels)) c.requires.working (went_on run r.went a.went) (a.latch ∙ r.latch) cut (spent_then (λ u. 5 * d) c.requires.working r.went a.went r.spent (spent_call (5 * d) a.went (omega (arith, s)))) e.builds.went e.builds.working e.builds.latch
     (refused_with Made (IsCut 3 w v) (IsCheapAt x c.in_ok-node.node c.levels.made.block w v) (IsCut j w v) _ (λ k one. cut_made j k (level_made x y c.in_ok-node.node c.levels.made.block (down x t d) o here under k.made one)) e.builds.refused e.cheap)
-    e.builds.cause e.builds.died)
+    e.builds.spent e.builds.cause e.builds.died)

@@ -1,6 +1,6 @@
 use Rattle.shm_tree.proofs.Resting.{rests_link}
 use Rattle.std.proofs.Common.{◌≡◌, ◌∙◌, lit≤, sym, ap, subst, arith}
-use Rattle.shm_tree.specs.Sharing.{IsSharing, weight}
+use Rattle.shm_tree.specs.Sharing.{IsSharing}
 use Rattle.shm_tree.proofs.Sharings.{sharing_after}
 use Rattle.shm_tree.proofs.Weights.{blocks_nodes, weigh_link, weight_nodes}
 use Rattle.shm_count.specs.declared.answer.Made.{Made}
@@ -8,12 +8,11 @@ use Rattle.shm_tree.specs.declared.node.Side.TheVariants.{Left}
 use Rattle.shm_tree.specs.Building.{IsBuilt}
 use Rattle.shm_tree.specs.Inserting.{StandsLowest, WeighsLowest, left_of, right_of}
 use Rattle.shm_tree.specs.Keeping.{HasTree, IsLinked}
-use Rattle.shm_tree.specs.Standing.{Stands}
+use Rattle.shm_tree.specs.Standing.{Stands, weight}
 use Rattle.shm_tree.specs.Trees.{Tree, Node, inserted}
 use Rattle.shm_tree.proofs.Building.{builds_from, born_built, builds_after, builds_died, builds_link, built_after, linked_some, looked, looked_none, ok_kept, rooms_some, rooms_still}
 use Rattle.shm_tree.proofs.Inserting.{inserted_low}
 use Rattle.shm_tree.specs.Bounds.{link_steps}
-use Rattle.shm_tree.proofs.Spendings.{ok_alive, spent_call, spent_then}
 use Rattle.shm_tree.proofs.insert.lowest.Goals as goal
 
 pub trees_of-requires : goal.trees_of-requires
@@ -49,9 +48,8 @@ returns c =
     let near : HasTree c.trees_of.new.pool c.in_ok-trees.trees.near = (left_of t.0, u.still.trees _ _ (u.near t.0 t.1)) in
     let far : HasTree c.trees_of.new.pool c.in_ok-trees.trees.far = (right_of t.0, u.still.trees _ _ (u.far t.0 t.1)) in
     record {
-      builds = builds_after 1 1 _ (lit≤ tt) run (looked u.went u.working u.latch u.still u.reaches) (builds_link _ _ _ l.went l.working l.latch l.grown l.cause l.died);
+      builds = (let e = u.steps in builds_after 1 1 6 link_steps _ (lit≤ tt) (omega arith) c.requires.working (looked u.went u.working u.latch u.still u.reaches) (omega (arith, e)) (builds_link _ _ _ l.went l.working l.latch l.grown l.steps l.cause l.died));
       built = ok_kept {T = Made} {P = λ m. IsLinked c.args.content Left c.in_ok-trees.trees m c.trees_of.new.pool c.link.new.pool} {Q = λ m. IsBuilt 1 m c.args.pool.now c.link.new.pool} _ (λ m b. built_after run u.went.run u.went.start u.still (born_built (linked_some b near far) b.born)) l.linked;
-      spent = (let e = u.steps in ok_kept _ (λ m b. spent_then link_steps c.requires.working u.went l.went (spent_call 6 u.went (omega (arith, e))) (spent_call (link_steps c.trees_of.new.pool.start.geometry) l.went b)) (ok_alive _ c.link.result l.steps));
       stands =
           ok_kept {T = Made} {P = λ m. IsLinked c.args.content Left c.in_ok-trees.trees m c.trees_of.new.pool c.link.new.pool} {Q = λ m. StandsLowest c.args.content.key c.args.content.number c.args.node m.block c.args.pool.now c.link.new.pool} _ (λ m b. λ v sv end.
           subst (Stands c.link.new.pool m.block) (sym (inserted_low c.args.content.key c.args.content.number v end)) (b.stands (left_of v) (right_of v) (u.still.trees _ _ (u.near v sv)) (u.still.trees _ _ (u.far v sv)))) l.linked;

@@ -2,10 +2,9 @@ use Rattle.std.proofs.Common.{◌≡◌, ℕ, ◌+◌, ◌≤◌, refl, sym, sub
 use Rattle.std.specs.Prelude.{IfOk}
 use Rattle.shm_plain.specs.Pools.{Pool}
 use Rattle.shm_tree.specs.declared.stop.Stop.{Stop}
-use Rattle.shm_tree.specs.Sharing.{weight}
 use Rattle.shm_tree.proofs.Lights.{none_light, trees_light}
 use Rattle.shm_tree.specs.Inserting.{left_of, right_of}
-use Rattle.shm_tree.specs.Standing.{Stands}
+use Rattle.shm_tree.specs.Standing.{Stands, weight}
 use Rattle.shm_tree.specs.Trees.{Tree}
 use Rattle.shm_tree.specs.Keeping.{child_of}
 use Rattle.shm_tree.specs.declared.node.Pair.{Pair}

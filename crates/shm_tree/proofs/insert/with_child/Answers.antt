@@ -10,7 +10,6 @@ use Rattle.shm_tree.proofs.Building.{alive_kept, alive_over, at_hand_still, buil
 use Rattle.shm_tree.proofs.Inserting.{cheap_up, held_kept, rebuilt_after, renewed_up}
 use Rattle.shm_tree.proofs.Rotations.{child_tree, node_of}
 use Rattle.shm_tree.specs.Bounds.{renewed_steps}
-use Rattle.shm_tree.proofs.Spendings.{spent_call, spent_then}
 use Rattle.shm_tree.proofs.insert.with_child.Goals as goal
 
 pub content_of-requires : goal.content_of-requires
@@ -42,9 +41,8 @@ returns c =
     let t = c.in_ok-middle.ensures in
     let run = c.requires.working.run in
     record {
-      builds = builds_after 3 3 _ (lit≤ tt) run (looked t.went t.working t.latch t.still t.reaches) c.renewed.ensures.builds;
+      builds = (let e = t.steps in builds_after 3 3 4 renewed_steps _ (lit≤ tt) (omega arith) c.requires.working (looked t.went t.working t.latch t.still t.reaches) (omega (arith, e)) c.renewed.ensures.builds);
       rebuilt = ok_kept _ (λ m b. rebuilt_after run t.went.run t.went.start t.still b) c.renewed.ensures.rebuilt;
-      spent = (let e = t.steps in ok_kept _ (λ m b. spent_then renewed_steps c.requires.working t.went c.renewed.ensures.builds.went (spent_call 4 t.went (omega (arith, e))) b) c.renewed.ensures.spent);
       stands = ok_kept {T = Made} {P = λ m. StandsOf (joined_by c.of.result c.in_ok-middle.middle) (record { near = c.args.below.block; far = child_of c.content_of.new.pool c.args.node (other_side c.of.result) }) m.block c.content_of.new.pool c.renewed.new.pool} {Q = λ m. StandsRenewed c.args.wanted c.args.node c.args.below.block m.block c.args.pool.now c.renewed.new.pool} _ (λ m b. renewed_up c.renewed.new.pool c.args.wanted c.args.node c.args.below.block m.block c.in_ok-middle.middle c.of.result c.of.ensures t.key t.number t.still.trees b) c.renewed.ensures.stands;
       cheap = alive_kept _ (λ b. cheap_up c.args.wanted c.args.node c.args.below.block c.in_ok-middle.middle c.of.result run t.went.run t.went.start c.of.ensures t.key t.still b) c.renewed.ensures.cheap;
       sharing = ok_kept _ (λ m b. sharing_over_after t.still b) c.renewed.ensures.sharing;

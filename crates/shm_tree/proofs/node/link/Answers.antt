@@ -1,17 +1,18 @@
-use Rattle.std.proofs.Common.{◌≡◌, ℕ, ◌+◌, max, ap, ◌∙◌, subst, arith}
+use Rattle.std.proofs.Common.{◌≡◌, ◌≢◌, ℕ, ◌+◌, max, ap, ◌∙◌, subst, arith}
 use Rattle.std.proofs.lemmas.Result.{err_from_is_err_and}
 use Rattle.shm_plain.specs.Pools.{Pool}
 use Rattle.shm_count.specs.declared.answer.Made.{Made}
 use Rattle.shm_tree.specs.declared.node.Content.{Content}
 use Rattle.shm_tree.specs.declared.node.Side.{Side}
 use Rattle.shm_tree.specs.declared.node.Side.TheVariants.{Left, Right}
-use Rattle.shm_tree.specs.Keeping.{HasGrown, IsBorn, IsMade, IsReferring, IsStill, child_of, other_side}
+use Rattle.shm_tree.specs.Keeping.{HasGrown, HasTree, IsBorn, IsMade, IsReferring, IsStill, child_of, other_side}
 use Rattle.shm_tree.specs.Standing.{Stands}
 use Rattle.shm_tree.specs.Trees.{Tree, height}
 use Rattle.shm_tree.specs.Working.{IsSameLatch, IsWorking, Reaches, Went}
 use Rattle.shm_tree.proofs.Answering.{alive_died, alive_map, cause_after, cause_died, reached_then, reaches_then, refused_died, refused_map, room_still, tree_still}
 use Rattle.shm_tree.proofs.Counts.{both_taken, node_taken, one_taken}
 use Rattle.shm_tree.proofs.Links.{born_grown, born_refers, born_still, heights_fit, linked_of, still_born, still_grown, still_then, went_then}
+use Rattle.shm_tree.proofs.Unnamed.{tree_other}
 use Rattle.shm_tree.proofs.node.link.Goals.{In_ok-near, In_ok-far, In_ok-made, In_ok-refer}
 use Rattle.shm_tree.proofs.node.link.Goals as goal
 
@@ -90,6 +91,16 @@ refer-requires-clause-named c = let r = c.in_ok-made.ensures.made.born.rooted in
 pub refer-requires-clause-empty : goal.refer-requires-clause-empty
 refer-requires-clause-empty c = bare c.height-2.new.pool c.make.new.pool c.in_ok-made.made c.args.content _ c.in_ok-made.ensures.made c.args.side
 
+pub refer-requires-clause-unnamed : goal.refer-requires-clause-unnamed
+refer-requires-clause-unnamed c = c.in_ok-made.ensures.unnamed
+
+-- the new node is none of the trees
+other : (c : In_ok-made) (b : ℕ) → HasTree c.args.pool.now b → b ≢ c.in_ok-made.made.block
+other c b t = tree_other c.args.pool.now c.in_ok-made.made.block b c.in_ok-made.ensures.made.node.some (born c).fresh t
+
+pub refer-requires-clause-other : goal.refer-requires-clause-other
+refer-requires-clause-other c = other (goal.at.refer-requires-clause-other c).In_ok-made c.args.trees.near c.requires.near
+
 pub refer-requires-clause-reached : goal.refer-requires-clause-reached
 refer-requires-clause-reached c = reached_then c.args.pool.now c.make.new.pool c.args.trees.near c.requires.near_reached (reaches_made (goal.at.refer-requires-clause-reached c).In_ok-made)
 
@@ -124,6 +135,12 @@ pub refer-requires-2-clause-empty : goal.refer-requires-2-clause-empty
 refer-requires-2-clause-empty c =
     ap (λ s. child_of c.refer.new.pool c.in_ok-made.made.block s) c.other.ensures
     ∙ (c.in_ok-refer.ensures.refers.other ∙ bare c.height-2.new.pool c.make.new.pool c.in_ok-made.made c.args.content _ c.in_ok-made.ensures.made (other_side c.args.side))
+
+pub refer-requires-2-clause-unnamed : goal.refer-requires-2-clause-unnamed
+refer-requires-2-clause-unnamed c = c.in_ok-refer.ensures.unnamed
+
+pub refer-requires-2-clause-other : goal.refer-requires-2-clause-other
+refer-requires-2-clause-other c = other (goal.at.refer-requires-2-clause-other c).In_ok-made c.args.trees.far c.requires.far
 
 pub refer-requires-2-clause-reached : goal.refer-requires-2-clause-reached
 refer-requires-2-clause-reached c = reached_then c.args.pool.now c.refer.new.pool c.args.trees.far c.requires.far_reached (reaches_one (goal.at.refer-requires-2-clause-reached c).In_ok-refer)

@@ -1,5 +1,9 @@
-use Rattle.std.proofs.Common.{◌≡◌, ◌<◌, ◌≤◌, refl, arith}
-use Rattle.shm_tree.proofs.Forests.{calls_none, dropped_calls, emptied_others, emptied_root, root_self}
+use Rattle.std.proofs.Common.{refl, arith}
+use Rattle.shm_tree.proofs.Costing.{costs_dropped, costs_none}
+use Rattle.shm_tree.proofs.Forests.{calls_none, dropped_calls, root_self}
+use Rattle.shm_tree.proofs.Moving.{emptied_others, emptied_root}
+use Rattle.shm_tree.specs.Bounds.{drop_steps}
+use Rattle.shm_tree.proofs.Refusals.{refused_both, spends_still}
 use Rattle.shm_tree.proofs.registers.emptied.Goals as goal
 
 pub returns-then-root-eq-NONE : goal.returns-then-root-eq-NONE
@@ -10,6 +14,8 @@ returns-then-root-eq-NONE c =
       others = λ k ne. refl;
       empty = λ lt. absurd (omega arith);
       still = tt;
+      costs = costs_none _ p c.args.life.now.left c.requires.working;
+      refused = tt;
     }
 
 pub returns-else-root-eq-NONE : goal.returns-else-root-eq-NONE
@@ -20,4 +26,6 @@ returns-else-root-eq-NONE c =
       others = emptied_others c.args.root c.args.pool.now c.drop_root.new.pool _ d.emptied;
       empty = emptied_root _ c.args.root c.args.pool.now c.drop_root.new.pool _ d.emptied;
       still = d.still;
+      costs = costs_dropped _ _ _ _ c.args.root _ d.working d.dropped d.steps;
+      refused = refused_both _ (λ s few. spends_still (drop_steps c.args.pool.now.start.geometry 0) d.went s few) d.still d.refused_steps;
     }

@@ -1,9 +1,17 @@
-use Rattle.std.proofs.Common.{◌≡◌, ◌≢◌, ◌∙◌, ◌<◌, ◌≤◌, ◌+◌, ℕ, sym, subst, arith, Err}
+use Rattle.std.proofs.Common.{◌≡◌, ◌∙◌, ◌≤◌, ◌+◌, ℕ, sym, subst, arith}
+use Rattle.shm_words.specs.declared.geometry.Geometry.{Geometry}
+use Rattle.shm_tree.specs.Bounds.{insert_steps}
 use Rattle.shm_tree.specs.Forests.{block_in}
+use Rattle.shm_tree.specs.Trees.{Tree, height}
+use Rattle.shm_tree.specs.Standing.{IsTree}
+use Rattle.shm_tree.proofs.Costing.{costs_built, costs_still, few_between}
 use Rattle.shm_tree.specs.Standing.{Stands}
 use Rattle.shm_count.specs.declared.answer.Made.{Made}
 use Rattle.shm_tree.proofs.Building.{rooms_still, went_on}
-use Rattle.shm_tree.proofs.Forests.{Quiet, calls_died, calls_from, is_over_is, is_over_not, alive_is, planted_grows, planted_rooted, planted_stop, planted_tree, quiet, quiet_then, registered, root_still}
+use Rattle.shm_tree.proofs.Forests.{Quiet, calls_died, calls_from, planted_grows, planted_rooted, planted_stop, quiet, quiet_then, root_still}
+use Rattle.shm_tree.proofs.Moving.{is_over_is, is_over_not, alive_is, planted_tree, refused_is, refused_when, registered}
+use Rattle.shm_tree.proofs.Answering.{refused_died}
+use Rattle.shm_tree.proofs.Refusals.{handed_over, stopped_spends}
 use Rattle.shm_tree.proofs.registers.planted.Goals.{In_ok-tree}
 use Rattle.shm_tree.proofs.registers.planted.Goals as goal
 
@@ -101,3 +109,58 @@ release-requires-clause-latch c =
 
 pub returns-in_ok-release-in-Ok-clause-some : goal.returns-in_ok-release-in-Ok-clause-some
 returns-in_ok-release-in-Ok-clause-some c = (c.in-Ok.ensures.built c.requires.tree.0 (stands (goal.at.returns-in_ok-release-in-Ok-clause-some c).In_ok-tree)).some
+
+stands_of : (c : In_ok-tree) (t : Tree) → IsTree c.args.pool.now (block_in c.args.pool.now c.args.root) t → Stands c.tree_in.new.pool c.in_ok-tree.tree t
+stands_of c t w = subst (λ (b : ℕ). Stands c.tree_in.new.pool b t) (sym (named c)) ((looks c).still.trees (block_in c.args.pool.now c.args.root) t w.stands)
+
+looks_few : (c : In_ok-tree) → c.args.life.now.left ≤ c.tree_in.new.life.left + 3
+looks_few c = let one = c.in_ok-hold.ensures.steps in let two = c.in_ok-tree.ensures.steps in omega (arith, one, two)
+
+pub returns-in_ok-release-in-Ok-clause-costs : goal.returns-in_ok-release-in-Ok-clause-costs
+returns-in_ok-release-in-Ok-clause-costs c =
+    let d = (goal.at.returns-in_ok-release-in-Ok-clause-costs c).In_ok-tree in
+    let e = c.in-Ok.ensures in
+    let r = c.in_ok-release-in-Ok.ensures in
+    λ t w.
+    let st = stands_of d t w in
+    let b = e.builds t st in
+    let s = r.steps in
+    costs_built (λ (g : Geometry). insert_steps (height t) g) c.requires.working (looks d) (looks_few d) b.working b.went (e.built t st).made b.spent e.rests (quiet r.went r.working r.still) (omega (arith, s))
+
+pub returns-in_ok-release-in-Ok-clause-few : goal.returns-in_ok-release-in-Ok-clause-few
+returns-in_ok-release-in-Ok-clause-few c =
+    let d = (goal.at.returns-in_ok-release-in-Ok-clause-few c).In_ok-tree in
+    let e = c.in-Ok.ensures in
+    let r = c.in_ok-release-in-Ok.ensures in
+    let l = looks d in
+    λ t w.
+    let st = stands_of d t w in
+    let b = e.builds t st in
+    let s = r.steps in
+    few_between (height t + 1) c.requires.working l.working b.working r.working l.went b.went r.went (costs_still 3 l.went l.still (looks_few d)) (e.lives t st) (costs_still 3 r.went r.still (omega (arith, s)))
+
+-- it was refused, or no word step was left
+pub returns-in_err-hold-clause-refused : goal.returns-in_err-hold-clause-refused
+returns-in_err-hold-clause-refused c = handed_over _ c.from_residual.result c.from_residual.ensures.1 c.in_err-hold.ensures.died.0
+
+pub returns-in_err-tree-clause-refused : goal.returns-in_err-tree-clause-refused
+returns-in_err-tree-clause-refused c = handed_over _ c.from_residual-in_err-tree.result c.from_residual-in_err-tree.ensures.1 c.in_err-tree.ensures.died.0
+
+pub returns-in_err-release-in-Ok-clause-refused : goal.returns-in_err-release-in-Ok-clause-refused
+returns-in_err-release-in-Ok-clause-refused c = handed_over _ c.from_residual-in_err-release-in-Ok.result c.from_residual-in_err-release-in-Ok.ensures.1 c.in_err-release-in-Ok.ensures.died.0
+
+pub returns-in_err-release-in-Err-clause-refused : goal.returns-in_err-release-in-Err-clause-refused
+returns-in_err-release-in-Err-clause-refused c = handed_over _ c.from_residual-in_err-release-in-Err.result c.from_residual-in_err-release-in-Err.ensures.1 c.in_err-release-in-Err.ensures.died.0
+
+pub returns-then-is_over-clause-refused : goal.returns-then-is_over-clause-refused
+returns-then-is_over-clause-refused c = refused_died Made _ c.in-Err.why (is_over_is c.in-Err.why (sym c.is_over.ensures ∙ c.if-is_over.true))
+
+pub returns-in_ok-release-in-Err-clause-refused : goal.returns-in_ok-release-in-Err-clause-refused
+returns-in_ok-release-in-Err-clause-refused c =
+    let d = (goal.at.returns-in_ok-release-in-Err-clause-refused c).In_ok-tree in
+    let ne = is_over_not c.in-Err.why (sym c.is_over.ensures ∙ c.if-is_over.false) in
+    let r = c.in_ok-release-in-Err.ensures in
+    let s = r.steps in
+    refused_when Made c.in-Err.why (λ alive t w.
+    let b = c.in-Err.ensures.builds t (stands_of d t w) in
+    stopped_spends (λ (g : Geometry). insert_steps (height t) g) c.requires.working (looks d) (looks_few d) (alive_is Made c.in-Err.why alive b.working) b.went (refused_is Made c.in-Err.why alive b.refused).made (alive_is Made c.in-Err.why alive b.spent) (quiet r.went r.working r.still) (omega (arith, s)))

@@ -1,6 +1,11 @@
-use Rattle.std.proofs.Common.{◌≡◌, ◌∙◌, sym}
+use Rattle.std.proofs.Common.{◌≡◌, ◌∙◌, ℕ, sym, subst, arith}
+use Rattle.shm_tree.specs.Costing.{read_steps}
+use Rattle.shm_tree.specs.Forests.{block_in}
+use Rattle.shm_tree.specs.Standing.{Stands}
+use Rattle.shm_tree.specs.Trees.{height}
 use Rattle.shm_tree.proofs.Building.{went_on}
-use Rattle.shm_tree.proofs.Forests.{Quiet, quiet, quiet_then}
+use Rattle.shm_tree.proofs.Costing.{costs_still}
+use Rattle.shm_tree.proofs.Forests.{Quiet, quiet, quiet_then, root_still}
 use Rattle.shm_tree.proofs.registers.read.Goals.{In_ok-number}
 use Rattle.shm_tree.proofs.registers.read.Goals as goal
 
@@ -31,3 +36,22 @@ pub returns-clause-still : goal.returns-clause-still
 returns-clause-still c =
     let r = c.in_ok-release.ensures in
     (quiet_then c.requires.working (looks (goal.at.returns-clause-still c).In_ok-number) (quiet r.went r.working r.still)).still
+
+pub returns-clause-costs : goal.returns-clause-costs
+returns-clause-costs c =
+    let d = (goal.at.returns-clause-costs c).In_ok-number in
+    let w = c.requires.working in
+    let h = c.in_ok-hold.ensures in
+    let t = c.in_ok-tree.ensures in
+    let n = c.in_ok-number.ensures in
+    let r = c.in_ok-release.ensures in
+    let b : ℕ = block_in c.args.pool.now c.args.root in
+    let named : c.in_ok-tree.tree ≡ b = t.names ∙ (root_still c.args.root h.still).same in
+    let first = quiet_then w (quiet h.went h.working h.still) (quiet t.went t.working t.still) in
+    let all = quiet_then w (looks d) (quiet r.went r.working r.still) in
+    λ u st.
+    let few = n.steps u (subst (λ (k : ℕ). Stands c.tree_in.new.pool k u) (sym named) (first.still.trees b u st)) in
+    let one = h.steps in
+    let two = t.steps in
+    let three = r.steps in
+    costs_still (read_steps (height u)) all.went all.still (omega (arith, few, one, two, three))

@@ -10,7 +10,6 @@ use Rattle.shm_tree.proofs.Building.{at_hand_still, builds_from, builds_after, b
 use Rattle.shm_tree.proofs.Fallings.{rests_read}
 use Rattle.shm_tree.proofs.Removing.{again_up, rebuilt_over_after, sharing_after_read, some_held}
 use Rattle.shm_tree.proofs.Rotations.{child_tree, node_of}
-use Rattle.shm_tree.proofs.Spendings.{spent_call, spent_then}
 use Rattle.shm_tree.proofs.remove.raise.Goals as goal
 
 pub content_of-requires : goal.content_of-requires
@@ -47,12 +46,11 @@ returns c =
     let run = c.requires.working.run in
     let n = c.renewed.ensures in
     record {
-      builds = builds_after 3 3 _ (lit≤ tt) run (looked t.went t.working t.latch t.still t.reaches) n.builds;
+      builds = (let e = t.steps in builds_after 3 3 4 renewed_steps _ (lit≤ tt) (omega arith) c.requires.working (looked t.went t.working t.latch t.still t.reaches) (omega (arith, e)) n.builds);
       rebuilt = ok_kept {T = Made} {P = λ m. IsRebuilt 3 c.args.below m q r} {Q = λ m. IsRebuilt 3 c.args.below m p r} _ (λ m b. rebuilt_over_after c.args.below run t.went.run t.went.start t.still b) n.rebuilt;
       stands =
           ok_kept {T = Made} {P = λ m. StandsOf (joined_by s c.content_or.result) (record { near = block_of c.args.below; far = child_of q c.args.node (other_side s) }) m.block q r} {Q = λ m. StandsAgain c.args.wanted c.args.told c.args.node (block_of c.args.below) m.block p r} _
           (λ m b. again_up r c.args.wanted c.args.node (block_of c.args.below) m.block c.args.told c.in_ok-own.own c.content_or.result s c.requires.some c.content_or.ensures c.of-side.ensures t.key t.number t.still.trees b) n.stands;
       sharing = ok_kept {T = Made} {P = λ m. IsSharingOver c.args.below m q r} {Q = λ m. IsSharingOver c.args.below m p r} _ (λ m b. sharing_after_read c.args.below t.still b) n.sharing;
-      spent = (let e = t.steps in ok_kept _ (λ m b. spent_then renewed_steps c.requires.working t.went n.builds.went (spent_call 4 t.went (omega (arith, e))) b) n.spent);
       rests = rests_read c.renewed.result p q r t.working t.still n.builds n.rests;
     }

@@ -1,13 +1,11 @@
-use Rattle.std.proofs.Common.{◌+◌, ◌≤◌, lit≤, sym, subst, arith}
+use Rattle.std.proofs.Common.{lit≤, sym, subst, arith}
 use Rattle.std.specs.Prelude.{Option}
 use Rattle.shm_count.specs.declared.answer.Made.{Made}
-use Rattle.shm_tree.specs.Bounds.{remnant_steps, share_steps}
-use Rattle.shm_tree.specs.Building.{block_of}
+use Rattle.shm_tree.specs.Bounds.{share_steps}
+use Rattle.shm_tree.specs.Building.{KeepsBlocks, block_of}
 use Rattle.shm_tree.specs.Keeping.{HasTree, child_of}
 use Rattle.shm_tree.specs.Removing.{IsKept, StandsMoved}
-use Rattle.shm_tree.specs.Sharing.{KeepsBlocks}
 use Rattle.shm_tree.proofs.Building.{builds_after, builds_died, builds_from, looked, looked_none, ok_kept, rooms_still, still_cut, tree_still}
-use Rattle.shm_tree.proofs.Counts.{at_start}
 use Rattle.shm_tree.proofs.Fallings.{rests_read}
 use Rattle.shm_tree.proofs.Removing.{kept_after, moved_after}
 use Rattle.shm_tree.proofs.Rotations.{child_tree, node_of}
@@ -40,12 +38,9 @@ returns c =
     let s = c.shared.ensures in
     let run = c.requires.working.run in
     record {
-      builds = builds_after 0 0 _ (lit≤ tt) run (looked u.went u.working u.latch u.still u.reaches) s.builds;
+      builds = (let one = u.steps in builds_after 0 0 3 share_steps _ (lit≤ tt) (omega arith) c.requires.working (looked u.went u.working u.latch u.still u.reaches) (omega (arith, one)) s.builds);
       kept = ok_kept {T = Option Made} {P = λ o. IsKept 0 o q r} {Q = λ o. IsKept 0 o p r} _ (λ o b. kept_after 0 p q r o run u.went.run u.went.start u.still b) s.kept;
       stands = ok_kept {T = Option Made} {P = λ o. StandsMoved c.in_ok-tree.tree (block_of o) q r} {Q = λ o. StandsMoved (child_of p c.args.node c.args.side) (block_of o) p r} _ (λ o b. moved_after r (child_of p c.args.node c.args.side) c.in_ok-tree.tree (block_of o) u.still u.names b) s.stands;
       blocks = ok_kept {T = Option Made} {P = λ o. KeepsBlocks q r} {Q = λ o. KeepsBlocks p r} _ (λ o b. blocks_then r (still_cut u.still) (blocks_nodes u.still.nodes) b) s.blocks;
       rests = rests_read c.shared.result p q r u.working u.still s.builds s.rests;
-      steps =
-          ok_kept {T = Option Made} {P = λ o. c.child.new.life.left ≤ c.shared.new.life.left + share_steps q.start.geometry} {Q = λ o. c.args.life.now.left ≤ c.shared.new.life.left + remnant_steps p.start.geometry} _
-          (λ o b. let k = at_start share_steps p q c.child.new.life.left c.shared.new.life.left u.went.start b in let one = u.steps in omega (arith, k, one)) s.steps;
     }

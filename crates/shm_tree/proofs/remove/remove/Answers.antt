@@ -4,7 +4,7 @@ use Rattle.shm_count.specs.declared.answer.Made.{Made}
 use Rattle.shm_tree.specs.declared.node.Content.{Content}
 use Rattle.shm_tree.specs.declared.node.Side.{Side}
 use Rattle.shm_tree.specs.declared.remove.Removed.{Removed}
-use Rattle.shm_tree.specs.Bounds.{remnant_steps, remove_steps, with_child_steps}
+use Rattle.shm_tree.specs.Bounds.{fall_steps, remnant_steps, remove_steps, with_child_steps}
 use Rattle.shm_tree.specs.Building.{IsCut, block_of}
 use Rattle.shm_tree.specs.Removing.{again, rest, side_tree}
 use Rattle.shm_tree.specs.Spending.{HasSpent}
@@ -20,7 +20,7 @@ use Rattle.shm_tree.proofs.Levels.{IsWay, rest_last, rest_level, rest_top, told}
 use Rattle.shm_tree.proofs.LiveCounts.{spent_made}
 use Rattle.shm_tree.proofs.Removing.{cut_at_hand, cut_stands, kept_after, kept_blocks_up, kept_cut, kept_held, kept_more, kept_rooms, kept_up, lowest_way, side_stands, some_block, some_held, way_found}
 use Rattle.shm_tree.proofs.Resting.{rests_still, rests_then}
-use Rattle.shm_tree.proofs.Spendings.{spent_call, spent_then}
+use Rattle.shm_tree.proofs.Spendings.{first_most, level_most, spent_call, spent_then}
 use Rattle.shm_tree.proofs.Ways.{down_found, down_lower, end_none, stands_one}
 use Rattle.shm_tree.proofs.Weights.{blocks_nodes, blocks_then}
 use Rattle.shm_tree.proofs.remove.remove.Goals as goal
@@ -43,17 +43,16 @@ returns-then-place-eq0 c =
     let x = c.args.wanted in
     let a = c.in_ok-place.place.depth in
     record {
-      builds = λ t st. builds_done None f.went f.working f.latch;
-      lives = λ t st. made_few (3 * height t) c.args.pool.now c.find.new.pool c.requires.working.run f.went.run f.went.start (made_more 0 (3 * height t) c.args.pool.now c.find.new.pool f.still.made (omega arith));
-      removed = λ t st. (let w = f.place t st in (down_found x t c.in_ok-place.place.depth w.on ∙ sym (end_none c.find.new.pool c.in_ok-place.place.node x _ w.stands (omega arith)), f.still));
-      blocks = blocks_nodes f.still.nodes;
-      spent =
+      builds =
           λ t st.
           (let s = f.steps in
           let low = down_lower x t a (others_deep x a t (f.place t st).on) in
-          spent_call (remove_steps (height t) c.args.pool.now.start.geometry) f.went (omega (arith, s, low)));
+          builds_done None f.went f.working f.latch (spent_call (remove_steps (height t) c.args.pool.now.start.geometry) f.went (omega (arith, s, low))));
+      lives = λ t st. made_few (3 * height t) c.args.pool.now c.find.new.pool c.requires.working.run f.went.run f.went.start (made_more 0 (3 * height t) c.args.pool.now c.find.new.pool f.still.made (omega arith));
+      removed = λ t st. (let w = f.place t st in (down_found x t c.in_ok-place.place.depth w.on ∙ sym (end_none c.find.new.pool c.in_ok-place.place.node x _ w.stands (omega arith)), f.still));
+      blocks = blocks_nodes f.still.nodes;
       steps =
-          λ t st calm home trees.
+          λ t st calm trees.
           (let s = f.steps in
           let low = down_lower x t a (others_deep x a t (f.place t st).on) in
           omega (arith, s, low));
@@ -132,10 +131,22 @@ returns-in_err-made-clause-builds c =
     let l = c.in_ok-lowest.ensures in
     let n = c.in_ok-next.ensures in
     let run = c.requires.working.run in
-    let e = c.in_err-made.ensures.builds in
+    let r = c.in_err-made.ensures.builds in
+    let x = c.args.wanted in
+    let a = c.in_ok-place.place.depth in
+    let e = c.in_ok-lowest.lowest.depth in
+    let g = c.args.pool.now.start.geometry in
+    let s1 = f.steps in
+    let s2 = l.steps in
+    let s3 = n.steps in
+    let below = l.below in
     let read = looked_then run (looked_then run (looked f.went f.working f.latch f.still f.reaches) (looked l.went l.working l.latch l.still l.reaches)) (looked n.went n.working n.latch n.still n.reaches) in
-    λ t st. builds_from c.from_residual-in_err-made.result c.from_residual-in_err-made.ensures.1
-    (builds_cut (Option Made) 0 {T = Option Removed} {n = 0} {k = 3 * height t} _ (omega arith) run read.went read.latch (still_cut read.still) e.went e.working e.latch e.refused e.cause e.died)
+    λ t st.
+    let way = (lowest_way x a e c.in_ok-place.place.node c.in_ok-lowest.lowest.node c.requires.tree l.below f.place l.last t st).0 in
+    let lower = down_lower x t (suc e) way.deep in
+    let most = first_most (9 + remnant_steps g) (5 * height t + with_child_steps g) e (height t) (omega (arith, lower)) in
+    builds_from c.from_residual-in_err-made.result c.from_residual-in_err-made.ensures.1
+    (builds_cut (Option Made) 0 remnant_steps {T = Option Removed} {n = 0} {k = 3 * height t} {a = 5 * e + 9} _ (omega arith) (omega (arith, most)) c.requires.working read.went read.latch (still_cut read.still) (spent_call (5 * e + 9) read.went (omega (arith, s1, s2, s3, below))) r.went r.working r.latch r.refused r.spent r.cause r.died)
 
 pub levels-init : goal.levels-init
 levels-init c =
@@ -178,7 +189,7 @@ levels-init c =
           let s2 = l.steps in
           let s3 = n.steps in
           let below = l.below in
-          fallen_none p r e (spent_then remnant_steps c.requires.working read.went m.builds.went (spent_call (5 * e + 9) read.went (omega (arith, s1, s2, s3, below))) (spent_call (remnant_steps q.start.geometry) m.builds.went m.steps)));
+          fallen_none p r e (spent_then remnant_steps c.requires.working read.went m.builds.went (spent_call (5 * e + 9) read.went (omega (arith, s1, s2, s3, below))) m.builds.spent));
     }
 
 pub above-requires : goal.above-requires
@@ -254,7 +265,7 @@ levels-preserved c =
       working = b.builds.working;
       latch = b.builds.latch ∙ (h.latch ∙ r.latch);
       low = omega (arith, low, same);
-      kept = built_more (3 * (e - c.levels.depth) + 3) (3 * (e - d)) (omega (arith, low, same)) (kept_up (3 * (e - c.levels.depth)) o run r.went.run r.went.start h.went.run h.went.start r.kept h.still b.rebuilt);
+      kept = built_more (3 * (e - c.levels.depth) + 3) (3 * (e - d)) (omega (arith, low, same)) (kept_up (3 * (e - c.levels.depth)) o run r.went.run r.went.start h.went.run h.went.start r.kept h.still b.rebuilt (kept_blocks_up (3 * (e - c.levels.depth)) o r.kept r.blocks h.still b.sharing));
       way = r.way;
       stands =
           λ t st.
@@ -270,7 +281,7 @@ levels-preserved c =
       spent =
           (let s = h.steps in
           fallen_more p v (e - c.levels.depth) d e (e - d) (omega (arith, low, same)) (omega (arith, low, same))
-          (spent_then with_child_steps c.requires.working (went_on run r.went h.went) b.builds.went (spent_then (λ u. 5 * d) c.requires.working r.went h.went r.spent (spent_call (5 * d) h.went (omega (arith, s)))) b.spent));
+          (spent_then with_child_steps c.requires.working (went_on run r.went h.went) b.builds.went (spent_then (λ u. 5 * d) c.requires.working r.went h.went r.spent (spent_call (5 * d) h.went (omega (arith, s)))) b.builds.spent));
     }
 
 pub returns-in_err-over-clause-builds : goal.returns-in_err-over-clause-builds
@@ -283,11 +294,16 @@ returns-in_err-over-clause-builds c =
     let x = c.args.wanted in
     let end = c.in_ok-lowest.lowest.depth in
     let low = r.low in
+    let d = c.levels.depth - 1 in
+    let same : c.levels.depth ≡ suc d = omega arith in
+    let s = h.steps in
+    let g = c.args.pool.now.start.geometry in
     let cut = cut_then run r.went.run r.went.start (kept_cut o r.kept) (still_cut h.still) in
     λ t st.
     let lower = down_lower x t (suc end) (r.way t st).deep in
+    let levels = level_most (9 + remnant_steps g) (with_child_steps g) (end - c.levels.depth) d end (height t) (omega (arith, low, same)) (omega (arith, low, same)) (omega (arith, lower)) in
     builds_from c.from_residual-in_err-over.result c.from_residual-in_err-over.ensures.1
-    (builds_cut Made 3 {T = Option Removed} {n = 3 * (end - c.levels.depth) + 0} {k = 3 * height t} _ (omega (arith, low, lower)) run (went_on run r.went h.went) (h.latch ∙ r.latch) cut e.went e.working e.latch e.refused e.cause e.died)
+    (builds_cut Made 3 with_child_steps {T = Option Removed} {n = 3 * (end - c.levels.depth) + 0} {k = 3 * height t} {a = fall_steps (end - c.levels.depth) end g + 5 * d} _ (omega (arith, low, lower)) (omega (arith, levels)) c.requires.working (went_on run r.went h.went) (h.latch ∙ r.latch) cut (spent_then (λ u. 5 * d) c.requires.working r.went h.went r.spent (spent_call (5 * d) h.went (omega (arith, s)))) e.went e.working e.latch e.refused e.spent e.cause e.died)
 
 pub returns : goal.returns
 returns c =
@@ -303,7 +319,7 @@ returns c =
     let spent : (t : Tree) → Stands p c.args.tree t → HasSpent (remove_steps (height t) p.start.geometry) p q c.args.life.now.left c.levels.life.left =
     λ t st. (let lower = down_lower x t (suc e) (r.way t st).deep in fallen_low p q (e - c.levels.depth) e (height t) (omega (arith, none)) (omega (arith, lower)) r.spent) in
     record {
-      builds = λ t st. builds_done (Some (record { tree = o })) r.went r.working r.latch;
+      builds = λ t st. builds_done (Some (record { tree = o })) r.went r.working r.latch (spent t st);
       removed =
           λ t st.
           (let y = r.way t st in
@@ -315,9 +331,8 @@ returns c =
           });
       blocks = r.blocks;
       lives = λ t st. made_few (3 * height t) p q c.requires.working.run r.went.run r.went.start (cut t st).made;
-      spent = spent;
       steps =
-          λ t st calm home trees. elim (spent_made (remove_steps (height t) p.start.geometry) (3 * height t) c.requires.working.run r.went.run r.went.start (cut_stay p q c.requires.working r.working r.went calm home trees (cut t st) r.blocks) (cut t st).made (spent t st)) [
+          λ t st calm trees. elim (spent_made (remove_steps (height t) p.start.geometry) (3 * height t) c.requires.working.run r.went.run r.went.start (cut_stay p q c.requires.working r.working r.went calm trees (cut t st) r.blocks) (cut t st).made (spent t st)) [
             | inl e ↦ absurd (calm e)
             | inr few ↦ few
           ];

@@ -1,10 +1,12 @@
 use Rattle.std.proofs.Common.{lit≤, refl, arith}
 use Rattle.std.specs.Prelude.{Option, None, Some}
 use Rattle.shm_count.specs.declared.answer.Made.{Made}
-use Rattle.shm_tree.proofs.Building.{builds_cut, builds_done, builds_from, looked_none, rooms_some, still_cut, still_cuts}
+use Rattle.shm_tree.specs.Bounds.{share_steps}
+use Rattle.shm_tree.proofs.Building.{builds_cut, builds_done, builds_from, looked_none, rooms_some, spent_calls, still_cut, still_cuts}
 use Rattle.shm_tree.proofs.Fallings.{rests_shared}
 use Rattle.shm_tree.proofs.Removing.{kept_none, kept_share, moved_none, moved_share}
 use Rattle.shm_tree.proofs.Resting.{rests_still}
+use Rattle.shm_tree.proofs.Spendings.{spent_call}
 use Rattle.shm_tree.proofs.Weights.{blocks_nodes}
 use Rattle.shm_tree.proofs.remove.shared.Goals as goal
 
@@ -12,12 +14,11 @@ pub returns-then-tree-eq0 : goal.returns-then-tree-eq0
 returns-then-tree-eq0 c =
     let n = looked_none c.args.pool.now c.args.life.now.left c.requires.working in
     record {
-      builds = builds_done None n.went c.requires.working refl;
+      builds = builds_done None n.went c.requires.working refl (spent_call (share_steps c.args.pool.now.start.geometry) n.went (omega arith));
       kept = kept_none n.still;
       stands = moved_none c.args.pool.now c.args.tree (omega arith);
       blocks = λ f j t low st. refl;
       rests = rests_still n.still;
-      steps = omega arith;
     }
 
 pub share-requires : goal.share-requires
@@ -28,18 +29,16 @@ returns c =
     let s = c.in_ok-made.ensures in
     let m = c.in_ok-made.made in
     record {
-      builds = builds_done (Some m) s.went s.working s.latch;
+      builds = builds_done (Some m) s.went s.working s.latch (spent_call (share_steps c.args.pool.now.start.geometry) s.went s.steps);
       kept = kept_share c.args.tree s.block (λ e. omega arith) s.shared;
       stands = moved_share m.root c.args.tree m.block s.block s.shared;
       blocks = blocks_nodes s.shared.nodes;
       rests = rests_shared s.shared;
-      steps = s.steps;
     }
 
 pub returns-in_err-made-clause-builds : goal.returns-in_err-made-clause-builds
 returns-in_err-made-clause-builds c =
-    let run = c.requires.working.run in
     let e = c.in_err-made.ensures in
     let n = looked_none c.args.pool.now c.args.life.now.left c.requires.working in
     builds_from c.from_residual.result c.from_residual.ensures.1
-    (builds_cut Made 0 {T = Option Made} {n = 0} {k = 0} _ (lit≤ tt) run n.went refl (still_cut n.still) e.went e.working e.latch (still_cuts Made _ _ _ e.still) e.cause e.died)
+    (builds_cut Made 0 share_steps {T = Option Made} {n = 0} {k = 0} _ (lit≤ tt) (omega arith) c.requires.working n.went refl (still_cut n.still) (spent_call 0 n.went (omega arith)) e.went e.working e.latch (still_cuts Made _ _ _ e.still) (spent_calls Made _ _ e.went e.steps) e.cause e.died)

@@ -1,10 +1,16 @@
-use Rattle.std.proofs.Common.{◌≡◌, ◌∙◌, sym, refl, false, ◌<◌, ◌≤◌, arith, ap, subst, ℕ}
+use Rattle.std.proofs.Common.{◌≡◌, ◌∙◌, true, false, ◌+◌, ◌<◌, arith, subst, ℕ}
 use Rattle.std.specs.Prelude.{slice_index}
 use Rattle.shm_count.specs.declared.answer.Made.{Made}
+use Rattle.shm_words.specs.declared.geometry.Geometry.{Geometry}
+use Rattle.shm_tree.specs.Bounds.{drop_steps}
+use Rattle.shm_tree.specs.Costing.{copied_steps, copy_steps, sweep_steps}
 use Rattle.shm_tree.specs.Forests.{block_in, version}
 use Rattle.shm_tree.specs.Standing.{IsTree}
-use Rattle.shm_tree.proofs.Building.{went_on}
-use Rattle.shm_tree.proofs.Forests.{made_alone, made_forest, made_spare, made_tree, made_versions, moves_after, moves_from, moves_stop, nothing_spare, nothing_tree, put_done, registers_named, calls_kept, copied_tree, untold}
+use Rattle.shm_tree.proofs.Building.{ok_any, went_on}
+use Rattle.shm_tree.proofs.Costing.{cleared_costs, copy_costs}
+use Rattle.shm_tree.proofs.Forests.{registers_named, registers_then, registers_versions, calls_kept, untold}
+use Rattle.shm_tree.proofs.Moving.{made_alone, made_forest, made_kept, made_spare, made_tree, made_versions, moves_after, moves_from, moves_stop, nothing_spare, nothing_tree, put_done, copied_tree}
+use Rattle.shm_tree.proofs.Refusals.{all_of, first_of, first_of_three, handed, none_least, outer_two, refused_kept, spends_more, spends_of, spends_then}
 use Rattle.shm_tree.proofs.Spares.{rooms_tidy}
 use Rattle.shm_tree.proofs.registers.Registers.copy.Goals as goal
 
@@ -67,11 +73,18 @@ returns c =
     let same = made_versions g q m x s.tidy p.calls p.rooted p.some in
     let low = x.low c.args.from c.requires.from in
     record {
-      moves = moves_after _ c.requires.forest (went_on c.requires.forest.working.run s.moves.went p.calls.went) (λ ts v. same ts (s.same ts v)) o.moves;
+      moves = moves_after _ c.requires.forest (went_on c.requires.forest.working.run s.moves.went p.calls.went) (registers_then s.same (made_kept g q m x s.tidy p.calls p.rooted p.some)) o.moves;
       done =
           put_done c.args.to m.root c.args.self.now (record { pool = q; roots = g.roots; tidy = false }) c.put.new.self (λ ts. version ts c.args.from) _ (λ ts v.
-          (let w = s.same ts v in
+          (let w = registers_versions s.same ts v in
           (same ts w, made_tree g q m x s.tidy p.calls p.rooted p.some _ (copied_tree _ m.block (version ts c.args.from) (omega arith) p.is (w.each c.args.from c.requires.from))))) o.put;
+      costs = copy_costs c.args.self.now g q c.put.new.self _ c.requires.forest x s.moves.went s.costs p.calls.working p.calls.went p.costs o.moves.forest o.moves.went o.costs;
+      told = o.told;
+      refused =
+          (let geo = c.args.self.now.pool.start.geometry in
+          refused_kept _ c.put.result (λ r. spends_more 0 (copy_steps geo) (none_least 0) (all_of (copy_steps geo))
+          (spends_then (λ (e : Geometry). drop_steps e 0) c.requires.forest.working (went_on c.requires.forest.working.run s.moves.went p.calls.went) o.moves.went
+          (spends_then copied_steps c.requires.forest.working s.moves.went p.calls.went (spends_of s.costs) (spends_of p.costs)) r)) o.refused);
     }
 
 -- the other register is empty
@@ -85,6 +98,26 @@ returns-then-root-eq-NONE c =
       moves = moves_after _ c.requires.forest s.moves.went s.same o.moves;
       done =
           put_done c.args.to 16 c.args.self.now g c.replace.new.self (λ ts. version ts c.args.from) _ (λ ts v.
-          (let w = s.same ts v in
+          (let w = registers_versions s.same ts v in
           (w, subst (λ (k : ℕ). IsTree g.pool (block_in g.pool k) (version ts c.args.from)) same (w.each c.args.from c.requires.from)))) o.put;
+      costs = cleared_costs c.args.self.now g c.replace.new.self _ c.requires.forest s.moves.forest s.moves.went s.costs o.moves.forest o.moves.went o.costs;
+      told = ok_any {T = Unit {0}} {P = λ u. c.replace.new.self.tidy ≡ true} c.replace.result (λ u. o.told ∙ s.told);
+      refused =
+          (let geo = c.args.self.now.pool.start.geometry in
+          refused_kept _ c.replace.result (λ r. spends_more 0 (copy_steps geo) (none_least 0) (outer_two (sweep_steps geo) (copied_steps geo) (drop_steps geo 0))
+          (spends_then (λ (e : Geometry). drop_steps e 0) c.requires.forest.working s.moves.went o.moves.went (spends_of s.costs) r)) o.refused);
     }
+
+-- where it was refused
+pub returns-in_err-sweep-clause-refused : goal.returns-in_err-sweep-clause-refused
+returns-in_err-sweep-clause-refused c =
+    let geo = c.args.self.now.pool.start.geometry in
+    handed (Unit {0}) _ _ c.from_residual.result c.from_residual.ensures.1 (λ r. spends_more 0 (copy_steps geo) (none_least 0) (first_of_three (sweep_steps geo) (copied_steps geo) (drop_steps geo 0)) r) c.in_err-sweep.ensures.refused
+
+pub returns-in_err-made-clause-refused : goal.returns-in_err-made-clause-refused
+returns-in_err-made-clause-refused c =
+    let s = c.in_ok-sweep.ensures in
+    let p = c.in_err-made.ensures in
+    let geo = c.args.self.now.pool.start.geometry in
+    handed Made _ _ c.from_residual-in_err-made.result c.from_residual-in_err-made.ensures.1 (λ r. spends_more 0 (copy_steps geo) (none_least 0) (first_of (sweep_steps geo + copied_steps geo) (drop_steps geo 0))
+    (spends_then copied_steps c.requires.forest.working s.moves.went p.calls.went (spends_of s.costs) r)) p.refused

@@ -1,6 +1,7 @@
-use Rattle.std.proofs.Common.{◌≡◌, ◌∙◌, sym, refl}
+use Rattle.std.proofs.Common.{refl}
 use Rattle.shm_tree.specs.Forests.{version}
-use Rattle.shm_tree.proofs.Forests.{got_versions, read_died, read_moves}
+use Rattle.shm_tree.proofs.Costing.{got_costs}
+use Rattle.shm_tree.proofs.Moving.{got_versions, read_died, read_moves}
 use Rattle.shm_tree.proofs.registers.Registers.get.Goals as goal
 
 pub read-requires : goal.read-requires
@@ -18,4 +19,6 @@ returns c =
       moves = read_moves f q _ c.requires.forest r.went r.working r.latch r.still r.died;
       died = read_died c.read.new.life.left _ r.died;
       is = got_versions f q f.tidy c.args.at c.args.key _ c.requires.at r.is r.still;
+      costs = got_costs _ _ f q c.args.at _ c.requires.at r.costs;
+      told = refl;
     }

@@ -1,5 +1,7 @@
-use Rattle.std.proofs.Common.{◌≡◌, ◌∙◌, sym, refl, true, inl, inr, ◌⊎◌}
-use Rattle.shm_tree.proofs.Forests.{moves_done, moves_from, told, told_versions}
+use Rattle.std.proofs.Common.{◌∙◌, refl, true, inl, inr}
+use Rattle.shm_tree.proofs.Forests.{told, told_versions}
+use Rattle.shm_tree.proofs.Moving.{moves_done, moves_from}
+use Rattle.shm_tree.proofs.Refusals.{handed}
 use Rattle.shm_tree.proofs.registers.Registers.put.Goals as goal
 
 pub replace-requires : goal.replace-requires
@@ -7,6 +9,9 @@ replace-requires c = record { forest = c.requires.forest; at = c.requires.at; ro
 
 pub returns-in_err-replace-clause-moves : goal.returns-in_err-replace-clause-moves
 returns-in_err-replace-clause-moves c = moves_from c.from_residual.result c.from_residual.ensures.1 c.in_err-replace.ensures.moves
+
+pub returns-in_err-replace-clause-refused : goal.returns-in_err-replace-clause-refused
+returns-in_err-replace-clause-refused c = handed (Unit {0}) _ _ c.from_residual.result c.from_residual.ensures.1 (λ r. r) c.in_err-replace.ensures.refused
 
 pub returns : goal.returns
 returns c =
@@ -21,4 +26,7 @@ returns c =
             | inr was ↦ was.1 ∙ c.requires.alone k lt h.0 was.0
           ])));
       put = λ ts t v s. told_versions g true _ (r.put ts t v s);
+      costs = r.costs;
+      told = refl;
+      refused = tt;
     }

@@ -1,5 +1,6 @@
-use Rattle.std.proofs.Common.{◌≡◌, ◌∙◌, sym, refl}
-use Rattle.shm_tree.proofs.Forests.{moves_done, moves_from, moves_still, replaced_forest, replaced_left, replaced_put}
+use Rattle.std.proofs.Common.{◌∙◌, refl}
+use Rattle.shm_tree.proofs.Moving.{moves_done, moves_from, moves_still, replaced_forest, replaced_left, replaced_put}
+use Rattle.shm_tree.proofs.Refusals.{handed}
 use Rattle.shm_tree.proofs.registers.Registers.replace.Goals as goal
 
 pub emptied-requires : goal.emptied-requires
@@ -9,6 +10,9 @@ pub returns-in_err-emptied-clause-moves : goal.returns-in_err-emptied-clause-mov
 returns-in_err-emptied-clause-moves c =
     let e = c.in_err-emptied.ensures in
     moves_from c.from_residual.result c.from_residual.ensures.1 (moves_still (Unit {0}) c.args.self.now c.emptied.new.pool _ c.requires.forest e.calls e.still)
+
+pub returns-in_err-emptied-clause-refused : goal.returns-in_err-emptied-clause-refused
+returns-in_err-emptied-clause-refused c = handed (Unit {0}) _ _ c.from_residual.result c.from_residual.ensures.1 (λ r. r) c.in_err-emptied.ensures.refused
 
 pub returns : goal.returns
 returns c =
@@ -21,4 +25,7 @@ returns c =
       moves = moves_done _ h.calls.went (replaced_forest f q c.args.at c.args.root x c.requires.at c.requires.root h.calls.working l h.calls.kept h.others h.empty c.requires.tree.0 c.requires.tree.1);
       put = replaced_put f q c.args.at c.args.root x c.requires.at c.requires.root h.calls.working l h.calls.kept h.others h.empty;
       left = replaced_left f q c.args.at c.args.root x c.requires.at c.requires.root h.calls.working l h.calls.kept h.others h.empty;
+      costs = h.costs;
+      told = refl;
+      refused = tt;
     }

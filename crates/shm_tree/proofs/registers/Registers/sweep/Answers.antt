@@ -1,6 +1,9 @@
-use Rattle.std.proofs.Common.{◌≡◌, ◌∙◌, sym, refl, true, false, true≢false}
+use Rattle.std.proofs.Common.{◌∙◌, sym, refl, true, true≢false}
 use Rattle.shm_tree.proofs.Building.{looked_none}
-use Rattle.shm_tree.proofs.Forests.{forest_over, moves_done, moves_from, moves_stop, versions_over}
+use Rattle.shm_tree.proofs.Costing.{costs_none}
+use Rattle.shm_tree.proofs.Forests.{forest_over, registers_over}
+use Rattle.shm_tree.proofs.Moving.{moves_done, moves_from, moves_stop}
+use Rattle.shm_tree.proofs.Refusals.{handed}
 use Rattle.shm_tree.proofs.registers.Registers.sweep.Goals as goal
 
 pub returns-in_err-swept-clause-moves : goal.returns-in_err-swept-clause-moves
@@ -14,7 +17,24 @@ returns c =
     let s = c.in_ok-swept.ensures in
     record {
       moves = moves_done _ s.calls.went (forest_over f c.swept.new.pool true c.requires.forest s.calls.working (s.calls.latch ∙ c.requires.forest.latch) s.calls.kept (λ e. s.empty));
-      same = versions_over f c.swept.new.pool true s.calls.kept;
+      same = registers_over f c.swept.new.pool true s.calls.kept;
       roots = refl;
       tidy = s.empty;
+      costs = s.costs;
+      told = refl;
+      refused = tt;
+      spent = tt;
     }
+
+-- they were tidy
+pub returns-then-self-clause-moves : goal.returns-then-self-clause-moves
+returns-then-self-clause-moves c = moves_done _ (looked_none c.args.self.now.pool c.args.life.now.left c.requires.forest.working).went c.requires.forest
+
+pub returns-then-self-clause-costs : goal.returns-then-self-clause-costs
+returns-then-self-clause-costs c = costs_none _ c.args.self.now.pool c.args.life.now.left c.requires.forest.working
+
+pub returns-in_err-swept-clause-refused : goal.returns-in_err-swept-clause-refused
+returns-in_err-swept-clause-refused c = handed (Unit {0}) _ _ c.from_residual.result c.from_residual.ensures.1 (λ s. s) c.in_err-swept.ensures.refused
+
+pub returns-in_err-swept-clause-spent : goal.returns-in_err-swept-clause-spent
+returns-in_err-swept-clause-spent c = handed (Unit {0}) _ _ c.from_residual.result c.from_residual.ensures.1 (λ s. s) c.in_err-swept.ensures.spent

@@ -1,0 +1,59 @@
+use Rattle.std.proofs.Common.{ℕ, Bool, sym, subst}
+use Rattle.std.specs.Prelude.{Option}
+use Rattle.shm_tree.specs.declared.line.TreeLine.{TreeLine}
+use Rattle.shm_tree.specs.declared.line.TreeLine.TheVariants as lines
+use Rattle.shm_tree.specs.Costing.{CostsLine, FewSet, StopsLine}
+use Rattle.shm_tree.specs.Working.{IfRefused}
+use Rattle.shm_tree.proofs.Moving.{moves_from, moves_to}
+use Rattle.shm_tree.proofs.Refusals.{handed, handed_over}
+use Rattle.shm_tree.proofs.registers.Registers.answer.Goals as goal
+
+pub returns-in_ok-set-in-Set-clause-few : goal.returns-in_ok-set-in-Set-clause-few
+returns-in_ok-set-in-Set-clause-few c = subst (λ (l : TreeLine). FewSet l c.args.self.now c.set.new.self) (sym c.in-Set.is) c.in_ok-set-in-Set.ensures.few
+
+pub returns-then-was-clause-costs : goal.returns-then-was-clause-costs
+returns-then-was-clause-costs c = subst (λ (l : TreeLine). CostsLine l c.args.self.now c.del.new.self c.args.life.now.left c.del.new.life.left) (sym c.in-Del.is) c.in_ok-was-in-Del.ensures.costs
+
+pub returns-else-was-clause-costs : goal.returns-else-was-clause-costs
+returns-else-was-clause-costs c = subst (λ (l : TreeLine). CostsLine l c.args.self.now c.del.new.self c.args.life.now.left c.del.new.life.left) (sym c.in-Del.is) c.in_ok-was-in-Del.ensures.costs
+
+pub returns-in_err-set-in-Set-clause-refused : goal.returns-in_err-set-in-Set-clause-refused
+returns-in_err-set-in-Set-clause-refused c =
+    subst (λ (l : TreeLine). IfRefused c.from_residual.result (StopsLine l c.args.self.now c.set.new.self c.args.life.now.left c.set.new.life.left)) (sym c.in-Set.is)
+    (handed (Unit {0}) (StopsLine (lines.Set c.in-Set.to c.in-Set.from c.in-Set.key c.in-Set.number) c.args.self.now c.set.new.self c.args.life.now.left c.set.new.life.left) _ c.from_residual.result c.from_residual.ensures.1 (λ r. r) c.in_err-set-in-Set.ensures.refused)
+
+pub returns-in_err-was-in-Del-clause-refused : goal.returns-in_err-was-in-Del-clause-refused
+returns-in_err-was-in-Del-clause-refused c =
+    subst (λ (l : TreeLine). IfRefused c.from_residual-in_err-was-in-Del.result (StopsLine l c.args.self.now c.del.new.self c.args.life.now.left c.del.new.life.left)) (sym c.in-Del.is)
+    (handed Bool (StopsLine (lines.Del c.in-Del.to c.in-Del.from c.in-Del.key) c.args.self.now c.del.new.self c.args.life.now.left c.del.new.life.left) _ c.from_residual-in_err-was-in-Del.result c.from_residual-in_err-was-in-Del.ensures.1 (λ r. r) c.in_err-was-in-Del.ensures.refused)
+
+pub returns-in_err-copy-in-Copy-clause-refused : goal.returns-in_err-copy-in-Copy-clause-refused
+returns-in_err-copy-in-Copy-clause-refused c =
+    subst (λ (l : TreeLine). IfRefused c.from_residual-in_err-copy-in-Copy.result (StopsLine l c.args.self.now c.copy.new.self c.args.life.now.left c.copy.new.life.left)) (sym c.in-Copy.is)
+    (handed (Unit {0}) (StopsLine (lines.Copy c.in-Copy.to c.in-Copy.from) c.args.self.now c.copy.new.self c.args.life.now.left c.copy.new.life.left) _ c.from_residual-in_err-copy-in-Copy.result c.from_residual-in_err-copy-in-Copy.ensures.1 (λ r ts v. r) c.in_err-copy-in-Copy.ensures.refused)
+
+pub returns-in_err-clear-in-Clear-clause-refused : goal.returns-in_err-clear-in-Clear-clause-refused
+returns-in_err-clear-in-Clear-clause-refused c =
+    subst (λ (l : TreeLine). IfRefused c.from_residual-in_err-clear-in-Clear.result (StopsLine l c.args.self.now c.clear.new.self c.args.life.now.left c.clear.new.life.left)) (sym c.in-Clear.is)
+    (handed (Unit {0}) (StopsLine (lines.Clear c.in-Clear.at) c.args.self.now c.clear.new.self c.args.life.now.left c.clear.new.life.left) _ c.from_residual-in_err-clear-in-Clear.result c.from_residual-in_err-clear-in-Clear.ensures.1 (λ r ts v. r) c.in_err-clear-in-Clear.ensures.refused)
+
+pub returns-in_err-number-in-Get-clause-refused : goal.returns-in_err-number-in-Get-clause-refused
+returns-in_err-number-in-Get-clause-refused c = handed_over _ c.from_residual-in_err-number-in-Get.result c.from_residual-in_err-number-in-Get.ensures.1 c.in_err-number-in-Get.ensures.died
+
+pub returns-in_err-set-in-Set-clause-moves : goal.returns-in_err-set-in-Set-clause-moves
+returns-in_err-set-in-Set-clause-moves c = moves_from c.from_residual.result c.from_residual.ensures.1 (moves_to (Unit {0}) _ c.in_err-set-in-Set.ensures.moves)
+
+pub returns-in_err-was-in-Del-clause-moves : goal.returns-in_err-was-in-Del-clause-moves
+returns-in_err-was-in-Del-clause-moves c = moves_from c.from_residual-in_err-was-in-Del.result c.from_residual-in_err-was-in-Del.ensures.1 (moves_to Bool _ c.in_err-was-in-Del.ensures.moves)
+
+pub returns-in_err-number-in-Get-clause-moves : goal.returns-in_err-number-in-Get-clause-moves
+returns-in_err-number-in-Get-clause-moves c = moves_from c.from_residual-in_err-number-in-Get.result c.from_residual-in_err-number-in-Get.ensures.1 (moves_to (Option ℕ) _ c.in_err-number-in-Get.ensures.moves)
+
+pub returns-in_err-copy-in-Copy-clause-moves : goal.returns-in_err-copy-in-Copy-clause-moves
+returns-in_err-copy-in-Copy-clause-moves c = moves_from c.from_residual-in_err-copy-in-Copy.result c.from_residual-in_err-copy-in-Copy.ensures.1 (moves_to (Unit {0}) _ c.in_err-copy-in-Copy.ensures.moves)
+
+pub returns-in_err-clear-in-Clear-clause-moves : goal.returns-in_err-clear-in-Clear-clause-moves
+returns-in_err-clear-in-Clear-clause-moves c = moves_from c.from_residual-in_err-clear-in-Clear.result c.from_residual-in_err-clear-in-Clear.ensures.1 (moves_to (Unit {0}) _ c.in_err-clear-in-Clear.ensures.moves)
+
+pub returns-in_ok-set-in-Set-clause-costs : goal.returns-in_ok-set-in-Set-clause-costs
+returns-in_ok-set-in-Set-clause-costs c = subst (λ (l : TreeLine). CostsLine l c.args.self.now c.set.new.self c.args.life.now.left c.set.new.life.left) (sym c.in-Set.is) c.in_ok-set-in-Set.ensures.costs
