@@ -1,39 +1,53 @@
 //! Scripts of versions of a map, by the rows of standard input.
 //!
 //! A line that begins with `#` is a title: it is told as it is, and an empty script begins. `+ LINE` adds a line to the script. `go` runs it and
-//! tells what came of it: the lines that were finished with their answers, how it ended, and what an audit of the closed pool tells. `lives N`
-//! runs it N times, with 1 to N word steps, and tells of how many the audit told that no block is live. What must be told (the file stdout) was
-//! computed by an independent implementation.
+//! tells what came of it: the lines that were finished with their answers, how it ended, how much the forest held then, and what is live in the
+//! closed pool. `lives N` runs it N times, with 1 to N word steps, and tells of how many no block is live in the closed pool. What must be told
+//! (the file stdout) was computed by an independent implementation. `maps KEYS LINES` sets so many keys and does so many random lines on a forest
+//! and on ordered maps of std, and tells how many answers and sizes are the same.
 #![tactic(auto)]
 
-mod running;
-mod texts;
+mod beside;
 
-use running::{steps_of, tell};
+ghost use Rattle.shm_tree.specs.ScriptTexts.{IsScript};
+
+use beside::compare;
 use shm_script::push_text;
-use shm_tree::{TreeScript, parse_tree};
+use shm_tree::{TreeScript, parse_tree, scripts_are_spelled};
+use shm_versions::{run_script, run_text};
+use std::alloc::{AllocError, Global};
 use std::io;
 use std::process::ExitCode;
 
+/// The text of what a script leaves.
+fn told(alloc: Global, script: &TreeScript) -> Result<Vec<u8>, AllocError>
+    requires { IsScript script.now }
+{
+    let run = run_script(alloc, script)?;
+    run_text(alloc, script, &run)
+}
+
 /// Tells what came of a script.
-fn go(rt: &HostRuntime, script: &TreeScript) -> io::Result<()> {
-    match tell(rt.alloc(), script, steps_of(script))? {
-        None => println!(rt; "no clean pool"),
-        Some(told) => match str::from_utf8(told.as_slice()) {
-            Ok(text) => print!(rt; "{text}"),
-            Err(_) => println!(rt; "no text"),
-        },
+fn go(rt: &HostRuntime, script: &TreeScript) -> io::Result<()>
+    requires { IsScript script.now }
+{
+    let text = told(rt.alloc(), script)?;
+    match str::from_utf8(text.as_slice()) {
+        Ok(text) => print!(rt; "{text}"),
+        Err(_) => println!(rt; "no text"),
     }
 }
 
 /// Tells how many of the scripts with 1 to `most` word steps leave no live block.
-fn lives(rt: &HostRuntime, script: &TreeScript, most: u32) -> io::Result<()> {
+fn lives(rt: &HostRuntime, script: &mut TreeScript, most: u32) -> io::Result<()>
+    requires { IsScript script.old }
+{
     let mut clean = 0u32;
     for steps in 0..most {
-        if let Some(told) = tell(rt.alloc(), script, u64::from(steps) + 1)? {
-            if told.as_slice().ends_with(b"\nlive 0 refs 0\n") {
-                clean = clean.saturating_add(1);
-            }
+        script.life = Some(u64::from(steps) + 1);
+        let text = told(rt.alloc(), script)?;
+        if text.as_slice().ends_with(b"\nlive 0 refs 0\n") {
+            clean = clean.saturating_add(1);
         }
     }
     println!(rt; "no block is live in {clean} of {most}")
@@ -41,13 +55,27 @@ fn lives(rt: &HostRuntime, script: &TreeScript, most: u32) -> io::Result<()> {
 
 /// Does what a row without a text says.
 fn act(rt: &HostRuntime, bytes: &[u8], line: &str) -> io::Result<()> {
+    // for the proof: a script that was read is in its ranges
+    scripts_are_spelled();
     match parse_tree(rt.alloc(), bytes) {
         Err(_) => println!(rt; "no script"),
-        Ok(script) => match line.strip_prefix("lives ") {
+        Ok(mut script) => match line.strip_prefix("lives ") {
             None => go(rt, &script),
-            Some(most) => lives(rt, &script, most.parse::<u32>().unwrap_or(0)),
+            Some(most) => lives(rt, &mut script, most.parse::<u32>().unwrap_or(0)),
         },
     }
+}
+
+/// Tells how many of the answers and sizes of a forest are those of ordered maps: by how many keys are set and how many random lines follow.
+fn maps(rt: &HostRuntime, numbers: &str) -> io::Result<()> {
+    let Some((keys, lines)) = numbers.split_once(' ') else {
+        return println!(rt; "no numbers");
+    };
+    let (Ok(keys), Ok(lines)) = (keys.parse::<u32>(), lines.parse::<u32>()) else {
+        return println!(rt; "no numbers");
+    };
+    let done = compare(rt.alloc(), keys, lines)?;
+    println!(rt; "{} of {} are those of the maps", done.same, done.compared)
 }
 
 /// Does what a row says.
@@ -55,6 +83,9 @@ fn row(rt: &HostRuntime, text: &mut Vec<u8>, line: &str) -> io::Result<()> {
     if let Some(title) = line.strip_prefix("# ") {
         text.clear();
         return println!(rt; "# {title}");
+    }
+    if let Some(numbers) = line.strip_prefix("maps ") {
+        return maps(rt, numbers);
     }
     match line.strip_prefix("+ ") {
         None => act(rt, text.as_slice(), line),

@@ -1,0 +1,4 @@
+pub mod Plays
+pub mod Sizes
+pub mod Told
+pub mod Runs

@@ -1,0 +1,2 @@
+pub mod TreeRuns
+pub mod RunTexts

@@ -1,0 +1,7 @@
+use Rattle.tree_runs.proofs.act.Goals as goal
+
+pub go-requires : goal.go-requires
+go-requires c = (c.scripts_are_spelled.ensures.read _ _ c.in-Ok.ensures).0
+
+pub lives-requires : goal.lives-requires
+lives-requires c = (c.scripts_are_spelled.ensures.read _ _ c.in-Ok.ensures).0
