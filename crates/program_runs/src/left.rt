@@ -12,6 +12,7 @@ pub fn words(rt: &HostRuntime, finished: &Finished) -> io::Result<()> {
         Finished::Ran(run) => words_of(rt, run.closed.words()),
         Finished::Rescued(run) => words_of(rt, run.closed.words()),
         Finished::Polled(run) => words_of(rt, run.closed.words()),
+        Finished::Treed(closed) => words_of(rt, closed.words()),
     }
 }
 
@@ -29,7 +30,7 @@ fn words_of(rt: &HostRuntime, words: &[u64]) -> io::Result<()> {
 /// The answers of each client.
 pub fn answers(rt: &HostRuntime, finished: &Finished) -> io::Result<()> {
     match finished {
-        Finished::Neither => println!(rt; "no replay"),
+        Finished::Neither | Finished::Treed(_) => println!(rt; "no replay"),
         Finished::Replayed(run) => answers_of(rt, run.logs.as_slice()),
         Finished::Ran(run) => answers_of(rt, run.logs.as_slice()),
         Finished::Rescued(run) => answers_of(rt, run.logs.as_slice()),

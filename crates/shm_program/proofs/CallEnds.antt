@@ -1,5 +1,5 @@
 -- what a call did, by where it ended
-use Rattle.std.proofs.Common.{◌≡◌, ◌≢◌, ℕ, ◌<◌, List, drop, ap, sym, ◌∙◌, subst, arith, inl, inr, ◌⊎◌}
+use Rattle.std.proofs.Common.{◌≡◌, ◌≢◌, ℕ, ◌<◌, List, drop, map, ap, sym, ◌∙◌, subst, arith, inl, inr, ◌⊎◌}
 use Rattle.std.specs.Prelude.{Option, Some, None, Result, Ok, Err, IfOk, IfErr}
 use Rattle.std.specs.declared.alloc.AllocError.{AllocError}
 use Rattle.std.specs.declared.io.ErrorKind.{ErrorKind}
@@ -185,6 +185,12 @@ module _ (words : List (List ℕ)) (old new : Sides) (code : ℕ) (made : Finish
       wanting none.ends (command_named words job asked) (lost_at words job old.left new.left asked (takes_loses old.left new.left (limit_of job) bytes taken.front)) taken.quiet none.held none.quiet none.kept
 
 -- ---- what the process ends with
+
+-- all words are read: the call had those behind the first one
+pub read_ends : {T E A : Type 0} (args : Result T E) (f : A → List ℕ) (behind : T → List A) (items : List A) (old new : Sides) (status : ℕ)
+    → IfOk args (λ all. items ≡ behind all) → Ends (map f items) old new status → IfOk args (λ all. Ends (map f (behind all)) old new status)
+read_ends (Ok all) f behind items old new status same ends = subst (λ xs. Ends (map f xs) old new status) same ends
+read_ends (Err e) f behind items old new status same ends = tt
 
 -- one of all words can't be read: the call had no words, and no memory was wanting for them
 pub unread_ends : {T E : Type 0} (args : Result T E) (kind : E → ErrorKind) (words : List (List ℕ)) (old new : Sides) (status : ℕ)

@@ -28,11 +28,12 @@ use Rattle.shm_report.specs.Logs.{line_end, log_text}
 use Rattle.shm_report.specs.Report.{named_from, row_line, rows_below, table_line, value_lines}
 use Rattle.shm_script.specs.Logged.{Logged}
 use Rattle.shm_script.specs.Values.{Traced}
+use Rattle.shm_versions.specs.RunTexts.{last_line}
 use Rattle.shm_program.specs.declared.outcome.Finished.{Finished}
 use Rattle.shm_program.specs.declared.words.Form.TheVariants.{Report}
 use Rattle.shm_program.specs.declared.words.Job.TheVariants.{Audit}
 use Rattle.shm_program.specs.Outcomes.{Answers}
-use Rattle.shm_program.specs.Replays.{IsRan, IsTold, last_line, written}
+use Rattle.shm_program.specs.Replays.{IsRan, IsTold, written}
 
 -- each word of a pool whose state holds is below 2 ^ 64
 words_small : (g : Geometry) (ws : List ℕ) (es : List Account) → Held g ws es → (i : ℕ) → get_or ws i 0 < 2 ^ 64

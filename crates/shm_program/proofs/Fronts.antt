@@ -5,7 +5,7 @@ use Rattle.std.specs.Prelude.{Option, Some, None}
 use Rattle.shm_io.specs.Writing.{Appends, AppendsFront}
 use Rattle.shm_program.specs.declared.outcome.Finished.{Finished}
 use Rattle.shm_program.specs.declared.words.Job.{Job}
-use Rattle.shm_program.specs.declared.words.Job.TheVariants.{Replay, Print, Run, Rescue, Audit, Migrate, Make, Draw, Poll}
+use Rattle.shm_program.specs.declared.words.Job.TheVariants.{Replay, Print, Run, Rescue, Audit, Migrate, Make, Draw, Poll, Tree}
 use Rattle.shm_program.specs.Outcomes.{Answers, Decided, Done, IsCall, IsDone, IsStatus, Misused, Refused, Sides}
 use Rattle.shm_program.specs.Reads.{Reads, limit_of, most_of}
 use Rattle.shm_program.specs.Streams.{AreFirst, Grows, IsAnswered, IsStopped, IsTextOf, WritesFrontOf}
@@ -29,6 +29,7 @@ done_few Print before after bytes made x r (t, a, h) = let short = a.short in om
 done_few (Run form) before after bytes made x r (t, a, h) = let short = a.short in omega (arith, short)
 done_few (Rescue form medics) before after bytes made x r (t, a, h) = let short = a.short in omega (arith, short)
 done_few (Poll q limit) before after bytes made x r (t, a, h) = let short = a.short in omega (arith, short)
+done_few Tree before after bytes made x r (s, a, h) = let short = a.2 in omega (arith, short)
 done_few Audit before after bytes made x r h = let short = image_short bytes h.faultless in omega (arith, short)
 done_few Migrate before after bytes made x r h = let short = image_short bytes (unrefused bytes h.allowed) in omega (arith, short)
 done_few (Make start size) before after bytes made x r h = let none : length bytes ≡ 0 = ap length r.0 in omega (arith, none)
@@ -51,7 +52,7 @@ none_first (Some left) = refl
 some_none : {A : Type 0} (o : Option A) (x : A) → o ≡ Some x → o ≡ None → ⊥
 some_none o x e f = absurd (cc)
 
--- the words and the bytes give one text, but for a run
+-- the words and the bytes give one text, but for a run or `tree`
 pub text_same : (ws : List (List ℕ)) (bytes x y : List ℕ) → AreDetermined ws → IsTextOf ws bytes x → IsTextOf ws bytes y → x ≡ y
 text_same ws bytes x y e (inl a) (inl b) = a.1 ∙ sym b.1
 text_same ws bytes x y e (inl a) (inr (job, asked, h)) = absurd (some_none (job_of ws) job asked a.0)

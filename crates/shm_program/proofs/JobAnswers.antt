@@ -1,13 +1,16 @@
--- what is told of a trace is the answer of the job that has this trace
+-- what is told of a trace, or of a script, is the answer of the job that has it
 use Rattle.std.proofs.Common.{◌≡◌, ℕ, List, Option, subst, inl}
 use Rattle.shm_script.specs.Drawing.{drawn_trace}
 use Rattle.shm_script.specs.Values.{Traced}
+use Rattle.shm_tree.specs.Scripts.{Scripted}
+use Rattle.shm_tree.specs.ScriptTexts.{Spells as SpellsScript}
 use Rattle.shm_program.specs.declared.outcome.Finished.{Finished}
 use Rattle.shm_program.specs.declared.words.Form.{Form}
 use Rattle.shm_program.specs.declared.words.Form.TheVariants.{Summary}
-use Rattle.shm_program.specs.declared.words.Job.TheVariants.{Replay, Print, Run, Rescue, Make, Poll}
+use Rattle.shm_program.specs.declared.words.Job.TheVariants.{Replay, Print, Run, Rescue, Make, Poll, Tree}
 use Rattle.shm_program.specs.Outcomes.{Answers, IsPrinted, Spells}
 use Rattle.shm_program.specs.Replays.{IsPollTold, IsRescueTold, IsTeamTold, IsTold}
+use Rattle.shm_program.specs.Trees.{IsTreeTold}
 
 pub read_told : (form : Form) (bytes : List ℕ) (t : Traced) (status : ℕ) (finished : Finished) (text : List ℕ) → Spells bytes t → (status ≡ 0) × IsTold form t finished text → Answers (Replay form) bytes status finished text
 read_told form bytes t status finished text s d = inl (d.0, (t, s, d.1))
@@ -20,6 +23,9 @@ rescue_told form medics bytes t status finished text s d = inl (d.0, (t, s, d.1)
 
 pub poll_told : (q : ℕ) (limit : Option ℕ) (bytes : List ℕ) (t : Traced) (status : ℕ) (finished : Finished) (text : List ℕ) → Spells bytes t → (status ≡ 0) × IsPollTold q limit t finished text → Answers (Poll q limit) bytes status finished text
 poll_told q limit bytes t status finished text s d = inl (d.0, (t, s, d.1))
+
+pub tree_told : (bytes : List ℕ) (s : Scripted) (status : ℕ) (finished : Finished) (text : List ℕ) → SpellsScript bytes s → (status ≡ 0) × IsTreeTold s finished text → Answers Tree bytes status finished text
+tree_told bytes s status finished text h d = inl (d.0, (s, h, d.1))
 
 pub read_printed : (bytes : List ℕ) (t : Traced) (status : ℕ) (finished : Finished) (text : List ℕ) → Spells bytes t → (status ≡ 0) × IsPrinted t finished text → Answers Print bytes status finished text
 read_printed bytes t status finished text s p = inl (p.0, (t, s, p.1))

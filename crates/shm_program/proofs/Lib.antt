@@ -10,6 +10,8 @@ pub mod Numerals
 pub mod ProgramWords
 pub mod LoggedClients
 pub mod SoundTurns
+pub mod SpelledScripts
 pub mod SameTexts
 pub mod SameCalls
 pub mod Fronts
+pub mod EmptyPools

@@ -4,7 +4,7 @@ use Rattle.std.proofs.lemmas.List.{take_all}
 use Rattle.std.specs.Prelude.{Option, Some, None}
 use Rattle.shm_program.specs.declared.outcome.Finished.{Finished}
 use Rattle.shm_program.specs.declared.words.Job.{Job}
-use Rattle.shm_program.specs.declared.words.Job.TheVariants.{Replay, Print, Run, Rescue, Audit, Migrate, Make, Draw, Poll}
+use Rattle.shm_program.specs.declared.words.Job.TheVariants.{Replay, Print, Run, Rescue, Audit, Migrate, Make, Draw, Poll, Tree}
 use Rattle.shm_program.specs.Outcomes.{Asks, Decided, Done, IsDone, IsFaulty, Refused}
 use Rattle.shm_program.specs.Reads.{Reads, ReadsLimit, limit_of}
 use Rattle.shm_program.specs.Words.{AreDetermined, is_determined, job_of}
@@ -23,6 +23,7 @@ done_bytes Print left bytes after one x r (t, a, h) = all_of 1048577 left bytes 
 done_bytes (Run form) left bytes after one x r (t, a, h) = all_of 1048577 left bytes r.0 (let short = a.short in omega (arith, short))
 done_bytes (Rescue form medics) left bytes after one x r (t, a, h) = all_of 1048577 left bytes r.0 (let short = a.short in omega (arith, short))
 done_bytes (Poll q limit) left bytes after one x r (t, a, h) = all_of 1048577 left bytes r.0 (let short = a.short in omega (arith, short))
+done_bytes Tree left bytes after one x r (s, a, h) = all_of 1048577 left bytes r.0 (let short = a.2 in omega (arith, short))
 done_bytes Audit left bytes after one x r h = all_of 132185377 left bytes r.0 (let short = image_short bytes h.faultless in omega (arith, short))
 done_bytes Migrate left bytes after one x r h = all_of 132185377 left bytes r.0 (let short = image_short bytes (unrefused bytes h.allowed) in omega (arith, short))
 done_bytes (Make start size) left bytes after one x r h = r.0
@@ -36,6 +37,7 @@ refused_bytes Print left bytes x after few (inl r) f = all_of 1048577 left bytes
 refused_bytes (Run form) left bytes x after few (inl r) f = all_of 1048577 left bytes r.0 few
 refused_bytes (Rescue form medics) left bytes x after few (inl r) f = all_of 1048577 left bytes r.0 few
 refused_bytes (Poll q limit) left bytes x after few (inl r) f = all_of 1048577 left bytes r.0 few
+refused_bytes Tree left bytes x after few (inl r) f = all_of 1048577 left bytes r.0 few
 refused_bytes Audit left bytes x after few (inl r) f = all_of 132185377 left bytes r.0 few
 refused_bytes Migrate left bytes x after few (inl r) f = all_of 132185377 left bytes r.0 few
 refused_bytes (Make start size) left bytes x after few (inl r) f = absurd f
@@ -48,7 +50,7 @@ done_refused job left after again one other x y a b =
     (subst (λ (xs : List ℕ). IsDone job xs one x) (done_bytes job left a.bytes after one x a.read a.is) a.is)
     (subst (λ (xs : List ℕ). IsFaulty job xs y) (refused_bytes job left b.bytes y again b.few b.read b.is) b.is)
 
--- a job gives one text, but for a run
+-- a job gives one text, but for a run or `tree`
 abbrev Given : Job → List ℕ → Option (List ℕ) → Finished → List ℕ → Type 0
 Given job left after one x = Done job (Some left) after one x ⊎ Refused job (Some left) after one x
 
@@ -67,7 +69,7 @@ given_same job left after again one other x y e (inr a) (inr b) =
 some_none : {A : Type 0} (o : Option A) (x : A) → o ≡ Some x → o ≡ None → ⊥
 some_none o x e f = absurd (cc)
 
--- the words and the bytes decide the text, but for a run
+-- the words and the bytes decide the text, but for a run or `tree`
 pub decided_same : (ws : List (List ℕ)) (left : List ℕ) (after again : Option (List ℕ)) (one other : Finished) (x y : List ℕ) → AreDetermined ws → Decided ws (Some left) after one x → Decided ws (Some left) again other y → x ≡ y
 decided_same ws left after again one other x y e (inl a) (inl b) = a.line ∙ sym b.line
 decided_same ws left after again one other x y e (inl a) (inr (job, asked, h)) = absurd (some_none (job_of ws) job asked a.faulty)

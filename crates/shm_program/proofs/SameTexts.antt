@@ -1,7 +1,7 @@
 -- what is written of a trace is determined
 use Rattle.std.proofs.Common.{◌≡◌, true, ℕ, zero, suc, ◌<◌, ◌≤◌, List, [], ◌∷◌, ◌++◌, map, refl, sym, ap, ◌∙◌, subst, arith, inl, inr}
 use Rattle.std.proofs.lemmas.Bool.{cases_eq}
-use Rattle.std.specs.Prelude.{Option, Some, None}
+use Rattle.std.specs.Prelude.{Option, Some, None, Result, Ok, Err}
 use Rattle.shm_audit.specs.Texts.{fault_line as image_fault_line}
 use Rattle.shm_words.specs.declared.geometry.Geometry.{Geometry}
 use Rattle.shm_graph.specs.declared.spot.Spot.TheVariants.{Home}
@@ -21,6 +21,7 @@ use Rattle.shm_script.specs.Logged.{Logged}
 use Rattle.shm_script.specs.Text.{text_of}
 use Rattle.shm_script.specs.Values.{Traced}
 use Rattle.shm_script.proofs.Complete.{faultless, one_spelling}
+use Rattle.shm_tree.specs.Scripts.{script_of}
 use Rattle.std.specs.List.{flat_map}
 use Rattle.shm_migrate.specs.Migrations.{stop_line}
 use Rattle.shm_program.specs.Outcomes.{Answers, IsDone, IsFaulty, Spells}
@@ -30,8 +31,9 @@ use Rattle.shm_program.specs.declared.outcome.Finished.{Finished}
 use Rattle.shm_program.specs.declared.words.Form.{Form}
 use Rattle.shm_program.specs.declared.words.Form.TheVariants.{Report, Image, Summary}
 use Rattle.shm_program.specs.declared.words.Job.{Job}
-use Rattle.shm_program.specs.declared.words.Job.TheVariants.{Replay, Print, Run, Rescue, Audit, Migrate, Make, Draw, Poll}
+use Rattle.shm_program.specs.declared.words.Job.TheVariants.{Replay, Print, Run, Rescue, Audit, Migrate, Make, Draw, Poll, Tree}
 use Rattle.shm_program.specs.Words.{is_determined}
+use Rattle.shm_program.proofs.SpelledScripts.{spelled_read}
 
 -- ---- tables
 
@@ -96,13 +98,14 @@ told_same form t one other x y (r, e) (s, f) =
 trace_same : (bytes : List ℕ) (s t : Traced) → Spells bytes s → Spells bytes t → s ≡ t
 trace_same bytes s t a b = one_spelling s t a.trace b.trace (sym a.text ∙ b.text)
 
--- what is done is told in one text, but for a run
+-- what is done is told in one text, but for a run or `tree`
 pub done_same : (job : Job) (bytes : List ℕ) (one other : Finished) (x y : List ℕ) → is_determined job ≡ true → IsDone job bytes one x → IsDone job bytes other y → x ≡ y
 done_same (Replay form) bytes one other x y e (s, a, h) (t, b, k) = told_same form s one other x y h (subst (λ (z : Traced). IsTold form z other y) (trace_same bytes t s b a) k)
 done_same Print bytes one other x y e (s, a, h) (t, b, k) = h.1 ∙ (ap text_of (trace_same bytes s t a b) ∙ sym k.1)
 done_same (Run form) bytes one other x y e h k = cc
 done_same (Rescue form medics) bytes one other x y e h k = cc
 done_same (Poll q limit) bytes one other x y e h k = cc
+done_same Tree bytes one other x y e h k = cc
 done_same Audit bytes one other x y e h k = h.verdict ∙ sym k.verdict
 done_same Migrate bytes one other x y e h k = h.image ∙ sym k.image
 done_same (Make start size) bytes one other x y e h k = told_same Summary (drawn_trace start size) one other x y h k
@@ -117,12 +120,19 @@ some_none o x e f = absurd (cc)
 trace_fault_same : (bytes x y : List ℕ) → (fault : TraceFault) × (fault_of bytes ≡ Some fault) × (x ≡ fault_line fault) → (fault : TraceFault) × (fault_of bytes ≡ Some fault) × (y ≡ fault_line fault) → x ≡ y
 trace_fault_same bytes x y (f, e, h) (k, d, l) = h ∙ (ap fault_line (some_same (fault_of bytes) f k e d) ∙ sym l)
 
+err_same : {A E : Type 0} (r : Result A E) (x y : E) → r ≡ Err x → r ≡ Err y → x ≡ y
+err_same r x y e f = cc
+
+ok_err : {A E : Type 0} (r : Result A E) (x : A) (y : E) → r ≡ Ok x → r ≡ Err y → ⊥
+ok_err r x y e f = absurd (cc)
+
 pub faulty_same : (job : Job) (bytes x y : List ℕ) → IsFaulty job bytes x → IsFaulty job bytes y → x ≡ y
 faulty_same (Replay form) bytes x y a b = trace_fault_same bytes x y a b
 faulty_same Print bytes x y a b = trace_fault_same bytes x y a b
 faulty_same (Run form) bytes x y a b = trace_fault_same bytes x y a b
 faulty_same (Rescue form medics) bytes x y a b = trace_fault_same bytes x y a b
 faulty_same (Poll q limit) bytes x y a b = trace_fault_same bytes x y a b
+faulty_same Tree bytes x y (f, e, h) (k, d, l) = h ∙ (ap fault_line (err_same (script_of bytes) f k e d) ∙ sym l)
 faulty_same Audit bytes x y (f, e, h) (k, d, l) = h ∙ (ap image_fault_line (some_same _ f k e d) ∙ sym l)
 faulty_same Migrate bytes x y (f, e, h) (k, d, l) = h ∙ (ap stop_line (some_same _ f k e d) ∙ sym l)
 faulty_same (Make start size) bytes x y a b = absurd a
@@ -138,6 +148,7 @@ done_or_faulty Print bytes one x y (t, a, h) (f, e, l) = some_none (fault_of byt
 done_or_faulty (Run form) bytes one x y (t, a, h) (f, e, l) = some_none (fault_of bytes) f e (spelled_faultless bytes t a)
 done_or_faulty (Rescue form medics) bytes one x y (t, a, h) (f, e, l) = some_none (fault_of bytes) f e (spelled_faultless bytes t a)
 done_or_faulty (Poll q limit) bytes one x y (t, a, h) (f, e, l) = some_none (fault_of bytes) f e (spelled_faultless bytes t a)
+done_or_faulty Tree bytes one x y (s, a, h) (f, e, l) = ok_err (script_of bytes) s f (spelled_read bytes s a) e
 done_or_faulty Audit bytes one x y h (f, e, l) = some_none _ f e h.faultless
 done_or_faulty Migrate bytes one x y h (f, e, l) = some_none _ f e h.allowed
 done_or_faulty (Make start size) bytes one x y h b = b
@@ -150,7 +161,7 @@ status_same job bytes m n one other x y (inl a) (inr b) = absurd (done_or_faulty
 status_same job bytes m n one other x y (inr a) (inl b) = absurd (done_or_faulty job bytes other y x b.1 a.2)
 status_same job bytes m n one other x y (inr a) (inr b) = a.0 ∙ sym b.0
 
--- and one text, but for a run
+-- and one text, but for a run or `tree`
 pub answers_same : (job : Job) (bytes : List ℕ) (m n : ℕ) (one other : Finished) (x y : List ℕ) → is_determined job ≡ true → Answers job bytes m one x → Answers job bytes n other y → x ≡ y
 answers_same job bytes m n one other x y e (inl a) (inl b) = done_same job bytes one other x y e a.1 b.1
 answers_same job bytes m n one other x y e (inl a) (inr b) = absurd (done_or_faulty job bytes one x y a.1 b.2)

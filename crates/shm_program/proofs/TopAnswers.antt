@@ -1,16 +1,18 @@
 -- what the answer to the bytes that were read says of the bytes that the source had left
 use Rattle.std.proofs.Common.{◌≡◌, ℕ, ◌≤◌, List, length, sym, ◌∙◌, arith, inl, inr, ◌⊎◌, subst}
-use Rattle.std.specs.Prelude.{Option, Some, None}
+use Rattle.std.specs.Prelude.{Option, Some, None, Result, Ok, Err}
 use Rattle.shm_io.specs.Reading.{TakesFront}
 use Rattle.shm_script.specs.Ranges.{IsTraceText}
 use Rattle.shm_script.specs.Values.{Traced}
 use Rattle.shm_script.proofs.Complete.{faultless}
+use Rattle.shm_tree.specs.Scripts.{script_of}
 use Rattle.shm_program.specs.declared.outcome.Finished.{Finished}
 use Rattle.shm_program.specs.declared.words.Job.{Job}
-use Rattle.shm_program.specs.declared.words.Job.TheVariants.{Replay, Print, Run, Rescue, Audit, Migrate, Make, Draw, Poll}
+use Rattle.shm_program.specs.declared.words.Job.TheVariants.{Replay, Print, Run, Rescue, Audit, Migrate, Make, Draw, Poll, Tree}
 use Rattle.shm_program.specs.Outcomes.{Answers, Done, IsDone, IsFaulty, IsInput, Refused, Spells}
 use Rattle.shm_program.specs.Reads.{IsRead, Reads, ReadsAll, ReadsLimit, input_of, limit_of}
 use Rattle.shm_program.proofs.ImageSizes.{image_short, unrefused}
+use Rattle.shm_program.proofs.SpelledScripts.{spelled_read}
 use Rattle.shm_program.proofs.TopReads.{read_same, reads, reads_all, reads_none}
 
 -- ---- what was read for an answer
@@ -25,6 +27,7 @@ done_input Print bytes finished text d = is_text bytes d.0 d.1
 done_input (Run form) bytes finished text d = is_text bytes d.0 d.1
 done_input (Rescue form medics) bytes finished text d = is_text bytes d.0 d.1
 done_input (Poll q limit) bytes finished text d = is_text bytes d.0 d.1
+done_input Tree bytes finished text d = (d.0, d.1)
 done_input Audit bytes finished text d = d.faultless
 done_input Migrate bytes finished text d = d.allowed
 done_input (Make start size) bytes finished text d = tt
@@ -37,6 +40,7 @@ done_read Print before after bytes t few input = let short : length bytes ≤ 10
 done_read (Run form) before after bytes t few input = let short : length bytes ≤ 1048576 = input.0 in reads_all 1048577 before after bytes t (omega (arith, short))
 done_read (Rescue form medics) before after bytes t few input = let short : length bytes ≤ 1048576 = input.0 in reads_all 1048577 before after bytes t (omega (arith, short))
 done_read (Poll q limit) before after bytes t few input = let short : length bytes ≤ 1048576 = input.0 in reads_all 1048577 before after bytes t (omega (arith, short))
+done_read Tree before after bytes t few input = let short : length bytes ≤ 1048576 = input.1.2 in reads_all 1048577 before after bytes t (omega (arith, short))
 done_read Audit before after bytes t few input = reads_all 132185377 before after bytes t (image_short bytes input)
 done_read Migrate before after bytes t few input = reads_all 132185377 before after bytes t (image_short bytes (unrefused bytes input))
 done_read (Make start size) before after bytes t few input = reads_none before after bytes t few
@@ -49,6 +53,7 @@ any_read Print before after bytes t few = reads 1048577 before after bytes t few
 any_read (Run form) before after bytes t few = reads 1048577 before after bytes t few
 any_read (Rescue form medics) before after bytes t few = reads 1048577 before after bytes t few
 any_read (Poll q limit) before after bytes t few = reads 1048577 before after bytes t few
+any_read Tree before after bytes t few = reads 1048577 before after bytes t few
 any_read Audit before after bytes t few = reads 132185377 before after bytes t few
 any_read Migrate before after bytes t few = reads 132185377 before after bytes t few
 any_read (Make start size) before after bytes t few = inl (reads_none before after bytes t few)
@@ -79,6 +84,9 @@ some_same xs ys e = cc
 some_none : {A : Type 0} (x : A) → Some x ≡ None → ⊥
 some_none x e = cc
 
+ok_err : {A E : Type 0} (r : Result A E) (x : A) (y : E) → r ≡ Ok x → r ≡ Err y → ⊥
+ok_err r x y e f = absurd (cc)
+
 -- valid input has no fault
 no_fault : (job : Job) (bytes text : List ℕ) → IsInput job bytes → IsFaulty job bytes text → ⊥
 no_fault (Replay form) bytes text input f = some_none f.0 (sym f.1 ∙ faultless bytes input)
@@ -86,6 +94,7 @@ no_fault Print bytes text input f = some_none f.0 (sym f.1 ∙ faultless bytes i
 no_fault (Run form) bytes text input f = some_none f.0 (sym f.1 ∙ faultless bytes input)
 no_fault (Rescue form medics) bytes text input f = some_none f.0 (sym f.1 ∙ faultless bytes input)
 no_fault (Poll q limit) bytes text input f = some_none f.0 (sym f.1 ∙ faultless bytes input)
+no_fault Tree bytes text input f = ok_err (script_of bytes) input.0 f.0 (spelled_read bytes input.0 input.1) f.1
 no_fault Audit bytes text input f = some_none f.0 (sym f.1 ∙ input)
 no_fault Migrate bytes text input f = some_none f.0 (sym f.1 ∙ input)
 no_fault (Make start size) bytes text input f = f
@@ -114,6 +123,10 @@ input_read (Poll q limit) before after bytes read text left input r refused =
     let short : length bytes ≤ 1048576 = input.0 in
     let same = read_same 1048577 before after read bytes left (omega (arith, short)) r in
     no_fault (Poll q limit) bytes text input (subst (λ (xs : List ℕ). IsFaulty (Poll q limit) xs text) same refused)
+input_read Tree before after bytes read text left input r refused =
+    let short : length bytes ≤ 1048576 = input.1.2 in
+    let same = read_same 1048577 before after read bytes left (omega (arith, short)) r in
+    no_fault Tree bytes text input (subst (λ (xs : List ℕ). IsFaulty Tree xs text) same refused)
 input_read Audit before after bytes read text left input r refused =
     let same = read_same 132185377 before after read bytes left (image_short bytes input) r in
     no_fault Audit bytes text input (subst (λ (xs : List ℕ). IsFaulty Audit xs text) same refused)
@@ -140,6 +153,7 @@ done_all Print before after bytes read text left r input f = no_fault Print byte
 done_all (Run form) before after bytes read text left r input f = no_fault (Run form) bytes text (subst (λ (xs : List ℕ). IsInput (Run form) xs) (read_all before after bytes read left r) input) f
 done_all (Rescue form medics) before after bytes read text left r input f = no_fault (Rescue form medics) bytes text (subst (λ (xs : List ℕ). IsInput (Rescue form medics) xs) (read_all before after bytes read left r) input) f
 done_all (Poll q limit) before after bytes read text left r input f = no_fault (Poll q limit) bytes text (subst (λ (xs : List ℕ). IsInput (Poll q limit) xs) (read_all before after bytes read left r) input) f
+done_all Tree before after bytes read text left r input f = no_fault Tree bytes text (subst (λ (xs : List ℕ). IsInput Tree xs) (read_all before after bytes read left r) input) f
 done_all Audit before after bytes read text left r input f = no_fault Audit bytes text (subst (λ (xs : List ℕ). IsInput Audit xs) (read_all before after bytes read left r) input) f
 done_all Migrate before after bytes read text left r input f = no_fault Migrate bytes text (subst (λ (xs : List ℕ). IsInput Migrate xs) (read_all before after bytes read left r) input) f
 done_all (Make start size) before after bytes read text left r input f = f

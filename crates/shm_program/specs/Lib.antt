@@ -2,6 +2,7 @@ pub mod Words
 pub mod Refusals
 pub mod Reads
 pub mod Replays
+pub mod Trees
 pub mod Outcomes
 pub mod Commands
 pub mod Runs

@@ -1,5 +1,5 @@
 -- what a call of the program does: what it reads, what it answers and what it writes
-use Rattle.std.specs.Prelude.{◌≡◌, ◌≢◌, ℕ, ◌≤◌, ◌⊎◌, List, length, codes, Option, Some, None}
+use Rattle.std.specs.Prelude.{◌≡◌, ◌≢◌, ℕ, ◌≤◌, ◌⊎◌, List, length, codes, Option, Some, None, Err}
 use Rattle.shm_audit.specs.declared.fault.ImageFault.{ImageFault}
 use Rattle.shm_audit.specs.Faults.{image_fault_of}
 use Rattle.shm_audit.specs.Images.{geometry_in, words_in}
@@ -17,19 +17,22 @@ use Rattle.shm_script.specs.Faults.{fault_of}
 use Rattle.shm_script.specs.Ranges.{IsTrace, IsTraceText}
 use Rattle.shm_script.specs.Text.{text_of}
 use Rattle.shm_script.specs.Values.{Traced}
+use Rattle.shm_tree.specs.Scripts.{Scripted, script_of}
+use Rattle.shm_tree.specs.ScriptTexts.{Spells as SpellsScript}
 use Rattle.shm_program.specs.Reads.{Reads, ReadsLimit, input_of, limit_of, most_of}
 use Rattle.shm_program.specs.Refusals.{fault_line}
 use Rattle.shm_program.specs.Replays.{IsPollTold, IsRescueTold, IsTeamTold, IsTold}
+use Rattle.shm_program.specs.Trees.{IsTreeTold}
 use Rattle.shm_program.specs.Words.{NamesCommand, job_of}
 use Rattle.shm_program.specs.declared.outcome.Finished.{Finished}
 use Rattle.shm_program.specs.declared.outcome.Finished.TheVariants.{Neither}
 use Rattle.shm_program.specs.declared.words.Form.TheVariants.{Summary}
 use Rattle.shm_program.specs.declared.words.Job.{Job}
-use Rattle.shm_program.specs.declared.words.Job.TheVariants.{Replay, Print, Run, Rescue, Audit, Migrate, Make, Draw, Poll}
+use Rattle.shm_program.specs.declared.words.Job.TheVariants.{Replay, Print, Run, Rescue, Audit, Migrate, Make, Draw, Poll, Tree}
 
 -- the line that is written where the words aren't accepted
 abbrev pub usage_text : List ℕ
-usage_text = codes "usage: cxlshm replay [--image|--print] | run [--image] [--medics K] | audit | make START SIZE [--print] | migrate | poll Q [--limit P]\n"
+usage_text = codes "usage: cxlshm replay [--image|--print] | run [--image] [--medics K] | audit | make START SIZE [--print] | migrate | poll Q [--limit P] | tree\n"
 
 -- ---- what a job is asked for
 
@@ -39,12 +42,13 @@ pub record Spells (bytes : List ℕ) (t : Traced) : Type 0 where
   pub short : length bytes ≤ 1048576
   pub text : bytes ≡ text_of t
 
--- the bytes are a trace, an image without a fault, or one that nothing stands against migrating; a job that draws its trace needs none
+-- the bytes are a trace, an image without a fault, one that nothing stands against migrating, or a script; a job that draws its trace needs none
 abbrev pub IsInput : Job → List ℕ → Type 0
 IsInput Audit bytes = image_fault_of bytes ≡ None
 IsInput Migrate bytes = refusal_of bytes ≡ None
 IsInput (Make start size) bytes = Unit {0}
 IsInput (Draw start size) bytes = Unit {0}
+IsInput Tree bytes = (s : Scripted) × SpellsScript bytes s
 IsInput _ bytes = IsTraceText bytes
 
 -- ---- what is answered to the bytes that were read
@@ -76,13 +80,15 @@ IsDone (Make start size) bytes finished text = IsTold Summary (drawn_trace start
 IsDone (Draw start size) bytes finished text = IsPrinted (drawn_trace start size) finished text
 IsDone (Rescue form medics) bytes finished text = (t : Traced) × Spells bytes t × IsRescueTold form t finished text
 IsDone (Poll q limit) bytes finished text = (t : Traced) × Spells bytes t × IsPollTold q limit t finished text
+IsDone Tree bytes finished text = (s : Scripted) × SpellsScript bytes s × IsTreeTold s finished text
 
--- the bytes are no trace, or no image, and the line names their first fault; or it names what stands against their migration
+-- the bytes are no trace, no image or no script, and the line names their first fault; or it names what stands against their migration
 abbrev pub IsFaulty : Job → List ℕ → List ℕ → Type 0
 IsFaulty Audit bytes text = (fault : ImageFault) × (image_fault_of bytes ≡ Some fault) × (text ≡ image_fault_line fault)
 IsFaulty Migrate bytes text = (stop : MigrateStop) × (refusal_of bytes ≡ Some stop) × (text ≡ stop_line stop)
 IsFaulty (Make start size) bytes text = ⊥
 IsFaulty (Draw start size) bytes text = ⊥
+IsFaulty Tree bytes text = (fault : TraceFault) × (script_of bytes ≡ Err fault) × (text ≡ fault_line fault)
 IsFaulty _ bytes text = (fault : TraceFault) × (fault_of bytes ≡ Some fault) × (text ≡ fault_line fault)
 
 -- the answer to the bytes that were read
@@ -99,7 +105,7 @@ pub record Done (job : Job) (before after : Option (List ℕ)) (finished : Finis
   pub read : Reads job before after bytes
   pub is : IsDone job bytes finished text
 
--- the input was refused: all the bytes that the job is for, or as many as are read at most: one more than a trace, or an image, may have
+-- the input was refused: all the bytes that the job is for, or as many as are read at most: one more than a trace, a script or an image may have
 pub record Refused (job : Job) (before after : Option (List ℕ)) (finished : Finished) (text : List ℕ) : Type 0 where
   pub kept : finished ≡ Neither
   pub bytes : List ℕ

@@ -5,7 +5,7 @@ use Rattle.shm_io.specs.Reading.{LosesFront, TakesFront}
 use Rattle.shm_program.specs.declared.words.Job.{Job}
 use Rattle.shm_program.specs.declared.words.Job.TheVariants.{Audit, Migrate, Make, Draw}
 
--- how many bytes are read at most: one more than a trace, or an image, may have, and none where the trace is drawn
+-- how many bytes are read at most: one more than a trace, a script or an image may have, and none where the trace is drawn
 abbrev pub limit_of : Job → ℕ
 limit_of Audit = 132185377
 limit_of Migrate = 132185377

@@ -1,10 +1,7 @@
 -- the replay of a trace, its run by threads or its run by polls, and what is written of it
-use Rattle.std.specs.Prelude.{◌≡◌, ℕ, ◌*◌, List, ◌++◌, Option, Some, None, codes}
-use Rattle.std.specs.Fmt.{decimal}
+use Rattle.std.specs.Prelude.{◌≡◌, ℕ, ◌*◌, List, Option, Some, None}
 use Rattle.shm_words.specs.declared.geometry.Geometry.{Geometry}
 use Rattle.shm_audit.specs.Images.{image_of}
-use Rattle.shm_graph.specs.Blocks.{classes}
-use Rattle.shm_graph.specs.References.{live_count, references, references_in_all}
 use Rattle.shm_graph.specs.Spots.{see}
 use Rattle.shm_graph.specs.declared.run.Move.{Move}
 use Rattle.shm_graph.specs.declared.table.Entry.{Entry}
@@ -92,10 +89,3 @@ IsRescueTold form t finished text = (r : IsRescued t finished) × (text ≡ writ
 abbrev pub IsPollTold : ℕ → Option ℕ → Traced → Finished → List ℕ → Type 0
 IsPollTold q None t finished text = (r : IsPolled t finished) × (text ≡ written Report r.run.closed.start.geometry r.run.closed.words r.team.table r.run.logs.items)
 IsPollTold q (Some most) t finished text = (r : IsLimited q most t finished) × (text ≡ written Report r.run.closed.start.geometry r.run.closed.words r.limited.run.table r.run.logs.items)
-
--- the last line of the report of this closed pool, `live L refs F`: how many of its blocks are live, and how many of its words name one
-abbrev pub last_line : Pool → List ℕ
-last_line p =
-    let g = p.start.geometry in
-    let w = see g p.words in
-    codes "live " ++ decimal (live_count g w) ++ codes " refs " ++ decimal (references_in_all g (classes w) (references g.wide w)) ++ codes "\n"

@@ -9,7 +9,7 @@ use Rattle.shm_script.specs.Numbers.{is_numeral, small, value_after}
 use Rattle.shm_program.specs.declared.words.Form.{Form}
 use Rattle.shm_program.specs.declared.words.Form.TheVariants.{Report, Image}
 use Rattle.shm_program.specs.declared.words.Job.{Job}
-use Rattle.shm_program.specs.declared.words.Job.TheVariants.{Replay, Print, Run, Rescue, Audit, Migrate, Make, Draw, Poll}
+use Rattle.shm_program.specs.declared.words.Job.TheVariants.{Replay, Print, Run, Rescue, Audit, Migrate, Make, Draw, Poll, Tree}
 use Rattle.shm_program.specs.declared.words.Name.{Name}
 use Rattle.shm_program.specs.declared.words.Name.TheVariants as name
 
@@ -50,6 +50,10 @@ make_command = with_rule (with_rule (with_rule (new_app (codes "make")) (require
 -- `poll` has a word, and one behind a flag
 abbrev pub poll_command : App
 poll_command = with_rule (with_rule (new_app (codes "poll")) (required (codes "turns"))) (valued (codes "limit"))
+
+-- `tree` has nothing but what each command has
+abbrev pub tree_command : App
+tree_command = new_app (codes "tree")
 
 -- ---- what a command reads
 
@@ -154,6 +158,9 @@ poll_of turns limited limit = poll_by (count_of turns) limited (count_of limit)
 abbrev pub poll_in : List Row → Option Job
 poll_in rows = poll_of (option_and_then number_in (first_of (codes "turns") rows)) (is_some (first_of (codes "limit") rows)) (option_and_then number_in (first_of (codes "limit") rows))
 
+abbrev pub tree_in : List Row → Option Job
+tree_in rows = Some Tree
+
 -- what the words of a command ask for: nothing where it refuses them
 abbrev pub asked : App → (List Row → Option Job) → List (List ℕ) → Option Job
 asked command job words = option_and_then job (read_by command words)
@@ -167,6 +174,7 @@ name_of word =
     else if bytes_eq word (codes "make") then Some name.Make
     else if bytes_eq word (codes "migrate") then Some name.Migrate
     else if bytes_eq word (codes "poll") then Some name.Poll
+    else if bytes_eq word (codes "tree") then Some name.Tree
     else None
 
 abbrev pub job_by : Name → List (List ℕ) → Option Job
@@ -176,6 +184,7 @@ job_by name.Audit words = asked audit_command audit_in words
 job_by name.Make words = asked make_command make_in words
 job_by name.Migrate words = asked migrate_command migrate_in words
 job_by name.Poll words = asked poll_command poll_in words
+job_by name.Tree words = asked tree_command tree_in words
 
 -- what the words ask for: the first one names the command, and nothing where it names none
 abbrev pub job_of : List (List ℕ) → Option Job
@@ -202,11 +211,19 @@ JobFits (Poll q limit) = IsCount q × IfSome limit IsCount
 JobFits (Rescue form medics) = AreMedics medics
 JobFits _ = Unit {0}
 
--- the text that a job writes follows from the bytes that it reads: of all but runs by threads and by polls, whose turns come in any lawful order. These alone may wait
+-- a job may wait: for threads, or for a future that is polled
+abbrev pub may_wait : Job → Bool
+may_wait (Run form) = true
+may_wait (Rescue form medics) = true
+may_wait (Poll q limit) = true
+may_wait _ = false
+
+-- the text that a job writes follows from the bytes that it reads: of all but runs by threads and by polls, whose turns come in any lawful order, and scripts for versions of a map, of whose lines it isn't told how many word steps they take
 abbrev pub is_determined : Job → Bool
 is_determined (Run form) = false
 is_determined (Rescue form medics) = false
 is_determined (Poll q limit) = false
+is_determined Tree = false
 is_determined _ = true
 
 -- and so it does for what the words ask for

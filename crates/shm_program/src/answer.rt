@@ -7,16 +7,17 @@ ghost use Rattle.shm_script.specs.declared.fault.TraceFault.{TraceFault as AFaul
 ghost use Rattle.shm_stream.specs.Audits.{IsJudged};
 ghost use Rattle.shm_program.specs.Outcomes.{Answers, IsPrinted};
 ghost use Rattle.shm_program.specs.Refusals.{fault_line};
-ghost use Rattle.shm_program.specs.Words.{AreMedics, IsCount, JobFits, is_determined};
+ghost use Rattle.shm_program.specs.Words.{AreMedics, IsCount, JobFits, may_wait};
 
 use crate::outcome::Finished;
 use crate::refusals::fault_line;
-use crate::telling::{tell, tell_limited, tell_polls, tell_rescue, tell_team};
+use crate::telling::{tell, tell_limited, tell_polls, tell_rescue, tell_team, tell_tree};
 use crate::words::{Form, Job};
 use shm_audit::{AuditStop, ImageFault, Verdict, audit, fault_text, verdict_text};
 use shm_migrate::{MigrateStop, migrate, stop_text};
 use shm_script::{ParseStop, Trace, generate, parse, print};
 use shm_team::Gate;
+use shm_tree::parse_tree;
 use std::alloc::{AllocError, AllocGlobal, Global};
 use std::random::RandomSource;
 use std::sync::Wait;
@@ -33,7 +34,7 @@ pub struct Reply {
 /// What a job that doesn't wait answers to the bytes that it read.
 pub fn answer(alloc: Global, job: Job, bytes: &[u8]) -> Result<Reply, AllocError>
     requires fits { JobFits job }
-    requires determined { is_determined job ≡ true }
+    requires returns { may_wait job ≡ false }
     ensures { IfOk result (λ r. Answers job bytes.now r.status r.finished r.text.items) }
 {
     match job {
@@ -50,6 +51,7 @@ pub fn answer(alloc: Global, job: Job, bytes: &[u8]) -> Result<Reply, AllocError
         Job::Migrate => migration_of(alloc, bytes),
         Job::Make { start, size } => tell(alloc, &generate(alloc, start, size)?, Form::Summary),
         Job::Draw { start, size } => print_of(alloc, &generate(alloc, start, size)?),
+        Job::Tree => answer_tree(alloc, bytes),
     }
 }
 
@@ -62,7 +64,7 @@ pub fn answer_waiting<R: Threads + Wait + Sync + RandomSource + AllocGlobal, G: 
     gate: &G,
 ) -> Result<Reply, AllocError>
     requires fits { JobFits job }
-    requires waits { is_determined job ≡ false }
+    requires waits { may_wait job ≡ true }
     ensures { IfOk result (λ r. Answers job bytes.now r.status r.finished r.text.items) }
 {
     match job {
@@ -128,6 +130,16 @@ fn answer_run<R: Threads + Wait + Sync, G: Gate>(
     }
 }
 
+/// What `tree` answers to the bytes that it read: those of a script are run.
+fn answer_tree(alloc: Global, bytes: &[u8]) -> Result<Reply, AllocError>
+    ensures { IfOk result (λ r. Answers Job.Tree bytes.now r.status r.finished r.text.items) }
+{
+    match parse_tree(alloc, bytes) {
+        Ok(script) => tell_tree(alloc, &script),
+        Err(stop) => refuse(alloc, stop),
+    }
+}
+
 /// An answer with nothing made.
 pub fn plain(status: u8, text: Vec<u8>) -> Reply
     ensures status { result.status ≡ status }
@@ -148,7 +160,7 @@ fn print_of(alloc: Global, trace: &Trace) -> Result<Reply, AllocError>
     Ok(plain(0, print(alloc, trace)?))
 }
 
-/// The refusal of bytes that are no trace.
+/// The refusal of bytes that are no trace, or no script.
 fn refuse(alloc: Global, stop: ParseStop) -> Result<Reply, AllocError>
     ensures status { IfOk result (λ r. r.status ≡ 3) }
     ensures finished { IfOk result (λ r. r.finished ≡ Finished.Neither) }

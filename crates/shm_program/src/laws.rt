@@ -45,14 +45,14 @@ pub fn replays_write_one_text()
     ensures { (form : AForm) (t : Traced) (one other : AFinished) (text again : List ℕ) → IsTold form t one text → IsTold form t other again → text ≡ again }
 {}
 
-/// The status that a job answers follows from its bytes alone, and of each job but a run so does the text.
+/// The status that a job answers follows from its bytes alone, and of each job but a run and `tree` so does the text.
 pub fn answers_follow_from_bytes()
     ensures status { (job : AJob) (bytes : List ℕ) (status other : ℕ) (one two : AFinished) (text again : List ℕ) → Answers job bytes status one text → Answers job bytes other two again → status ≡ other }
     ensures text { (job : AJob) (bytes : List ℕ) (status other : ℕ) (one two : AFinished) (text again : List ℕ) → is_determined job ≡ true → Answers job bytes status one text → Answers job bytes other two again → text ≡ again }
 {}
 
 /// Where the source tells its bytes, whether what a call asks for is done or refused follows from the words of the call and from those bytes alone,
-/// and unless the words ask for a run so does the text that the call writes.
+/// and unless the words ask for a run or for `tree` so does the text that the call writes.
 pub fn calls_write_one_text()
     ensures text { (ws : List (List ℕ)) (left : List ℕ) (after other : Option (List ℕ)) (one two : AFinished) (text again : List ℕ) → AreDetermined ws → Decided ws (Some left) after one text → Decided ws (Some left) other two again → text ≡ again }
     ensures apart { (ws : List (List ℕ)) (left : List ℕ) (after other : Option (List ℕ)) (one two : AFinished) (text again : List ℕ) → Asks ws (λ job. Done job (Some left) after one text) → Asks ws (λ job. Refused job (Some left) other two again) → ⊥ }

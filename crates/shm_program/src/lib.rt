@@ -18,6 +18,7 @@ pub mod stream_laws;
 pub mod team_laws;
 mod telling;
 pub mod top;
+pub mod tree_laws;
 pub mod words;
 
 pub use command::{exit_code, program_words, run};

@@ -2,6 +2,7 @@
 
 use shm_async::Polled;
 use shm_morgue::Rescued;
+use shm_plain::PlainClosed;
 use shm_replay::Replayed;
 use shm_team::Ran;
 
@@ -26,4 +27,6 @@ pub enum Finished {
     Rescued(Rescued),
     /// The run of a trace by clients that were polled.
     Polled(Polled),
+    /// The closed pool of a script for versions of a map.
+    Treed(PlainClosed),
 }

@@ -1,4 +1,4 @@
-//! Replays and runs of traces, and what is written of them.
+//! Replays and runs of traces, runs of scripts for versions of a map, and what is written of them.
 
 ghost use Rattle.std.specs.Prelude.{◌≡◌, ℕ, List, IfOk, None, Some, length};
 ghost use Rattle.shm_words.specs.Layout.{GeometryFits, total_of};
@@ -6,7 +6,9 @@ ghost use Rattle.shm_graph.specs.declared.table.Entry.{Entry as AnEntry};
 ghost use Rattle.shm_graph.specs.Spots.{see};
 ghost use Rattle.shm_graph.specs.Tables.{IsTable};
 ghost use Rattle.shm_report.specs.PoolWords.{IsCleanPool};
+ghost use Rattle.shm_tree.specs.ScriptTexts.{IsScript};
 ghost use Rattle.shm_program.specs.Replays.{IsPollTold, IsRescueTold, IsTeamTold, IsTold, written};
+ghost use Rattle.shm_program.specs.Trees.{IsTreeTold};
 ghost use Rattle.shm_program.specs.Words.{AreMedics, IsCount};
 
 use crate::answer::Reply;
@@ -20,6 +22,8 @@ use shm_replay::replay;
 use shm_report::{report, summary};
 use shm_script::{Log, Trace};
 use shm_team::{Gate, run_team};
+use shm_tree::TreeScript;
+use shm_versions::{Treed, run_script, run_text};
 use shm_words::Geometry;
 use std::alloc::{AllocError, AllocGlobal, Global};
 use std::random::RandomSource;
@@ -133,6 +137,21 @@ pub fn tell_limited<R: Wait + RandomSource + AllocGlobal>(
         status: 0,
         text,
         finished: Finished::Polled(run),
+    })
+}
+
+/// Runs a script for versions of a map, and answers with what is to be written of the run.
+pub fn tell_tree(alloc: Global, script: &TreeScript) -> Result<Reply, AllocError>
+    requires { IsScript script.now }
+    ensures { IfOk result (λ r. (r.status ≡ 0) × IsTreeTold script.now r.finished r.text.items) }
+{
+    let run = run_script(alloc, script)?;
+    let text = run_text(alloc, script, &run)?;
+    let Treed { closed, .. } = run;
+    Ok(Reply {
+        status: 0,
+        text,
+        finished: Finished::Treed(closed),
     })
 }
 

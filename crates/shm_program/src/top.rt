@@ -4,7 +4,7 @@ ghost use Rattle.std.specs.Prelude.{◌≡◌, ◌≢◌, ℕ, List, false, IfEr
 ghost use Rattle.std.specs.String.{string_bytes};
 ghost use Rattle.shm_program.specs.Outcomes.{Answers, IsCall, IsWanting, IsWritten, sides};
 ghost use Rattle.shm_program.specs.Reads.{IsRead, IsUnread, limit_of};
-ghost use Rattle.shm_program.specs.Words.{JobFits, is_determined, job_of};
+ghost use Rattle.shm_program.specs.Words.{JobFits, job_of, may_wait};
 
 use crate::answer::{Reply, answer, answer_waiting};
 use crate::auditing::audit_input;
@@ -17,14 +17,14 @@ use std::random::RandomSource;
 use std::sync::Wait;
 use std::thread::Threads;
 
-/// One byte more than a trace may have.
+/// One byte more than a trace, or a script, may have.
 const TRACE_LIMIT: usize = 1_048_577;
 
 /// One byte more than the image of the largest pool has, which is of format 2.
 const IMAGE_LIMIT: usize = 132_185_377;
 
 const USAGE: &str =
-    "usage: cxlshm replay [--image|--print] | run [--image] [--medics K] | audit | make START SIZE [--print] | migrate | poll Q [--limit P]\n";
+    "usage: cxlshm replay [--image|--print] | run [--image] [--medics K] | audit | make START SIZE [--print] | migrate | poll Q [--limit P] | tree\n";
 
 /// Does what the words say.
 ///
@@ -39,8 +39,9 @@ const USAGE: &str =
 ///   of four clients, and writes the summary; with `--print` it writes that trace, without a replay.
 /// - `poll Q` reads a trace to its end, has its clients run it as futures on one thread, of which each poll gives an identity Q turns, 1 to
 ///   1,000,000, closes the pool and writes the report. With `--limit P`, 1 to 1,000,000, what isn't done after P polls is given up and recovered.
+/// - `tree` reads a script for versions of an ordered map to its end, runs its lines, closes the pool and writes what they were answered by.
 ///
-/// The whole text is made before the first write. At most 1,048,577 bytes of a trace and 132,185,377 bytes of an image are read.
+/// The whole text is made before the first write. At most 1,048,577 bytes of a trace or a script and 132,185,377 bytes of an image are read.
 ///
 /// Only `run` and `poll` may wait: for their threads or for the future that is polled, and, where an agent of the closing dies, forever. So what
 /// is promised of them holds if they return. All other words are done by `call`, which always returns.
@@ -78,7 +79,7 @@ pub fn call<S: Source, K: Sink>(
     ensures done { IfOk result (λ r. IsCall (map string_bytes words.now) (sides (S.left source.old) (S.faults source.old) (K.held sink.old) (K.faults sink.old)) (sides (S.left source.new) (S.faults source.new) (K.held sink.new) (K.faults sink.new)) r.status r.finished) }
     ensures job { IfErr result (λ job. job_of (map string_bytes words.now) ≡ Some job) }
     ensures fits { IfErr result JobFits }
-    ensures waits { IfErr result (λ job. is_determined job ≡ false) }
+    ensures waits { IfErr result (λ job. may_wait job ≡ true) }
     ensures unread { IfErr result (λ _. source.new ≡ source.old) }
     ensures unwritten { IfErr result (λ _. sink.new ≡ sink.old) }
 {
@@ -102,7 +103,7 @@ fn answer_input<S: Source>(
     job: Job,
 ) -> Result<Result<Reply, AllocError>, u8>
     requires fits { JobFits job }
-    requires determined { is_determined job ≡ true }
+    requires returns { may_wait job ≡ false }
     ensures read { IfOk result (λ answered. (bytes : List ℕ) × IsRead (S.left source.old) (S.faults source.old) (S.left source.new) (S.faults source.new) (limit_of job) bytes × IfOk answered (λ r. Answers job bytes r.status r.finished r.text.items)) }
     ensures unread { IfErr result (λ status. IsUnread (S.left source.old) (S.faults source.old) (S.left source.new) (S.faults source.new) (limit_of job) status) }
 {
@@ -132,9 +133,12 @@ fn limit_of(job: Job) -> usize
     ensures { result ≡ limit_of job }
 {
     match job {
-        Job::Replay(_) | Job::Print | Job::Run(_) | Job::Rescue { .. } | Job::Poll { .. } => {
-            TRACE_LIMIT
-        }
+        Job::Replay(_)
+        | Job::Print
+        | Job::Run(_)
+        | Job::Rescue { .. }
+        | Job::Poll { .. }
+        | Job::Tree => TRACE_LIMIT,
         Job::Audit | Job::Migrate => IMAGE_LIMIT,
         Job::Make { .. } | Job::Draw { .. } => 0,
     }

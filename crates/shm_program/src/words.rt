@@ -1,11 +1,11 @@
 //! What the words of a call ask for.
 
-ghost use Rattle.std.specs.Prelude.{◌≡◌, ◌≢◌, ◌∷◌, [], true, false, not, slice_index, IfErr, IfOk, IfSome, List, None, Some, codes, map, option_and_then, option_map, ℕ};
+ghost use Rattle.std.specs.Prelude.{◌≡◌, ◌≢◌, ◌∷◌, [], true, false, slice_index, IfErr, IfOk, IfSome, List, None, Some, codes, map, option_and_then, option_map, ℕ};
 ghost use Rattle.std.specs.Option.{is_some};
 ghost use Rattle.std.specs.String.{string_bytes};
 ghost use Rattle.clap.specs.Words.{app_of, first_value, found_of, is_simple_and_free};
 ghost use Rattle.shm_script.specs.Numbers.{is_numeral, leads_well};
-ghost use Rattle.shm_program.specs.Words.{AreMedics, IsCount, JobFits, NamesCommand, asked, audit_command, audit_in, count_of, is_determined, is_true, job_by, job_of, make_command, make_in, make_of, medics_of, migrate_command, migrate_in, name_of, number_in, poll_command, poll_in, poll_of, read_by, replay_command, replay_in, replay_of, rows_in, run_command, run_in, run_of};
+ghost use Rattle.shm_program.specs.Words.{AreMedics, IsCount, JobFits, NamesCommand, asked, audit_command, audit_in, count_of, is_true, job_by, job_of, make_command, make_in, make_of, may_wait, medics_of, migrate_command, migrate_in, name_of, number_in, poll_command, poll_in, poll_of, read_by, replay_command, replay_in, replay_of, rows_in, run_command, run_in, run_of, tree_command, tree_in};
 
 use clap::error::ErrorKind;
 use clap::{Arg, ArgAction, ArgMatches, Command};
@@ -43,6 +43,8 @@ pub enum Job {
     Draw { start: u64, size: u32 },
     /// `poll Q [--limit P]`: a trace is read and run by clients that are polled, each poll with Q turns of one identity, at most P polls.
     Poll { turns: u32, limit: Option<u32> },
+    /// `tree`: a script for versions of an ordered map is read and run.
+    Tree,
 }
 
 /// The commands that the first word names.
@@ -54,12 +56,13 @@ pub enum Name {
     Make,
     Migrate,
     Poll,
+    Tree,
 }
 
 impl Job {
     /// Whether it may wait: for threads, or for a future that is polled.
     pub fn may_wait(&self) -> bool
-        ensures { result ≡ not (is_determined self.now) }
+        ensures { result ≡ may_wait self.now }
     {
         matches!(self, Job::Run(_) | Job::Rescue { .. } | Job::Poll { .. })
     }
@@ -98,6 +101,8 @@ fn name_of(word: &str) -> Option<Name>
         Some(Name::Migrate)
     } else if word == "poll" {
         Some(Name::Poll)
+    } else if word == "tree" {
+        Some(Name::Tree)
     } else {
         None
     }
@@ -115,6 +120,7 @@ fn job_by(alloc: Global, name: Name, words: &[String]) -> Result<Option<Job>, Al
         Name::Make => make_job(alloc, words),
         Name::Migrate => migrate_job(alloc, words),
         Name::Poll => poll_job(alloc, words),
+        Name::Tree => tree_job(alloc, words),
     }
 }
 
@@ -333,6 +339,18 @@ fn count_of(number: Option<u64>) -> Option<u32>
     Some(number as u32)
 }
 
+/// What the words of `tree` ask for.
+fn tree_job(alloc: Global, words: &[String]) -> Result<Option<Job>, AllocError>
+    ensures job { IfOk result (λ job. job ≡ asked tree_command tree_in (map string_bytes words.now)) }
+    ensures fits { IfOk result (λ job. IfSome job JobFits) }
+{
+    let command = Command::new(alloc, "tree");
+    match read(command, words)? {
+        Some(_) => Ok(Some(Job::Tree)),
+        None => Ok(None),
+    }
+}
+
 /// What the command reads in the words, and nothing where it refuses them.
 fn read<'a>(command: Command<'a>, words: &'a [String]) -> Result<Option<ArgMatches<'a>>, AllocError>
     requires { is_simple_and_free (app_of command) ≡ true }
@@ -421,6 +439,8 @@ pub fn words_of_jobs()
     ensures poll_zero { job_of (codes "poll" ∷ codes "0" ∷ []) ≡ None }
     ensures poll_many { job_of (codes "poll" ∷ codes "1000001" ∷ []) ≡ None }
     ensures poll_no_limit { job_of (codes "poll" ∷ codes "7" ∷ codes "--limit" ∷ codes "0" ∷ []) ≡ None }
+    ensures tree { job_of (codes "tree" ∷ []) ≡ Some Job.Tree }
+    ensures tree_more { job_of (codes "tree" ∷ codes "--print" ∷ []) ≡ None }
     ensures other { (rest : List (List ℕ)) → job_of (codes "Replay" ∷ rest) ≡ None }
     ensures none { job_of [] ≡ None }
 {}

@@ -125,3 +125,11 @@ returns-clause-poll_many c = refl
 pub returns-clause-poll_no_limit : goal.returns-clause-poll_no_limit
 unfolding clap_on_literals
 returns-clause-poll_no_limit c = refl
+
+pub returns-clause-tree : goal.returns-clause-tree
+unfolding clap_on_literals
+returns-clause-tree c = refl
+
+pub returns-clause-tree_more : goal.returns-clause-tree_more
+unfolding clap_on_literals
+returns-clause-tree_more c = refl
