@@ -102,7 +102,8 @@ fn all_rounds<J: Pools>(
     Ok(rounds)
 }
 
-/// All workers and all medics at work beside each other, the workers first where no thread can be made.
+/// All workers and all medics at work beside each other. Medics wait for the workers, so that the caller does the work of the workers: where no thread
+/// can be made for the medics, their work comes last.
 fn all_at_work<'a, J: Pools + Send + Sync, R: Threads + Wait + Sync, G: Gate>(
     rt: &R,
     pool: &SharedPool,
@@ -121,14 +122,14 @@ fn all_at_work<'a, J: Pools + Send + Sync, R: Threads + Wait + Sync, G: Gate>(
     ensures rounds { IfOk result (λ v. length v.1.items ≡ length rounds.items) }
     ensures healed { IfOk result (λ v. All (λ r. IsRound trace.now pool.now morgue.now r.medic r.slots.items) v.1.items) }
 {
-    let (worked, healed) = thread::join(
+    let (healed, worked) = thread::join(
         rt,
-        move || -> Result<Vec<Worked<J>>, AllocError>
-            requires { ((i : ℕ) (d : _) → i < length tasks.items → let k = slice_index_or tasks.items i d in (k.job.token.account.who ≡ i) × IsTask trace.now pool.now morgue.now k.job k.porter) × (J.pools ≡ pool.now ∷ []) }
-        { work_all(rt, pool, trace, morgue, gate, tasks) },
         move || -> Result<Vec<Round<J>>, AllocError>
             requires { All (λ r. IsRound trace.now pool.now morgue.now r.medic r.slots.items) rounds.items × (J.pools ≡ pool.now ∷ []) }
         { heal_all(rt, pool, trace, morgue, gate, ended, rounds) },
+        move || -> Result<Vec<Worked<J>>, AllocError>
+            requires { ((i : ℕ) (d : _) → i < length tasks.items → let k = slice_index_or tasks.items i d in (k.job.token.account.who ≡ i) × IsTask trace.now pool.now morgue.now k.job k.porter) × (J.pools ≡ pool.now ∷ []) }
+        { work_all(rt, pool, trace, morgue, gate, tasks) },
     );
     Ok((worked?, healed?))
 }
