@@ -67,6 +67,8 @@ PUT = b"pool 1 1\nclient 0\nput 5 77\n"
 TWO = b"pool 2 2\norder 0:104 1:1000\nclient 0\nlife 104\nput 5 77\nclient 1\ncopy 9 0 5\n"
 TEAM = b"pool 2 2\nclient 0\nput 5 77\nclient 1\nput 6 78\n"
 FAULTY = b"pool 2 1\nclient 16\n"
+CUT = b"pool 1 1\nclient 0\nlife 50\nput 5 77\n"
+TREE = b"tree 1\nset 0 0 5 1\nset 1 0 9 3\nget 1 5\n"
 ALL = 1 << 62
 
 
@@ -145,6 +147,12 @@ def main():
             ("run of two clients", ["run"], TEAM),
             ("run of no trace", ["run"], FAULTY),
             ("run --image", ["run", "--image"], PUT),
+            ("run --medics 2", ["run", "--medics", "2"], PUT),
+            ("run --medics 2 of a client that dies", ["run", "--medics", "2"], CUT),
+            ("poll 7", ["poll", "7"], PUT),
+            ("poll 7 --limit 2", ["poll", "7", "--limit", "2"], PUT),
+            ("tree", ["tree"], TREE),
+            ("tree of no script", ["tree"], FAULTY),
             ("audit", ["audit"], image),
             ("audit of no image", ["audit"], image[:-1]),
             ("migrate", ["migrate"], image),
