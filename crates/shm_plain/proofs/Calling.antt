@@ -193,7 +193,7 @@ module _ {M A : Type 0} (k : Control M A) (fits : M → Memo → Memo → Trail 
     pub call : call_before (k.fresh n) (memo_of (readied q c) c).call ≡ call_before (k.fresh m) (memo_of (readied p c) c).call ++ trail
     pub spent : y + length trail ≡ x
     pub made : y + steps_made (memo_of q c) ≡ x + steps_made (memo_of p c)
-    pub same : ((q ≡ p) × (y ≡ x)) ⊎ ((acts (memo_of q c) ≡ true) × (k.fresh n ≡ false))
+    pub same : ((q ≡ p) × (y ≡ x)) ⊎ ((acts (memo_of q c) ≡ true) × (k.fresh n ≡ false) × ((memo_of q c).over ≡ false) × (y < x))
 
   -- a machine that has made no step fits where it fits the memo of an identity of which an agent acts
   pub fits_acting : (p : Pool) (m : M) → acts (memo_of p c) ≡ true → k.fresh m ≡ true → fits m (memo_of p c) (memo_of p c) [] → fits_now k fits m (memo_of p c) (memo_of (readied p c) c)
@@ -302,6 +302,8 @@ module _ {M A : Type 0} (k : Control M A) (fits : M → Memo → Memo → Trail 
           run = run;
           did = took_grew k c p q' m steady of went_took;
           cut = λ u. absurd (true≢false u);
+          within = λ u. absurd (true≢false u);
+          still = λ u. absurd (true≢false u);
           acts = λ u. went_acts;
           gone = λ u. went_gone ((steady n t.seen went.of.2).ends ∙ ap is_some answer);
           kind = λ u. went_kind;
@@ -343,7 +345,7 @@ module _ {M A : Type 0} (k : Control M A) (fits : M → Memo → Memo → Trail 
                 ap (λ (b : Bool). call_before b (memo_of (readied q' c) c).call) begun ∙ (ap (λ (z : Memo). z.call) (ready_still q' c acts') ∙ called);
             spent = spent_more y' left;
             made = made_more y' left;
-            same = inr (acts', ap (λ (z : M). k.fresh z) after ∙ stays.started);
+            same = inr (acts', ap (λ (z : M). k.fresh z) after ∙ stays.started, ap (λ (z : Account). z.memo.over) here ∙ going, let l = went.spent in omega arith);
           }
 
   -- the steps of the machine up to now, where there were some
@@ -390,6 +392,14 @@ module _ {M A : Type 0} (k : Control M A) (fits : M → Memo → Memo → Trail 
         cut = λ u some. elim went.same [
           | inl s ↦ absurd (let e : y ≡ x = s.1 in omega arith)
           | inr s ↦ s.0
+        ];
+        within = λ u some. elim went.same [
+          | inl s ↦ absurd (let e : y ≡ x = s.1 in omega arith)
+          | inr s ↦ s.2
+        ];
+        still = λ u zero. elim went.same [
+          | inl s ↦ s.0
+          | inr s ↦ absurd (let l = s.3 in omega arith)
         ];
         acts = λ u. absurd (true≢false (sym u));
         gone = λ u. absurd (true≢false (sym u));
