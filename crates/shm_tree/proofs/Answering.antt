@@ -1,11 +1,14 @@
 -- What a plan leaves that was run for the one client and answered, and what a call leaves that comes after another.
 use Rattle.std.proofs.Common.{◌≡◌, ◌≢◌, ℕ, true, List, [], ◌++◌, refl, sym, ◌∙◌, subst, inl, inr}
-use Rattle.std.specs.Prelude.{IfOk, Ok, Err, Result}
+use Rattle.std.specs.Prelude.{IfOk, Ok, Err, Result, Some}
+use Rattle.shm_graph.specs.declared.ask.Me.{Me}
 use Rattle.shm_graph.specs.declared.memo.Memo.{Memo}
 use Rattle.shm_graph.specs.declared.run.Start.{Start}
 use Rattle.shm_graph.specs.declared.spot.Spot.TheVariants.{Body}
 use Rattle.shm_graph.specs.Asks.{Trail}
 use Rattle.shm_graph.specs.Events.{Event}
+use Rattle.shm_graph.specs.Laws.{Control}
+use Rattle.shm_calls.specs.CallsControl.{calls_of}
 use Rattle.shm_calls.specs.Plans.{Planned}
 use Rattle.shm_plain.specs.Calls.{Did, IsAtWork, Ran}
 use Rattle.shm_plain.specs.Pools.{IsRun, Pool, memo_of}
@@ -25,7 +28,7 @@ use Rattle.shm_ref.specs.DropRoot.{DropLeaves}
 use Rattle.shm_ref.specs.SetRef.Control.{setting}
 use Rattle.shm_ref.specs.SetRef.{SetLeaves}
 use Rattle.plain_calls.specs.Allocating.{IsAsked}
-use Rattle.plain_calls.proofs.Running.{PlanLeft}
+use Rattle.plain_calls.proofs.Running.{MachineLeft, PlanLeft, plan_done}
 use Rattle.shm_tree.specs.declared.node.Side.{Side}
 use Rattle.shm_tree.specs.declared.node.Side.TheVariants.{Left, Right}
 use Rattle.shm_tree.specs.declared.stop.Stop.{Stop}
@@ -44,10 +47,17 @@ use Rattle.shm_tree.proofs.Turns.{did_then}
 abbrev pub Answered : {P C B A : Type 0} → Planned P C B A → P → Pool → Pool → A → Type 0
 Answered q s p r a = (es : List Event) × IsOn p r es × q.leaves s (memo_of p 0) (memo_of r 0) (memo_of r 0).call es a
 
-pub answered_at : {P C B A : Type 0} (q : Planned P C B A) (s : P) (p r : Pool) (x y : ℕ) (a b : A) → a ≡ b → IsWorking p → Ran 0 true true p r x y → IsAtWork 0 r → PlanLeft q s 0 p r a → Answered q s p r b
+answered_at : {P C B A : Type 0} (q : Planned P C B A) (s : P) (p r : Pool) (x y : ℕ) (a b : A) → a ≡ b → IsWorking p → Ran 0 true true p r x y → IsAtWork 0 r → PlanLeft q s 0 p r a → Answered q s p r b
 answered_at {P} {C} {B} {A} q s p r x y a b e h ran at left =
     let Q : A → Type 0 = λ z. Answered q s p r z in
     subst Q e (left.0, on_answer true p r x y left.0 h ran at left.1, left.2)
+
+-- by the plan as it was made, for the client's identity
+pub plan_answered : {P C B A : Type 0} (k : Control C B) (q : Planned P C B A) (plan : Me → P) (p r : Pool) {x y : ℕ} {z : Me} {e : P} (a : A) {b : A} → z ≡ member p.start.geometry 0 → e ≡ plan z → a ≡ b → IsWorking p → Ran 0 true true p r x y → IsAtWork 0 r → MachineLeft k q (calls_of q e) 0 p r (Some a)
+    → Answered q (plan (member p.start.geometry 0)) p r b
+plan_answered k q plan p r a is planned same wp ran at left =
+    let me = member p.start.geometry 0 in
+    answered_at q (plan me) p r _ _ a _ same wp ran at (plan_done q plan me _ _ _ is planned refl k 0 p r (Some a) a refl left)
 
 -- ---- what a block is
 
@@ -132,14 +142,16 @@ refused_map T S P Q (stop.EraSpent e) f h = f h
 -- ---- causes
 
 -- what a call left after which came others
-pub within_before : (L : Memo → Memo → Trail → List Event → Type 0) (p m q : Pool) (es : List Event) → Did 0 p m es → L (memo_of p 0) (memo_of m 0) (memo_of m 0).call es → (fs : List Event) × Did 0 m q fs → Within p q L
-within_before L p m q es did leaves on =
+pub within_before : (L : Memo → Memo → Trail → List Event → Type 0) (p m q : Pool) (es : List Event) → IsOn p m es → L (memo_of p 0) (memo_of m 0) (memo_of m 0).call es → (fs : List Event) × Did 0 m q fs → Within p q L
+within_before L p m q es first leaves on =
     record {
       before = p;
       after = m;
       told = es;
+      starts = (refl, first.start);
+      runs = (first.working.run, first.run);
       to = ([], did_none 0 p p refl);
-      ran = did;
+      ran = first.did;
       leaves = leaves;
       on = on;
     }
@@ -151,6 +163,8 @@ within_after L p m q hp hm start (es, did) w =
       before = w.before;
       after = w.after;
       told = w.told;
+      starts = (w.starts.0 ∙ start, w.starts.1 ∙ start);
+      runs = w.runs;
       to = (es ++ w.to.0, did_then 0 p m w.before es w.to.0 hp hm start did w.to.1);
       ran = w.ran;
       leaves = w.leaves;
@@ -164,7 +178,7 @@ module _ (p m q : Pool) (hp : IsRun p) (hm : IsRun m) (start : m.start ≡ p.sta
 
   set_after : (f : SetFault) → SetRefused m q f → SetRefused p q f
   set_after f (b, i, c, w) =
-      (b, i, c, within_after (λ r0 r tr es. SetLeaves (setting (member p.start.geometry 0) b i c) r0 r tr es (Err f)) p m q hp hm start before (subst (λ (z : Start). Within m q (λ r0 r tr es. SetLeaves (setting (member z.geometry 0) b i c) r0 r tr es (Err f))) start w))
+      (b, i, c, within_after (λ r0 r tr es. SetLeaves (setting (member p.start.geometry 0) b i c) r0 r tr es (Err f) × (es ≡ [])) p m q hp hm start before (subst (λ (z : Start). Within m q (λ r0 r tr es. SetLeaves (setting (member z.geometry 0) b i c) r0 r tr es (Err f) × (es ≡ []))) start w))
 
   share_after : (f : ShareFault) → ShareRefused m q f → ShareRefused p q f
   share_after f (b, w) =

@@ -14,20 +14,23 @@ use Rattle.shm_tree.specs.declared.node.Side.{Side}
 use Rattle.shm_tree.specs.declared.node.Side.TheVariants.{Left, Right}
 use Rattle.shm_tree.specs.declared.stop.Stop.{Stop}
 use Rattle.shm_tree.specs.declared.stop.Stop.TheVariants as stop
-use Rattle.shm_tree.specs.Bounds.{link_steps}
+use Rattle.shm_tree.specs.Bounds.{drop_steps, link_steps}
 use Rattle.shm_tree.specs.Building.{Builds, IsAtHand, IsBuilt, IsCheap, IsCut, IsHeld, IsRebuilt, block_of, named_by, rooms}
 use Rattle.shm_tree.specs.Causes.{StopCause}
 use Rattle.shm_tree.specs.Falling.{KeepsFalling}
 use Rattle.shm_tree.specs.Keeping.{HasGrown, HasMade, HasTree, IsBorn, IsDropped, IsLinked, IsStill, KeepsNodes, KeepsTrees}
+use Rattle.shm_tree.specs.Looking.{Looks}
 use Rattle.shm_tree.specs.Spending.{HasSpent}
 use Rattle.shm_tree.specs.Standing.{Stands}
+use Rattle.shm_tree.specs.Tearing.{HasTorn}
 use Rattle.shm_tree.specs.Trees.{Tree, Empty, Node}
-use Rattle.shm_tree.specs.Working.{AreSameRoots, HasRoom, IfAlive, IfRefused, IsEmptied, IsOver, IsReached, IsRooted, IsSameLatch, IsWorking, Reaches, Went}
+use Rattle.shm_tree.specs.Working.{AreSameRoots, DiedIn, HasRoom, IfAlive, IfRefused, IsEmptied, IsReached, IsRooted, IsSameLatch, IsWorking, Reaches, Went}
 use Rattle.shm_tree.proofs.Answering.{alive_map, cause_after, refused_map}
+use Rattle.shm_tree.proofs.CutOffs.{died_then, look_died, look_then}
 use Rattle.shm_tree.proofs.Links.{went_then}
 use Rattle.shm_tree.proofs.Nodes.{keeps_then, made_then}
-use Rattle.shm_tree.proofs.Spendings.{spent_call, spent_more, spent_then}
-use Rattle.shm_tree.proofs.Weights.{blocks_dropped, blocks_nodes, blocks_then}
+use Rattle.shm_tree.proofs.Spendings.{spent_call, spent_drop, spent_more, spent_then}
+use Rattle.shm_tree.proofs.Weights.{blocks_dropped, blocks_nodes, blocks_then, weight_none, weight_root}
 
 -- ---- trees and nodes
 
@@ -53,9 +56,9 @@ went_on {p = p} {q = q} {r = r} hp a b = went_then p q r _ _ _ hp a b
 pub made_more : (n m : ℕ) (p q : Pool) → HasMade n p q → n ≤ m → HasMade m p q
 made_more n m p q a h = let few = a.2 in (a.0, a.1, omega (arith, few, h))
 
--- ---- calls that read
+-- ---- calls that look
 
--- what calls that read left
+-- what calls that look left, done
 pub record Looked (p q : Pool) (x y : ℕ) : Type 0 where
   pub went : Went p q x y
   pub working : IsWorking q
@@ -63,8 +66,20 @@ pub record Looked (p q : Pool) (x y : ℕ) : Type 0 where
   pub still : IsStill p q
   pub reaches : Reaches p q
 
-pub looked : {p q : Pool} {x y : ℕ} → Went p q x y → IsWorking q → IsSameLatch p q → IsStill p q → Reaches p q → Looked p q x y
-looked g w l s h = record { went = g; working = w; latch = l; still = s; reaches = h }
+pub looked : {T : Type 0} {v : T} {p q : Pool} {x y : ℕ} → Looks {T = T} (Ok v) p q x y → Looked p q x y
+looked h = record { went = h.went; working = h.working; latch = h.latch; still = h.still; reaches = h.reaches }
+
+pub looks_done : {T : Type 0} (v : T) {p q : Pool} {x y : ℕ} → Looked p q x y → Looks {T = T} (Ok v) p q x y
+looks_done v h = record { went = h.went; working = h.working; latch = h.latch; still = h.still; reaches = h.reaches; died = tt }
+
+-- one that stopped, as it is handed on
+pub looks_from : {S T : Type 0} {p q : Pool} {x y : ℕ} {e : Stop} (o : Result T Stop) → IsErrAnd o (λ v. v ≡ e) → Looks {T = S} (Err e) p q x y → Looks {T = T} o p q x y
+looks_from (Ok a) h l = absurd h
+looks_from {T = T} {p = p} {q = q} {x = x} {y = y} (Err v) h l = subst (λ (w : Stop). Looks {T = T} (Err w) p q x y) (sym h) (record { went = l.went; working = tt; latch = tt; still = tt; reaches = tt; died = l.died })
+
+-- and after others
+pub looks_after : {T : Type 0} {e : Stop} {p q r : Pool} {x y z : ℕ} → IsRun p → Went p q x y → IsSameLatch p q → Looks {T = T} (Err e) q r y z → Looks {T = T} (Err e) p r x z
+looks_after {e = e} {p = p} {q = q} {r = r} {z = z} hp went latch l = record { went = went_on hp went l.went; working = tt; latch = tt; still = tt; reaches = tt; died = look_then p q r z e latch l.died }
 
 made_none : (p : Pool) → HasMade 0 p p
 made_none p = ([], did_none 0 p p refl, lit≤ tt)
@@ -130,7 +145,7 @@ cut_then {n = n} {m = m} {p = p} {q = q} {r = r} hp hq start a b =
             | inr e ↦ subst (λ (d : ℕ). Stands r d t) (a.roots j e) (b.trees j t low (subst (λ (d : ℕ). Stands q d t) (sym (a.roots j e)) (a.trees j t low s)))
           ];
       roots = λ k h. b.roots k (λ e. h (sym (a.roots k h) ∙ e)) ∙ a.roots k h;
-      blocks = blocks_then r a a.blocks b.blocks;
+      blocks = blocks_then r a b.blocks;
       made = made_then n m p q r hp hq start a.made b.made;
     }
 
@@ -141,14 +156,19 @@ pub builds_from : {T : Type 0} {k c : ℕ} {p q : Pool} {x y : ℕ} {e : Stop} (
 builds_from (Ok a) h b = absurd h
 builds_from {T = T} {k = k} {c = c} {p = p} {q = q} {x = x} {y = y} (Err v) h b = subst (λ (w : Stop). Builds {T = T} k c (Err w) p q x y) (sym h) b
 
--- no word step was left for a call
-pub builds_died : {T : Type 0} {k c : ℕ} {p q r : Pool} {x y z : ℕ} (e : Stop) → IsRun p → Went p q x y → Went q r y z → (e ≡ stop.Died) × (z ≡ 0) → Builds {T = T} k c (Err e) p r x z
-builds_died {T = T} {k = k} {c = c} {p = p} {q = q} {r = r} {x = x} {z = z} e hp went g d =
-    subst (λ (v : Stop). Builds {T = T} k c (Err v) p r x z) (sym d.0) (record { went = went_on hp went g; working = tt; latch = tt; refused = tt; spent = tt; cause = tt; died = λ w. d.1 })
+-- no word step was left for the first call
+pub builds_first : {S T : Type 0} {k c : ℕ} {p q : Pool} {x y : ℕ} {e : Stop} → Looks {T = S} (Err e) p q x y → Builds {T = T} k c (Err e) p q x y
+builds_first {T = T} {k = k} {c = c} {p = p} {q = q} {x = x} {y = y} l =
+    let d = l.died in
+    subst (λ (v : Stop). Builds {T = T} k c (Err v) p q x y) (sym d.0) (record { went = l.went; working = tt; latch = tt; refused = tt; spent = tt; cause = tt; died = look_died p q y stop.Died (refl, d.1, d.2) })
+
+-- or for one after others
+pub builds_died : {S T : Type 0} {k c : ℕ} {p q r : Pool} {x y z : ℕ} {e : Stop} → IsRun p → Went p q x y → IsSameLatch p q → Looks {T = S} (Err e) q r y z → Builds {T = T} k c (Err e) p r x z
+builds_died hp went latch l = builds_first (looks_after hp went latch l)
 
 -- a call was refused, or found no word step
 pub builds_cut : (S : Type 0) (m : ℕ) (b : Geometry → ℕ) {T : Type 0} {n k a c : ℕ} {p q r : Pool} {x y z : ℕ} (e : Stop) → n + m ≤ k → a + b p.start.geometry ≤ c → IsWorking p → Went p q x y → IsSameLatch p q → IsCut n p q → HasSpent a p q x y → Went q r y z → IfAlive {T = S} (Err e) (IsWorking r) → IfAlive {T = S} (Err e) (IsSameLatch q r) → IfRefused {T = S} (Err e) (IsCut m q r) → IfAlive {T = S} (Err e) (HasSpent (b q.start.geometry) q r y z)
-    → StopCause q r e → IsOver e z → Builds {T = T} k c (Err e) p r x z
+    → StopCause q r e → DiedIn e q r z → Builds {T = T} k c (Err e) p r x z
 builds_cut S m b {T = T} {n = n} {k = k} {a = a} {c = c} {p = p} {q = q} {r = r} {x = x} {y = y} {z = z} e le low wp went latch cut spent g w l h s cause over =
     record {
       went = went_on wp.run went g;
@@ -157,7 +177,7 @@ builds_cut S m b {T = T} {n = n} {k = k} {a = a} {c = c} {p = p} {q = q} {r = r}
       refused = refused_map S T (IsCut m q r) (IsCut k p r) e (λ v. cut_more k (cut_then wp.run went.run went.start cut v) le) h;
       spent = alive_map S T (HasSpent (b q.start.geometry) q r y z) (HasSpent c p r x z) e (λ v. spent_more (a + b p.start.geometry) c low (spent_then b wp went g spent v)) s;
       cause = cause_after p q r wp.run went.run went.start went.did e cause;
-      died = over;
+      died = died_then p q r z e latch over;
     }
 
 -- at an exit of a call that was refused
@@ -230,7 +250,7 @@ cut_dropped {n = n} {k = k} {p = p} {q = q} {r = r} hp hq start none cut gone le
             | inr e ↦ left.trees j (named_by p j) t (ne j e) low (cut.roots j e) (cut.trees j t low s)
           ];
       roots = λ j some. gone.others j (ne j some) ∙ cut.roots j some;
-      blocks = blocks_dropped none cut cut.blocks gone left work;
+      blocks = blocks_dropped none cut gone left work;
       made = made_more (n + 0) n p r (made_then n 0 p q r hp hq start cut.made left.made) (omega arith);
     }
 
@@ -276,6 +296,20 @@ top_stands {m = m} t some under over left h = left.trees m.root m.block t (apart
 pub builds_done : {T : Type 0} {n c : ℕ} {p q : Pool} {x y : ℕ} (a : T) → Went p q x y → IsWorking q → IsSameLatch p q → HasSpent c p q x y → Builds {T = T} n c (Ok a) p q x y
 builds_done a g w l s = record { went = g; working = w; latch = l; refused = tt; spent = s; cause = tt; died = tt }
 
+-- one call that builds after another
+pub builds_on : {S T : Type 0} {m : S} {v : T} {n k a : ℕ} {p q r : Pool} {x y z : ℕ} (b : Geometry → ℕ) → IsWorking p → Builds {T = S} n a (Ok m) p q x y → Builds {T = T} k (b q.start.geometry) (Ok v) q r y z → Builds {T = T} (n + k) (a + b p.start.geometry) (Ok v) p r x z
+builds_on b wp l h = builds_done _ (went_on wp.run l.went h.went) h.working (h.latch ∙ l.latch) (spent_then b wp l.went h.went l.spent h.spent)
+
+-- then the root of what it was built of was dropped
+pub builds_drop : {m : Made} {n a : ℕ} {p q r : Pool} {x y z : ℕ} (k : ℕ) → IsWorking p → Builds n a (Ok m) p q x y → Went q r y z → IsWorking r → IsSameLatch q r → (i : ℕ) × HasTorn k i q r × (y ≤ z + drop_steps q.start.geometry i) → Builds n (a + drop_steps p.start.geometry 0) (Ok m) p r x z
+builds_drop k wp l went w latch few = builds_done _ (went_on wp.run l.went went) w (latch ∙ l.latch) (spent_then (λ g. drop_steps g 0) wp l.went went l.spent (spent_drop k w few))
+
+-- or the drop stopped
+pub builds_stuck : {m : Made} {n a : ℕ} {p q r : Pool} {x y z : ℕ} (e : Stop) → IsWorking p → Builds n a (Ok m) p q x y → IsCut n p q → Went q r y z → IfAlive {T = Unit {0}} (Err e) (IsWorking r) → IfAlive {T = Unit {0}} (Err e) (IsSameLatch q r) → IfRefused {T = Unit {0}} (Err e) (IsStill q r)
+    → IfRefused {T = Unit {0}} (Err e) (y ≤ z + drop_steps q.start.geometry 0) → StopCause q r e → DiedIn e q r z → Builds {T = Made} n (a + drop_steps p.start.geometry 0) (Err e) p r x z
+builds_stuck {n = n} {a = a} e wp l cut went w latch still few cause died =
+    builds_cut (Unit {0}) 0 (λ g. drop_steps g 0) {T = Made} {n = n} {k = n} {a = a} e (omega arith) (omega arith) wp l.went l.latch cut l.spent went w latch (still_cuts (Unit {0}) _ _ _ still) (spent_refused (Unit {0}) _ _ went few) cause died
+
 pub alive_kept : {T : Type 0} {P Q : Type 0} (o : Result T Stop) → (P → Q) → IfAlive o P → IfAlive o Q
 alive_kept (Ok a) f h = f h
 alive_kept {T = T} {P = P} {Q = Q} (Err e) f h = alive_map T T P Q e f h
@@ -306,7 +340,7 @@ builds_after {c = c} {p = p} n k a b (Ok v) le low wp l few h = builds_done v (w
 builds_after {T = T} n k a b (Err e) le low wp l few h = builds_cut T n b {T = T} {n = 0} {k = k} {a = a} e (omega arith) low wp l.went l.latch (still_cut l.still) (spent_call a l.went few) h.went h.working h.latch h.refused h.spent h.cause h.died
 
 -- a node that was linked, as a call that builds
-pub builds_link : (p q : Pool) {x y : ℕ} (o : Result Made Stop) → Went p q x y → IfAlive o (IsWorking q) → IfAlive o (IsSameLatch p q) → IfRefused o (HasGrown 1 p q) → IfAlive o (x ≤ y + link_steps p.start.geometry) → IfErr o (λ e. StopCause p q e) → IfErr o (λ e. IsOver e y) → Builds 1 (link_steps p.start.geometry) o p q x y
+pub builds_link : (p q : Pool) {x y : ℕ} (o : Result Made Stop) → Went p q x y → IfAlive o (IsWorking q) → IfAlive o (IsSameLatch p q) → IfRefused o (HasGrown 1 p q) → IfAlive o (x ≤ y + link_steps p.start.geometry) → IfErr o (λ e. StopCause p q e) → IfErr o (λ e. DiedIn e p q y) → Builds 1 (link_steps p.start.geometry) o p q x y
 builds_link p q (Ok m) g w l h few cause over = builds_done m g w l (spent_call (link_steps p.start.geometry) g few)
 builds_link p q (Err e) g w l h few cause over =
     record { went = g; working = w; latch = l; refused = grown_cuts Made 1 p q e h; spent = spent_calls Made (link_steps p.start.geometry) e g few; cause = cause; died = over }
@@ -411,12 +445,13 @@ rebuilt_alone b =
       left = tt;
       others = λ j h o. b.rooted.others j h;
       trees = λ j t low o s. b.trees j t low s;
+      blocks = λ f j t low o s. b.blocks f j t low s;
       made = b.made;
     }
 
 -- where the root of the tree below was dropped
-pub rebuilt_over : {n : ℕ} {w m : Made} {p q r : Pool} → IsRun p → IsRun q → q.start ≡ p.start → IsHeld p w → IsBuilt n m p q → IsEmptied w.root q r → IsDropped w.root q r → IsRebuilt n (Some w) m p r
-rebuilt_over {n = n} {w = w} {m = m} {p = p} {q = q} {r = r} hp hq start held b gone left =
+pub rebuilt_over : {n : ℕ} {w m : Made} {p q r : Pool} → IsRun p → IsRun q → q.start ≡ p.start → IsHeld p w → IsBuilt n m p q → IsEmptied w.root q r → IsDropped w.root q r → IsWorking r → IsRebuilt n (Some w) m p r
+rebuilt_over {n = n} {w = w} {m = m} {p = p} {q = q} {r = r} hp hq start held b gone left work =
     let ne : m.root ≢ w.root = λ e. held.some (sym held.names ∙ (ap (named_by p) (sym e) ∙ b.rooted.empty)) in
     record {
       low = b.rooted.low;
@@ -429,6 +464,11 @@ rebuilt_over {n = n} {w = w} {m = m} {p = p} {q = q} {r = r} hp hq start held b 
           λ j t low o s. elim (cases_eq (named_by p j) 0) [
             | inl e ↦ none_stands p r (named_by p j) t e s
             | inr e ↦ left.trees j (named_by p j) t o low (b.rooted.others j (rooted_some j b.rooted e)) (b.trees j t low s)
+          ];
+      blocks =
+          λ f j t low o s. elim (cases_eq (named_by p j) 0) [
+            | inl e ↦ weight_none f p r (named_by p j) t e s
+            | inr e ↦ weight_root w.root q r work left f t j (named_by p j) (gone.others j o ∙ b.rooted.others j (rooted_some j b.rooted e)) (b.trees j t low s) ∙ b.blocks f j t low s
           ];
       made = made_more (n + 0) n p r (made_then n 0 p q r hp hq start b.made left.made) (omega arith);
     }

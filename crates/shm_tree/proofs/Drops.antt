@@ -354,4 +354,4 @@ module _ (p q : Pool) (es : List Event) (on : IsOn p q es) (k : ℕ) where
           omega (arith, c)
 
   pub drop_cause : (e : EraSpent) → DropLeaves (dropping me k) r0 r tr es (Err e) → DropRefused p q e
-  drop_cause e h = (k, within_self (λ m n t xs. DropLeaves (dropping me k) m n t xs (Err e)) p q es on.did h)
+  drop_cause e h = (k, within_self (λ m n t xs. DropLeaves (dropping me k) m n t xs (Err e)) p q es on h)

@@ -13,7 +13,7 @@ use Rattle.shm_graph.specs.Controllers.{IsEraRaised}
 use Rattle.shm_graph.specs.Events.{Event}
 use Rattle.shm_graph.specs.Spots.{see, upd}
 use Rattle.shm_graph.specs.Views.{own_word}
-use Rattle.shm_plain.specs.Pools.{Pool, memo_of}
+use Rattle.shm_plain.specs.Pools.{IsRun, Pool, memo_of}
 use Rattle.shm_tree.specs.Standing.{word_of}
 use Rattle.shm_tree.specs.Working.{IsSpent, IsWorking, Went}
 use Rattle.shm_tree.proofs.Turns.{StepsKeep, did_keeps}
@@ -53,15 +53,19 @@ stepped w (Exchange at from to) p x r h =
 kept : (g : Geometry) (x : ℕ) → StepsKeep g 0 any (λ w v. x ≤ w (Era 0 0))
 kept g x w w' v v' a p e low held step is good h = subst (λ (u : Spot → ℕ). x ≤ u (Era 0 0)) (sym is) (stepped w a p x step.era h)
 
-era_is : (p : Pool) → IsWorking p → own_word (memo_of p 0).own (Era 0 0) ≡ word_of p (Era 0 0)
-era_is p w = w.run.held.at.mine 0 (let n = w.one in omega (arith, n)) (Era 0 0) refl
+era_is : (p : Pool) → IsRun p → p.start.geometry.clients ≡ 1 → own_word (memo_of p 0).own (Era 0 0) ≡ word_of p (Era 0 0)
+era_is p run one = run.held.at.mine 0 (omega (arith, one)) (Era 0 0) refl
 
-pub spent_stays : (p q : Pool) {x y : ℕ} → IsWorking p → IsWorking q → Went p q x y → IsSpent (memo_of p 0) → IsSpent (memo_of q 0)
-spent_stays p q wp wq went spent =
-    let before = era_is p wp in
-    let after = era_is q wq in
+-- also in the midst of a call
+pub spent_went : (p q : Pool) {x y : ℕ} → IsWorking p → Went p q x y → IsSpent (memo_of p 0) → IsSpent (memo_of q 0)
+spent_went p q wp went spent =
+    let before = era_is p wp.run wp.one in
+    let after = era_is q went.run (ap (λ (s : Start). s.geometry.clients) went.start ∙ wp.one) in
     let least : ℕ = word_of p (Era 0 0) in
     let grown : least ≤ see p.start.geometry q.words (Era 0 0) =
     did_keeps 0 p q went.did.0 wp.run went.run went.start went.did.1 any tt (λ w v. least ≤ w (Era 0 0)) (kept p.start.geometry least) (all_any went.did.0) (omega arith) in
     let same : word_of q (Era 0 0) ≡ see p.start.geometry q.words (Era 0 0) = ap (λ (s : Start). see s.geometry q.words (Era 0 0)) went.start in
     omega (arith, before, after, grown, same, spent)
+
+pub spent_stays : (p q : Pool) {x y : ℕ} → IsWorking p → IsWorking q → Went p q x y → IsSpent (memo_of p 0) → IsSpent (memo_of q 0)
+spent_stays p q wp wq went spent = spent_went p q wp went spent

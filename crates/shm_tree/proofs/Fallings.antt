@@ -1,12 +1,10 @@
 -- Word steps of a removal, and what stays live.
-use Rattle.std.proofs.Common.{◌≡◌, ℕ, ◌+◌, ◌-◌, ◌*◌, ◌≤◌, Result, Ok, Err, [], true, refl, sym, ◌∙◌, subst, arith, inl, inr, true≢false}
-use Rattle.std.specs.Prelude.{IfOk}
+use Rattle.std.proofs.Common.{◌≡◌, ℕ, ◌+◌, ◌-◌, ◌*◌, ◌≤◌, [], true, refl, sym, ◌∙◌, subst, arith, inl, inr, true≢false}
 use Rattle.shm_words.specs.declared.geometry.Geometry.{Geometry}
 use Rattle.shm_plain.specs.Pools.{Pool, memo_of}
-use Rattle.shm_tree.specs.declared.stop.Stop.{Stop}
-use Rattle.shm_tree.specs.Bounds.{fall_steps, remnant_steps, remove_steps, with_child_steps}
-use Rattle.shm_tree.specs.Building.{Builds, IsCut, KeepsBlocks, named_by}
-use Rattle.shm_tree.specs.Keeping.{IsShared, IsStill, is_live}
+use Rattle.shm_tree.specs.Bounds.{fall_steps, remnant_steps, remove_steps, raise_steps}
+use Rattle.shm_tree.specs.Building.{IsCut, named_by}
+use Rattle.shm_tree.specs.Keeping.{IsShared, is_live}
 use Rattle.shm_tree.specs.Living.{AreLivesTrees, KeepsLives}
 use Rattle.shm_tree.specs.Spending.{HasSpent}
 use Rattle.shm_tree.specs.Standing.{Stands}
@@ -14,7 +12,6 @@ use Rattle.shm_tree.specs.Working.{IsSpent, IsWorking, Went}
 use Rattle.shm_tree.proofs.Eras.{spent_stays}
 use Rattle.shm_tree.proofs.Lights.{once, part_weighs, weighs_live}
 use Rattle.shm_tree.proofs.Named.{lives_nodes}
-use Rattle.shm_tree.proofs.Resting.{rests_still, rests_then}
 use Rattle.shm_tree.proofs.Spendings.{spent_more}
 
 -- ---- word steps
@@ -32,10 +29,10 @@ fallen_none p q {x} {y} e s =
     subst (λ j. HasSpent (fall_steps j e p.start.geometry) p q x y) (sym none) (spent_more _ (fall_steps 0 e p.start.geometry) (omega arith) s)
 
 -- and a node above it was made anew
-pub fallen_more : (p q : Pool) {x y : ℕ} (j d e i : ℕ) → d ≤ e → i ≡ j + 1 → HasSpent (fall_steps j e p.start.geometry + 5 * d + with_child_steps p.start.geometry) p q x y → HasSpent (fall_steps i e p.start.geometry) p q x y
+pub fallen_more : (p q : Pool) {x y : ℕ} (j d e i : ℕ) → d ≤ e → i ≡ j + 1 → HasSpent (fall_steps j e p.start.geometry + 5 * d + raise_steps p.start.geometry) p q x y → HasSpent (fall_steps i e p.start.geometry) p q x y
 fallen_more p q {x} {y} j d e i low next s =
     let g : Geometry = p.start.geometry in
-    subst (λ n. HasSpent (fall_steps n e g) p q x y) (sym next) (spent_more _ (fall_steps (j + 1) e g) (more (5 * e + 9 + remnant_steps g) j (5 * e + with_child_steps g) d e (with_child_steps g) refl low) s)
+    subst (λ n. HasSpent (fall_steps n e g) p q x y) (sym next) (spent_more _ (fall_steps (j + 1) e g) (more (5 * e + 9 + remnant_steps g) j (5 * e + raise_steps g) d e (raise_steps g) refl low) s)
 
 -- up to the first one
 pub fallen_low : (p q : Pool) {x y : ℕ} (j e h : ℕ) → j ≡ e → e ≤ h → HasSpent (fall_steps j e p.start.geometry) p q x y → HasSpent (remove_steps h p.start.geometry) p q x y
@@ -43,7 +40,7 @@ fallen_low p q {x} {y} j e h all low s =
     let g : Geometry = p.start.geometry in
     let whole : HasSpent (fall_steps e e g) p q x y = subst (λ n. HasSpent (fall_steps n e g) p q x y) all s in
     let sum : e + (h - e) ≡ h = omega (arith, low) in
-    subst (λ n. HasSpent (remove_steps n g) p q x y) sum (spent_more _ (remove_steps (e + (h - e)) g) (square e (h - e) (remnant_steps g) (with_child_steps g)) whole)
+    subst (λ n. HasSpent (remove_steps n g) p q x y) sum (spent_more _ (remove_steps (e + (h - e)) g) (square e (h - e) (remnant_steps g) (raise_steps g)) whole)
 
 -- ---- live blocks
 
@@ -54,17 +51,12 @@ rests_shared s calm d live before =
       | inr t ↦ (t.0, s.trees d t.0 t.1)
     ]
 
--- after calls that read
-pub rests_read : {T : Type 0} {n c x y : ℕ} (o : Result T Stop) (p q r : Pool) → IsWorking q → IsStill p q → Builds n c o q r x y → IfOk o (λ a. KeepsLives q r) → IfOk o (λ a. KeepsLives p r)
-rests_read (Ok m) p q r wq s b h = rests_then p q r wq b.working b.went (rests_still s) h
-rests_read (Err e) p q r wq s b h = tt
-
 -- Each block that was live is so still where what roots named stands, of the same blocks: it is a node of a tree that a root names
-pub cut_stay : {n x y : ℕ} (p q : Pool) → IsWorking p → IsWorking q → Went p q x y → (IsSpent (memo_of q 0) → ⊥) → AreLivesTrees p → IsCut n p q → KeepsBlocks p q → (b : ℕ) → is_live p b ≡ true → is_live q b ≡ true
-cut_stay p q wp wq went calm trees cut blocks b live =
+pub cut_stay : {n x y : ℕ} (p q : Pool) → IsWorking p → IsWorking q → Went p q x y → (IsSpent (memo_of q 0) → ⊥) → AreLivesTrees p → IsCut n p q → (b : ℕ) → is_live p b ≡ true → is_live q b ≡ true
+cut_stay p q wp wq went calm trees cut b live =
     let none : (memo_of p 0).dying ≡ [] = elim wp.dying [ inl e ↦ e | inr s ↦ absurd (calm (spent_stays p q wp wq went s)) ] in
     let w = lives_nodes p wp none trees b live in
     let there : Stands q (named_by p w.0) w.2 = cut.trees w.0 w.2 w.1 w.3 in
     let some = part_weighs p b (named_by p w.0) w.2 w.4 in
-    let same = blocks (once b) w.0 w.2 w.1 w.3 in
+    let same = cut.blocks (once b) w.0 w.2 w.1 w.3 in
     weighs_live q b (named_by p w.0) w.2 there (omega (arith, some, same))

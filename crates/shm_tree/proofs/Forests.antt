@@ -17,7 +17,7 @@ use Rattle.shm_tree.specs.Forests.{Calls, IsForest, IsFree, IsTidy, KeepsNamed, 
 use Rattle.shm_tree.specs.Keeping.{IsDropped, IsShared, IsStill}
 use Rattle.shm_tree.specs.Standing.{IsTree, Stands, weight}
 use Rattle.shm_tree.specs.Trees.{Tree}
-use Rattle.shm_tree.specs.Working.{IfAlive, IfRefused, IsEmptied, IsOver, IsRooted, IsSameLatch, IsWorking, Went}
+use Rattle.shm_tree.specs.Working.{DiedIn, IfAlive, IfRefused, IsEmptied, IsRooted, IsSameLatch, IsWorking, Went}
 use Rattle.shm_tree.proofs.Answering.{alive_map, cause_after}
 use Rattle.shm_tree.proofs.Building.{Looked, looked_none, alive_any, alive_kept, alive_refused, built_cut, none_stands, rooted_some, went_on}
 use Rattle.shm_tree.proofs.Links.{still_then}
@@ -245,7 +245,7 @@ named_shared {p = p} {q = q} h j some =
       | inr le ↦ root_past j le
     ]
 
-pub shared_grows : {p q r : Pool} {x y z : ℕ} (b : ℕ) (o : Result Made Stop) → IsWorking p → Looked p q x y → Went q r y z → IfAlive o (IsWorking r) → IfAlive o (IsSameLatch q r) → IfOk o (λ m. IsShared m.root b q r) → IfRefused o (IsStill q r) → IfErr o (λ e. StopCause q r e) → IfErr o (λ e. IsOver e z) → Calls KeepsNamed o p r x z
+pub shared_grows : {p q r : Pool} {x y z : ℕ} (b : ℕ) (o : Result Made Stop) → IsWorking p → Looked p q x y → Went q r y z → IfAlive o (IsWorking r) → IfAlive o (IsSameLatch q r) → IfOk o (λ m. IsShared m.root b q r) → IfRefused o (IsStill q r) → IfErr o (λ e. StopCause q r e) → IfErr o (λ e. DiedIn e q r z) → Calls KeepsNamed o p r x z
 shared_grows b (Ok m) wp l g w la sh st ca di = record { went = went_on wp.run l.went g; working = w; latch = la ∙ l.latch; kept = named_then (named_still l.still) (named_shared sh); cause = tt; died = tt }
 shared_grows {p = p} {q = q} {r = r} b (Err e) wp l g w la sh st ca di =
     record {
@@ -254,7 +254,7 @@ shared_grows {p = p} {q = q} {r = r} b (Err e) wp l g w la sh st ca di =
       latch = alive_map Made Made (IsSameLatch q r) (IsSameLatch p r) e (λ v. v ∙ l.latch) la;
       kept = alive_refused Made Made (IsStill q r) (KeepsNamed p r) e (λ u. named_then (named_still l.still) (named_still u)) st;
       cause = stopped_after e wp.run l.went (stopped_here e g.run g.start ca);
-      died = di;
+      died = λ d. (di d).0;
     }
 
 pub shared_rooted : {m : Made} {p q r : Pool} (b : ℕ) → IsStill p q → m.block ≡ b → IsShared m.root b q r → IsRooted m.root m.block p r
@@ -320,7 +320,7 @@ pub root_self : (p : Pool) (k : ℕ) → KeepsRoot p p k
 root_self p k = record { same = refl; trees = λ t s. s; blocks = λ f t s. refl }
 
 -- a root was dropped, or not
-pub dropped_calls : {T : Type 0} {p q : Pool} {x y : ℕ} (j : ℕ) (o : Result T Stop) → Went p q x y → IfAlive o (IsWorking q) → IfAlive o (IsSameLatch p q) → IfOk o (λ u. IsEmptied j p q) → IfOk o (λ u. IsDropped j p q) → IfRefused o (IsStill p q) → IfErr o (λ e. StopCause p q e) → IfErr o (λ e. IsOver e y) → Calls (KeepsOthers j) o p q x y
+pub dropped_calls : {T : Type 0} {p q : Pool} {x y : ℕ} (j : ℕ) (o : Result T Stop) → Went p q x y → IfAlive o (IsWorking q) → IfAlive o (IsSameLatch p q) → IfOk o (λ u. IsEmptied j p q) → IfOk o (λ u. IsDropped j p q) → IfRefused o (IsStill p q) → IfErr o (λ e. StopCause p q e) → IfErr o (λ e. DiedIn e p q y) → Calls (KeepsOthers j) o p q x y
 dropped_calls j (Ok a) g w l e d s ca di = record { went = g; working = w; latch = l; kept = λ k ne. root_dropped j k ne e d w; cause = tt; died = tt }
 dropped_calls {T = T} {p = p} {q = q} j (Err v) g w l e d s ca di =
-    record { went = g; working = w; latch = l; kept = alive_refused T T (IsStill p q) (KeepsOthers j p q) v (λ u k ne. root_still k u) s; cause = stopped_here v g.run g.start ca; died = di }
+    record { went = g; working = w; latch = l; kept = alive_refused T T (IsStill p q) (KeepsOthers j p q) v (λ u k ne. root_still k u) s; cause = stopped_here v g.run g.start ca; died = λ d. (di d).0 }

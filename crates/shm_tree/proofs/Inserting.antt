@@ -1,28 +1,28 @@
 -- One level of a tree in which a number is set at a key, and how far the levels below it came.
-use Rattle.std.proofs.Common.{◌≡◌, ◌≢◌, ◌==◌, ℕ, Bool, true, false, cond, ◌+◌, ◌*◌, ◌-◌, ◌<◌, ◌≤◌, lit≤, nat_lt, refl, sym, ap, ◌∙◌, subst, arith, inl, inr}
-use Rattle.std.specs.Prelude.{Some, if◌then◌else◌}
+use Rattle.std.proofs.Common.{◌≡◌, ◌≢◌, ◌==◌, ℕ, Bool, true, false, cond, ◌+◌, ◌*◌, ◌-◌, ◌<◌, ◌≤◌, nat_lt, refl, sym, ap, ◌∙◌, subst, arith, inl, inr}
+use Rattle.std.specs.Prelude.{None, Some, if◌then◌else◌}
 use Rattle.std.proofs.lemmas.Bool.{cases_eq, cases_lt, cond-false, cond-true, eq-eqb, ne_eqb}
 use Rattle.shm_graph.specs.declared.spot.Spot.TheVariants.{Body}
 use Rattle.shm_plain.specs.Pools.{IsRun, Pool}
 use Rattle.shm_count.specs.declared.answer.Made.{Made}
 use Rattle.shm_tree.specs.Bounds.{climb_steps}
 use Rattle.shm_tree.specs.Spending.{HasSpent}
-use Rattle.shm_tree.specs.declared.node.Content.{Content}
 use Rattle.shm_tree.specs.declared.node.Side.{Side}
 use Rattle.shm_tree.specs.declared.node.Side.TheVariants.{Left, Right}
-use Rattle.shm_tree.specs.Building.{IsAtHand, IsBuilt, IsCheap, IsHeld, IsRebuilt, KeepsBlocks, StandsOf, joined_by, named_by}
-use Rattle.shm_tree.specs.Inserting.{IsCheapAt, IsRegistered, StandsRenewed, left_of, outside, right_of, side_of}
-use Rattle.shm_tree.specs.Keeping.{HasMade, IsStill, KeepsTrees, child_of, node_by, other_side}
+use Rattle.shm_tree.specs.Building.{IsAtHand, IsBuilt, IsHeld, IsRebuilt, joined_by, named_by}
+use Rattle.shm_tree.specs.Inserting.{IsRegistered, left_of, outside, right_of}
+use Rattle.shm_tree.specs.Keeping.{HasMade, IsStill}
 use Rattle.shm_tree.specs.Living.{KeepsLives}
+use Rattle.shm_tree.specs.Raising.{IsCheapAt, StandsAgain, side_of}
 use Rattle.shm_tree.specs.Sharing.{CountsTop}
 use Rattle.shm_tree.specs.Standing.{Stands, weight, word_of}
 use Rattle.shm_tree.specs.Trees.{Tree, Empty, Node, AreNear, height, inserted, joined}
 use Rattle.shm_tree.specs.Ways.{IsEnd, IsOther, down, toward}
 use Rattle.shm_tree.specs.Working.{IsSameLatch, IsWorking, Went}
-use Rattle.shm_tree.proofs.Building.{made_more, none_stands, root_reached, rooted_some, tree_still}
+use Rattle.shm_tree.proofs.Building.{made_more, none_stands, root_reached, rooted_some}
 use Rattle.shm_tree.proofs.Costs.{away, cost, work, work_far, work_high, work_near}
 use Rattle.shm_tree.proofs.Nodes.{made_then}
-use Rattle.shm_tree.proofs.Rotations.{content_is, parts}
+use Rattle.shm_tree.proofs.Weights.{weight_nodes, weight_none}
 
 by_side : (x y k n : ℕ) (l r : Tree) (b : Bool) → cond b (joined k n (inserted x y l) r) (joined k n l (inserted x y r)) ≡ joined_by (cond b Left Right) (record { key = k; number = n }) (inserted x y (cond b l r)) (cond b r l)
 by_side x y k n l r true = refl
@@ -45,15 +45,14 @@ pub record Rising (x y d e : ℕ) (top : ℕ) (m : Made) (p q : Pool) (u v : ℕ
   pub on : (t : Tree) → Stands p top t → (i : ℕ) → i < e → IsOther x (down x t i)
   pub stands : (t : Tree) → Stands p top t → Stands q m.block (inserted x y (down x t d))
   pub made : (t : Tree) → Stands p top t → HasMade (cost x y (down x t d)) p q
-  pub blocks : KeepsBlocks p q
   pub rests : KeepsLives p q
   pub few : (t : Tree) → Stands p top t → weight (outside p top t) q m.block (inserted x y (down x t d)) ≤ 1 + (e - d)
   pub new : (t : Tree) → Stands p top t → outside p top t m.block ≡ 1
   pub tops : (t : Tree) → Stands p top t → height (inserted x y (down x t d)) ≡ height (down x t d) + 1 → (s : Side) → CountsTop (outside p top t) q s m.block
 
 -- one level more was built over what was built, after calls that read
-pub built_up : {n : ℕ} {low m : Made} {p q r s : Pool} → IsRun p → IsRun q → q.start ≡ p.start → IsRun r → r.start ≡ q.start → IsBuilt n low p q → IsStill q r → IsRebuilt 3 (Some low) m r s → KeepsBlocks p s → IsBuilt (n + 3) m p s
-built_up {n = n} {low = low} {m = m} {p = p} {q = q} {r = r} {s = s} hp hq start hr onward a i b blocks =
+pub built_up : {n : ℕ} {low m : Made} {p q r s : Pool} → IsRun p → IsRun q → q.start ≡ p.start → IsRun r → r.start ≡ q.start → IsBuilt n low p q → IsStill q r → IsRebuilt 3 (Some low) m r s → IsBuilt (n + 3) m p s
+built_up {n = n} {low = low} {m = m} {p = p} {q = q} {r = r} {s = s} hp hq start hr onward a i b =
     let ne : m.root ≢ low.root = λ e. a.some (sym a.rooted.names ∙ (ap (named_by q) (sym e) ∙ (sym (i.roots m.root) ∙ b.empty))) in
     record {
       rooted =
@@ -76,57 +75,18 @@ built_up {n = n} {low = low} {m = m} {p = p} {q = q} {r = r} {s = s} hp hq start
                 let same : named_by r j ≡ named_by p j = i.roots j ∙ a.rooted.others j ne' in
                 subst (λ (k : ℕ). Stands s k t) same (b.trees j t h ne' (subst (λ (k : ℕ). Stands r k t) (sym same) (i.trees (named_by p j) t (a.trees j t h st)))))
           ];
-      blocks = blocks;
+      blocks =
+          λ f j t h st. elim (cases_eq (named_by p j) 0) [
+            | inl e ↦ weight_none f p s (named_by p j) t e st
+            | inr e ↦
+                (let ne' = rooted_some j a.rooted e in
+                let same : named_by r j ≡ named_by p j = i.roots j ∙ a.rooted.others j ne' in
+                let there : Stands q (named_by p j) t = a.trees j t h st in
+                let more : weight f s (named_by p j) t ≡ weight f r (named_by p j) t = subst (λ (k : ℕ). weight f s k t ≡ weight f r k t) same (b.blocks f j t h ne' (subst (λ (k : ℕ). Stands r k t) (sym same) (i.trees (named_by p j) t there))) in
+                more ∙ (weight_nodes f q r i.nodes (named_by p j) t there ∙ a.blocks f j t h st))
+          ];
       made = made_more ((n + 0) + 3) (n + 3) p s (made_then (n + 0) 3 p r s hp hr (onward ∙ start) (made_then n 0 p q r hp hq start a.made i.made) b.made) (omega arith);
     }
-
--- ---- the call for one level
-
-pub held_kept : {p q : Pool} {w : Made} → IsStill p q → IsHeld p w → IsHeld q w
-held_kept {w = w} s h = record { low = h.low; some = h.some; names = s.roots w.root ∙ h.names; tree = tree_still w.block s h.tree }
-
--- after calls that read
-pub rebuilt_after : {n : ℕ} {w m : Made} {p q r : Pool} → IsRun p → IsRun q → q.start ≡ p.start → IsStill p q → IsRebuilt n (Some w) m q r → IsRebuilt n (Some w) m p r
-rebuilt_after {n = n} {p = p} {q = q} {r = r} hp hq start a b =
-    record {
-      low = b.low;
-      some = b.some;
-      empty = sym (a.roots _) ∙ b.empty;
-      names = b.names;
-      left = b.left;
-      others = λ j h o. b.others j h o ∙ a.roots j;
-      trees = λ j t low o s. subst (λ (k : ℕ). Stands r k t) (a.roots j) (b.trees j t low o (subst (λ (k : ℕ). Stands q k t) (sym (a.roots j)) (a.trees (named_by p j) t s)));
-      made = made_more (0 + n) n p r (made_then 0 n p q r hp hq start a.made b.made) (omega arith);
-    }
-
-pub sided : (b : Bool) (k n : ℕ) (l r : Tree) → Node k n l r ≡ node_by (cond b Left Right) (record { key = k; number = n }) (cond b l r) (cond b r l)
-sided true k n l r = refl
-sided false k n l r = refl
-
--- a node of which one side was renewed
-pub renewed_up : {p q : Pool} (r : Pool) (x node below m : ℕ) (c : Content) (s : Side) → s ≡ side_of x c.key → c.key ≡ word_of p (Body node 2) → c.number ≡ word_of p (Body node 3) → KeepsTrees p q → StandsOf (joined_by s c) (record { near = below; far = child_of q node (other_side s) }) m q r → StandsRenewed x node below m p r
-renewed_up {p = p} {q = q} r x node below m c s side key number keeps b k n l w u sn su =
-    let d : Content = record { key = k; number = n } in
-    let is : c ≡ d = content_is (key ∙ sn.0.key) (number ∙ sn.0.number) in
-    let o : s ≡ side_of x k = side ∙ ap (λ (e : Content). side_of x e.key) is in
-    let near = if nat_lt x k then l else w in
-    let far = if nat_lt x k then w else l in
-    let here : Stands q node (node_by s d near far) =
-    subst (λ (e : Side). Stands q node (node_by e d near far)) (sym o) (subst (Stands q node) (sided (nat_lt x k) k n l w) (keeps node (Node k n l w) sn)) in
-    let made = b u far (keeps below u su) (parts q node s d near far here).far in
-    subst (λ (e : Content). Stands r m (joined_by (side_of x k) e u far)) is (subst (λ (e : Side). Stands r m (joined_by e c u far)) o made)
-
--- and few blocks were made for it
-pub cheap_up : {p q r : Pool} (x node below : ℕ) (c : Content) (s : Side) → IsRun p → IsRun q → q.start ≡ p.start → s ≡ side_of x c.key → c.key ≡ word_of p (Body node 2) → IsStill p q → IsCheap (record { near = below; far = child_of q node (other_side s) }) q r → IsCheapAt x node below p r
-cheap_up {p = p} {q = q} {r = r} x node below c s hp hq start side key still b k n l w u sn su flat =
-    let d : Content = record { key = k; number = n } in
-    let o : s ≡ side_of x k = side ∙ ap (side_of x) (key ∙ sn.0.key) in
-    let near = if nat_lt x k then l else w in
-    let far = if nat_lt x k then w else l in
-    let here : Stands q node (node_by s d near far) =
-    subst (λ (e : Side). Stands q node (node_by e d near far)) (sym o) (subst (Stands q node) (sided (nat_lt x k) k n l w) (still.trees node (Node k n l w) sn)) in
-    let one = b u far (still.trees below u su) (parts q node s d near far here).far flat in
-    made_more (0 + 1) 1 p r (made_then 0 1 p q r hp hq start still.made one) (lit≤ tt)
 
 -- ---- the lowest level
 
@@ -164,9 +124,9 @@ registered_kept {p = p} {q = q} {b = b} t g h s =
     ]
 
 -- one level more: what stands at the node that was made again, by what stands below and at the node
-pub level_up : {r : Pool} (s : Pool) (x y node low m : ℕ) (t : Tree) → IsOther x t → Stands r node t → Stands r low (inserted x y (toward x t)) → StandsRenewed x node low m r s → Stands s m (inserted x y t)
+pub level_up : {r : Pool} (s : Pool) (x y node low m : ℕ) (t : Tree) → IsOther x t → Stands r node t → Stands r low (inserted x y (toward x t)) → StandsAgain x None node low m r s → Stands s m (inserted x y t)
 level_up s x y node low m Empty o here under b = absurd o
-level_up s x y node low m (Node k n l r) o here under b = subst (Stands s m) (sym (inserted_up x y k n l r o)) (b k n l r (inserted x y (toward x (Node k n l r))) here under)
+level_up s x y node low m (Node k n l r) o here under b = subst (Stands s m) (sym (inserted_up x y k n l r o)) (b (Node k n l r) (inserted x y (toward x (Node k n l r))) here under)
 
 -- and how many blocks were made for it
 pub level_made : {r s : Pool} (x y node low : ℕ) (t : Tree) → IsOther x t → Stands r node t → Stands r low (inserted x y (toward x t)) → HasMade 3 r s → IsCheapAt x node low r s → HasMade (work (inserted x y (toward x t)) (away x t)) r s

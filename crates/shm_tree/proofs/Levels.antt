@@ -7,7 +7,8 @@ use Rattle.shm_tree.specs.declared.node.Side.{Side}
 use Rattle.shm_tree.specs.declared.node.Side.TheVariants.{Left, Right}
 use Rattle.shm_tree.specs.Building.{joined_by}
 use Rattle.shm_tree.specs.Inserting.{left_of, right_of}
-use Rattle.shm_tree.specs.Removing.{again, content_in, less_least, rest, side_tree}
+use Rattle.shm_tree.specs.Raising.{again}
+use Rattle.shm_tree.specs.Removing.{content_in, less_least, rest, side_tree}
 use Rattle.shm_tree.specs.Trees.{Tree, Empty, Node, AreAbove, IsSearch, joined, least_key, least_number, merged, removed, without_least}
 use Rattle.shm_tree.specs.Ways.{IsDeep, IsEnd, IsOther, IsSome, down, toward}
 use Rattle.shm_tree.proofs.Searching.{above_less}

@@ -38,9 +38,11 @@ pub mod Costs
 pub mod Inserting
 pub mod Forests
 pub mod Moving
+pub mod CutShort
 pub mod Spares
 pub mod Weights
 pub mod Sharings
+pub mod Raising
 pub mod Growing
 pub mod Lights
 pub mod Living
@@ -71,3 +73,5 @@ pub mod Unnamed
 pub mod Referring
 pub mod Beginning
 pub mod Roomy
+pub mod CutOffs
+pub mod Unspent

@@ -1,30 +1,28 @@
 -- How few blocks of a tree in which a number is set are others, level by level from the key's place up.
-use Rattle.std.proofs.Common.{◌≡◌, ◌≢◌, ◌==◌, ℕ, ◌+◌, ◌<◌, ◌≤◌, ◌||◌, not, nat_lt, cond, Bool, true, false, refl, sym, ap, ◌∙◌, subst, arith, inl, inr, ◌⊎◌, true≢false}
-use Rattle.std.specs.Prelude.{Some}
+use Rattle.std.proofs.Common.{◌≡◌, ◌==◌, ℕ, ◌+◌, ◌<◌, ◌≤◌, ◌||◌, not, nat_lt, cond, Bool, true, false, refl, sym, ap, ◌∙◌, subst, arith, inl, inr, ◌⊎◌, true≢false}
+use Rattle.std.specs.Prelude.{None}
 use Rattle.std.proofs.lemmas.Bool.{cases_Bool, cases_eq, eq-eqb, ne_eqb}
 use Rattle.shm_graph.specs.References.{one_if}
 use Rattle.shm_graph.specs.declared.spot.Spot.TheVariants.{Body}
 use Rattle.shm_plain.specs.Pools.{Pool}
-use Rattle.shm_count.specs.declared.answer.Made.{Made}
 use Rattle.shm_tree.specs.declared.node.Content.{Content}
 use Rattle.shm_tree.specs.declared.node.Side.{Side}
 use Rattle.shm_tree.specs.declared.node.Side.TheVariants.{Left, Right}
-use Rattle.shm_tree.specs.Building.{IsBuilt, KeepsBlocks, joined_by, named_by}
-use Rattle.shm_tree.specs.Inserting.{IsOverAt, IsRegistered, WeighsRenewed, is_part, left_of, outside, right_of, side_of}
-use Rattle.shm_tree.specs.Keeping.{IsStill, child_of, is_live, node_by, other_side}
-use Rattle.shm_tree.specs.Sharing.{CountsTop, IsCount, IsOver, IsSharingOver, WeighsJoined}
+use Rattle.shm_tree.specs.Building.{KeepsBlocks, joined_by}
+use Rattle.shm_tree.specs.Inserting.{IsRegistered, is_part, left_of, outside, right_of}
+use Rattle.shm_tree.specs.Keeping.{child_of, is_live, node_by, other_side}
+use Rattle.shm_tree.specs.Raising.{IsOverAt, WeighsAgain, side_of}
+use Rattle.shm_tree.specs.Sharing.{CountsTop, IsCount}
 use Rattle.shm_tree.specs.Standing.{Stands, weight, word_of}
 use Rattle.shm_tree.specs.Trees.{Tree, Empty, Node, IsBalanced, IsSearch, height, inserted}
 use Rattle.shm_tree.specs.Ways.{IsEnd, IsOther, toward}
 use Rattle.shm_tree.proofs.Answering.{height_none}
-use Rattle.shm_tree.proofs.Building.{rooted_some}
 use Rattle.shm_tree.proofs.Costs.{away}
 use Rattle.shm_tree.proofs.Growing.{end_grew, grew_level, level_heights}
-use Rattle.shm_tree.proofs.Inserting.{inserted_up, sided}
-use Rattle.shm_tree.proofs.Rotations.{child_kept, content_is, joined_flat, node_of, other_twice, parts}
-use Rattle.shm_tree.proofs.Sharings.{some_high, top_kept}
+use Rattle.shm_tree.proofs.Inserting.{inserted_up}
+use Rattle.shm_tree.proofs.Rotations.{joined_flat, other_twice, parts}
 use Rattle.shm_tree.proofs.Ways.{stands_one}
-use Rattle.shm_tree.proofs.Weights.{weight_nodes, weight_none}
+use Rattle.shm_tree.proofs.Weights.{weight_none}
 
 -- ---- the blocks of a tree that stood
 
@@ -107,7 +105,7 @@ by_light f w node k n l r true = omega arith
 by_light f w node k n l r false = omega arith
 
 pub level_few : {w : Pool} (v : Pool) (f : ℕ → ℕ) (x y node low m i : ℕ) (t : Tree) → IsCount f → IsOther x t → IsSearch t → IsBalanced t → Stands w node t → Stands w low (inserted x y (toward x t)) → weight f w node t ≡ 0 → weight f w low (inserted x y (toward x t)) ≤ i
-    → (height (inserted x y (toward x t)) ≡ height (toward x t) + 1 → (s : Side) → CountsTop f w s low) → WeighsRenewed x node low m w v → weight f v m (inserted x y t) ≤ 1 + i
+    → (height (inserted x y (toward x t)) ≡ height (toward x t) + 1 → (s : Side) → CountsTop f w s low) → WeighsAgain x None node low m w v → weight f v m (inserted x y t) ≤ 1 + i
 level_few v f x y node low m i Empty count o s h here under none few tops b = absurd o
 level_few {w = w} v f x y node low m i (Node k n l r) count o s h here under none few tops b =
     let t : Tree = Node k n l r in
@@ -150,63 +148,6 @@ level_tops {w = w} {v = v} f x y node low m (Node k n l r) o se h here under one
                 absurd (omega (arith, i, j, lt, higher)))
           ];
     }
-
--- ---- the call for one level
-
-pub weighs_up : (p q r : Pool) (x node below m : ℕ) (c : Content) (s : Side) → s ≡ side_of x c.key → c.key ≡ word_of p (Body node 2) → c.number ≡ word_of p (Body node 3) → IsStill p q → node ≢ 0 → WeighsJoined c s (record { near = below; far = child_of q node (other_side s) }) m q r → WeighsRenewed x node below m p r
-weighs_up p q r x node below m c s side key number still some b f k n l w u count sn su down up =
-    let d : Content = record { key = k; number = n } in
-    let is : c ≡ d = content_is (key ∙ sn.0.key) (number ∙ sn.0.number) in
-    let o : s ≡ side_of x k = side ∙ ap (λ (e : Content). side_of x e.key) is in
-    let near : Tree = cond (nat_lt x k) l w in
-    let far : Tree = cond (nat_lt x k) w l in
-    let first : Stands p node (node_by (side_of x k) d near far) = subst (Stands p node) (sided (nat_lt x k) k n l w) sn in
-    let here : Stands q node (node_by s d near far) = subst (λ (e : Side). Stands q node (node_by e d near far)) (sym o) (still.trees node _ first) in
-    let pf = (parts q node s d near far here).far in
-    let one =
-    b f u far count (λ lt. absurd (omega (arith, lt, up)))
-    (λ lt. top_kept f p q (other_side s) below u (some_high p below u su (omega (arith, lt))) su still (subst (λ (e : Side). CountsTop f p (other_side e) below) (sym o) (down lt)))
-    (still.trees below u su) pf in
-    let a = weight_nodes f p q still.nodes below u su in
-    let same : child_of q node (other_side s) ≡ child_of p node (other_side (side_of x k)) = child_kept p q node (other_side s) still.nodes (node_of p node some (Node k n l w, sn)) ∙ ap (λ (e : Side). child_of p node (other_side e)) o in
-    let e : weight f q (child_of q node (other_side s)) far ≡ weight f p (child_of p node (other_side (side_of x k))) far =
-    ap (λ (z : ℕ). weight f q z far) same ∙ weight_nodes f p q still.nodes (child_of p node (other_side (side_of x k))) far (parts p node (side_of x k) d near far first).far in
-    let i : weight f r m (joined_by s c u far) ≡ weight f r m (joined_by (side_of x k) d u far) =
-    ap (λ (z : Side). weight f r m (joined_by z c u far)) o ∙ ap (λ (z : Content). weight f r m (joined_by (side_of x k) z u far)) is in
-    omega (arith, one, a, e, i)
-
-pub over_up : (p q r : Pool) (x node below m : ℕ) (c : Content) (s : Side) → s ≡ side_of x c.key → c.key ≡ word_of p (Body node 2) → IsStill p q → IsOver (record { near = below; far = child_of q node (other_side s) }) s m q r → IsOverAt x node below m p r
-over_up p q r x node below m c s side key still b k n l w u sn su flat =
-    let d : Content = record { key = k; number = n } in
-    let o : s ≡ side_of x k = side ∙ ap (side_of x) (key ∙ sn.0.key) in
-    let near : Tree = cond (nat_lt x k) l w in
-    let far : Tree = cond (nat_lt x k) w l in
-    let first : Stands p node (node_by (side_of x k) d near far) = subst (Stands p node) (sided (nat_lt x k) k n l w) sn in
-    let here : Stands q node (node_by s d near far) = subst (λ (e : Side). Stands q node (node_by e d near far)) (sym o) (still.trees node _ first) in
-    ap (λ (e : Side). child_of r m e) (sym o) ∙ b u far (still.trees below u su) (parts q node s d near far here).far flat
-
-pub sharing_over_after : {w m : Made} {p q r : Pool} → IsStill p q → IsSharingOver (Some w) m q r → IsSharingOver (Some w) m p r
-sharing_over_after {w = w} {m = m} {p = p} {q = q} {r = r} still b =
-    record {
-      fresh = sym (still.lives m.block) ∙ b.fresh;
-      blocks =
-          λ f j t low o st.
-          (let there : Stands q (named_by q j) t = subst (λ (d : ℕ). Stands q d t) (sym (still.roots j)) (still.trees (named_by p j) t st) in
-          subst (λ (d : ℕ). weight f r d t ≡ weight f q d t) (still.roots j) (b.blocks f j t low o there) ∙ weight_nodes f p q still.nodes (named_by p j) t st);
-    }
-
--- ---- one level more
-
-pub blocks_up : {n : ℕ} {low m : Made} {p q r s : Pool} → IsBuilt n low p q → KeepsBlocks p q → IsStill q r → IsSharingOver (Some low) m r s → KeepsBlocks p s
-blocks_up {low = low} {p = p} {q = q} {r = r} {s = s} a blocks i b f j t h st = elim (cases_eq (named_by p j) 0) [
-  | inl e ↦ weight_none f p s (named_by p j) t e st
-  | inr e ↦
-      let ne : j ≢ low.root = rooted_some j a.rooted e in
-      let same : named_by r j ≡ named_by p j = i.roots j ∙ a.rooted.others j ne in
-      let there : Stands q (named_by p j) t = a.trees j t h st in
-      let more : weight f s (named_by p j) t ≡ weight f r (named_by p j) t = subst (λ (k : ℕ). weight f s k t ≡ weight f r k t) same (b.blocks f j t h ne (subst (λ (k : ℕ). Stands r k t) (sym same) (i.trees (named_by p j) t there))) in
-      more ∙ (weight_nodes f q r i.nodes (named_by p j) t there ∙ blocks f j t h st)
-]
 
 -- ---- the lowest level
 

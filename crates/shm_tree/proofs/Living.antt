@@ -6,7 +6,7 @@ use Rattle.std.proofs.lemmas.List.Elements.{Contains-append_left, Contains-appen
 use Rattle.shm_graph.specs.declared.spot.Spot.TheVariants.{Body}
 use Rattle.shm_plain.specs.Pools.{Pool}
 use Rattle.shm_count.specs.declared.answer.Made.{Made}
-use Rattle.shm_tree.specs.Building.{IsBuilt, KeepsBlocks, named_by}
+use Rattle.shm_tree.specs.Building.{IsBuilt, named_by}
 use Rattle.shm_tree.specs.Inserting.{is_part, outside}
 use Rattle.shm_tree.specs.Keeping.{is_live}
 use Rattle.shm_tree.specs.Living.{AreFewNew, AreLivesNodes, AreRootsTrees}
@@ -59,8 +59,8 @@ part_new f p z b (Node k n l r) e some =
     ]
 
 -- where a tree was built and each live block is a node of a tree that a root names
-pub lives_few : {n : ℕ} {m : Made} (p q : Pool) (i top : ℕ) (t u : Tree) → AreRootsTrees p → AreLivesNodes q → IsBuilt n m p q → KeepsBlocks p q → Stands p top t → Stands q m.block u → weight (outside p top t) q m.block u ≤ i → AreFewNew i p q
-lives_few {m = m} p q i top t u roots nodes built blocks st su few =
+pub lives_few : {n : ℕ} {m : Made} (p q : Pool) (i top : ℕ) (t u : Tree) → AreRootsTrees p → AreLivesNodes q → IsBuilt n m p q → Stands p top t → Stands q m.block u → weight (outside p top t) q m.block u ≤ i → AreFewNew i p q
+lives_few {m = m} p q i top t u roots nodes built st su few =
     let f : ℕ → ℕ = outside p top t in
     let low = news_few f q m.block u in
     (news f q m.block u, omega (arith, low, few), all)
@@ -82,6 +82,6 @@ lives_few {m = m} p q i top t u roots nodes built blocks st su few =
               let is : w.2 ≡ old.0 = stands_one q (named_by p w.0) w.2 old.0 (subst (λ (d : ℕ). Stands q d w.2) same w.3) there in
               let part : is_part q b (named_by p w.0) old.0 ≡ true = subst (λ (v : Tree). is_part q b (named_by p w.0) v ≡ true) is (subst (λ (d : ℕ). is_part q b d w.2 ≡ true) same w.4) in
               let more = part_weighs q b (named_by p w.0) old.0 part in
-              let kept = blocks (once b) w.0 old.0 w.1 old.1 in
+              let kept = built.blocks (once b) w.0 old.0 w.1 old.1 in
               absurd (true≢false (sym (weighs_live p b (named_by p w.0) old.0 old.1 (omega (arith, more, kept))) ∙ dead)))
         ]

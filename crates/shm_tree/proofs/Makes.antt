@@ -43,7 +43,7 @@ use Rattle.shm_tree.specs.Bounds.{make_steps}
 use Rattle.shm_tree.specs.Causes.{AllocRefused}
 use Rattle.shm_tree.specs.Keeping.{IsMade, IsStill, KeepsNodes, is_live, made_in}
 use Rattle.shm_tree.specs.Standing.{IsNode, word_of}
-use Rattle.shm_tree.specs.Working.{HasRoom, IsOver, IsSameLatch, IsWorking, Reaches}
+use Rattle.shm_tree.specs.Working.{DiedIn, HasRoom, IsSameLatch, IsWorking, Reaches}
 use Rattle.shm_tree.proofs.Alive.{IsHomeless, IsOn, IsQuiet, after, before, known_tag, known_word, still, works}
 use Rattle.shm_tree.proofs.Firsts.{first_tells}
 use Rattle.shm_tree.proofs.Nodes.{IsCalm, as_started, calm_first, calm_held, from_started, life_same, node_kept, trees_kept}
@@ -105,7 +105,7 @@ module _ (p q : Pool) (es : List Event) (on : IsOn p q es) (c : Content) (h : �
   make_room (k, low, empty) y = y.holds.gives.1.1 k low (ap (λ (z : Me). own_word r0.own (Root z.who k)) asked.me ∙ empty)
 
   pub make_cause : (f : AllocFault) → AllocGives m r0 r tr (Err f) → AllocRefused p q f
-  make_cause f y = (m, xs, refl, asked, within_self (λ a b t zs. AllocGives m a b t (Err f)) p q es on.did y)
+  make_cause f y = (m, xs, refl, asked, within_self (λ a b t zs. AllocGives m a b t (Err f)) p q es on y)
 
   -- ---- it was done
 
@@ -249,8 +249,8 @@ module _ (p q : Pool) (es : List Event) (on : IsOn p q es) (c : Content) (h : �
             by false = refl
 
 -- a refusal is no want of word steps
-pub full_over : (s b x : ℕ) → IsOver (stop.Full s b) x
-full_over s b x e = cc
+pub full_over : (s b : ℕ) (p q : Pool) (x : ℕ) → DiedIn (stop.Full s b) p q x
+full_over s b p q x e = absurd cc
 
-pub spent_over : (e x : ℕ) → IsOver (stop.EraSpent e) x
-spent_over e x d = cc
+pub spent_over : (e : ℕ) (p q : Pool) (x : ℕ) → DiedIn (stop.EraSpent e) p q x
+spent_over e p q x d = absurd cc

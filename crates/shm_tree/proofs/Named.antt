@@ -21,7 +21,7 @@ use Rattle.shm_plain.specs.Pools.{Pool, memo_of}
 use Rattle.shm_count.specs.declared.answer.Made.{Made}
 use Rattle.shm_tree.proofs.Eras.{spent_stays}
 use Rattle.shm_tree.proofs.Lights.{once, part_weighs, weighs_live}
-use Rattle.shm_tree.specs.Building.{IsBuilt, KeepsBlocks, named_by}
+use Rattle.shm_tree.specs.Building.{IsBuilt, named_by}
 use Rattle.shm_tree.specs.Inserting.{is_part, outside}
 use Rattle.shm_tree.specs.Keeping.{is_live}
 use Rattle.shm_tree.specs.Living.{AreFewNew, AreLivesNodes, AreLivesTrees, AreRootsTrees, KeepsLives}
@@ -231,18 +231,18 @@ roots_trees p work trees j low =
           trees (named_by p j) (target_counted p.start.geometry _ _ (calm_held p calm) (Root 0 j) (named_by p j) ne (root_names p calm j ∙ sym (root_is p calm j))).0)
     ]
 
-pub lives_fresh : {n : ℕ} {m : Made} (p q : Pool) (i top : ℕ) (t u : Tree) → IsWorking p → IsWorking q → (IsSpent (memo_of q 0) → ⊥) → AreLivesTrees p → KeepsLives p q → IsBuilt n m p q → KeepsBlocks p q → Stands p top t → Stands q m.block u → weight (outside p top t) q m.block u ≤ i → AreFewNew i p q
-lives_fresh p q i top t u wp wq calm trees rests built blocks st su few =
+pub lives_fresh : {n : ℕ} {m : Made} (p q : Pool) (i top : ℕ) (t u : Tree) → IsWorking p → IsWorking q → (IsSpent (memo_of q 0) → ⊥) → AreLivesTrees p → KeepsLives p q → IsBuilt n m p q → Stands p top t → Stands q m.block u → weight (outside p top t) q m.block u ≤ i → AreFewNew i p q
+lives_fresh p q i top t u wp wq calm trees rests built st su few =
     let none : (memo_of q 0).dying ≡ [] = elim wq.dying [ inl e ↦ e | inr s ↦ absurd (calm s) ] in
     let later : AreLivesTrees q = λ b live. rests calm b live (elim (cases_Bool (is_live p b)) [ inl l ↦ inr (trees b l) | inr dead ↦ inl dead ]) in
-    lives_few p q i top t u (roots_trees p wp trees) (lives_nodes q wq none later) built blocks st su few
+    lives_few p q i top t u (roots_trees p wp trees) (lives_nodes q wq none later) built st su few
 
 -- Where a tree was built, each block that was live is so still: it is a node of a tree that a root names
-pub lives_stay : {n x y : ℕ} {m : Made} (p q : Pool) → IsWorking p → IsWorking q → Went p q x y → (IsSpent (memo_of q 0) → ⊥) → AreLivesTrees p → IsBuilt n m p q → KeepsBlocks p q → (b : ℕ) → is_live p b ≡ true → is_live q b ≡ true
-lives_stay p q wp wq went calm trees built blocks b live =
+pub lives_stay : {n x y : ℕ} {m : Made} (p q : Pool) → IsWorking p → IsWorking q → Went p q x y → (IsSpent (memo_of q 0) → ⊥) → AreLivesTrees p → IsBuilt n m p q → (b : ℕ) → is_live p b ≡ true → is_live q b ≡ true
+lives_stay p q wp wq went calm trees built b live =
     let none : (memo_of p 0).dying ≡ [] = elim wp.dying [ inl e ↦ e | inr s ↦ absurd (calm (spent_stays p q wp wq went s)) ] in
     let w = lives_nodes p wp none trees b live in
     let there : Stands q (named_by p w.0) w.2 = built.trees w.0 w.2 w.1 w.3 in
     let some = part_weighs p b (named_by p w.0) w.2 w.4 in
-    let same = blocks (once b) w.0 w.2 w.1 w.3 in
+    let same = built.blocks (once b) w.0 w.2 w.1 w.3 in
     weighs_live q b (named_by p w.0) w.2 there (omega (arith, some, same))

@@ -1,6 +1,6 @@
 -- What came of a line, by what its calls answered.
-use Rattle.std.proofs.Common.{◌≡◌, ℕ, ◌+◌, ◌≤◌, Bool, true, false, List, [], refl, arith, sym, ap, ◌∙◌, subst, Result, Ok, Err, true≢false}
-use Rattle.std.specs.Prelude.{IfErr, IfOk}
+use Rattle.std.proofs.Common.{◌≡◌, ◌≢◌, ℕ, ◌+◌, ◌<◌, ◌≤◌, Bool, true, false, List, [], refl, arith, sym, ap, ◌∙◌, subst, Result, Ok, Err, true≢false}
+use Rattle.std.specs.Prelude.{IfErr, IfOk, is_ok}
 use Rattle.shm_words.specs.Layout.{GeometryFits}
 use Rattle.shm_graph.specs.declared.run.Start.{Start}
 use Rattle.shm_plain.specs.Pools.{Pool}
@@ -12,6 +12,7 @@ use Rattle.shm_tree.specs.declared.line.TreeTurn.TheVariants as turns
 use Rattle.shm_tree.specs.declared.registers.Registers.{Registers}
 use Rattle.shm_tree.specs.declared.stop.Stop.{Stop}
 use Rattle.shm_tree.specs.declared.stop.Stop.TheVariants as stop
+use Rattle.shm_tree.specs.CutShort.{IsCutShort, IsWordless}
 use Rattle.shm_tree.specs.Falling.{AreFalling}
 use Rattle.shm_tree.specs.ForestCalls.{RanLine}
 use Rattle.shm_tree.specs.Forests.{DoesLine, DoesTurn, HasVersions, IsCaused, IsForest, IsInRange, IsLost, IsOwn, IsReading, IsSwept, IsUnspent, KeepsRegisters, Moves, Stopped, is_died, turn_by, turn_of}
@@ -20,7 +21,7 @@ use Rattle.shm_tree.specs.Living.{AreFewNew, AreLivesTrees}
 use Rattle.shm_tree.specs.Trees.{Tree}
 use Rattle.shm_tree.specs.declared.line.TreeLine.TheVariants as lines
 use Rattle.shm_tree.specs.Costing.{Costs, CostsLine, EndsLine, FewLine, FewSet, IfEnded, IfStopped, SpendsLine, call_steps, line_steps, made_most, new_most, sweep_steps}
-use Rattle.shm_tree.specs.Working.{IfAlive, IfRefused, IsOver, Went}
+use Rattle.shm_tree.specs.Working.{IfAlive, IfRefused, Went}
 use Rattle.shm_tree.proofs.Bounding.{line_most}
 use Rattle.shm_tree.proofs.Eras.{spent_stays}
 use Rattle.shm_tree.proofs.Forests.{registers_versions}
@@ -54,12 +55,18 @@ outcome_caused p q (Err (stop.EraSpent i)) h s = s
 turn_over : (t : TreeTurn) → t ≡ turns.Died → is_died t ≡ true
 turn_over t e = ap is_died e
 
-pub outcome_over : {y : ℕ} (o : Result TreeAnswer Stop) → IfErr o (λ e. IsOver e y) → turn_by o ≡ turns.Died → y ≡ 0
-outcome_over (Ok a) h e = absurd (true≢false (sym (turn_over (turns.Done a) e)))
-outcome_over (Err stop.Died) h e = h refl
-outcome_over (Err (stop.Full i j)) h e = absurd (true≢false (sym (turn_over (turn_of (stop.Full i j)) e)))
-outcome_over (Err (stop.CountFull i j)) h e = absurd (true≢false (sym (turn_over (turn_of (stop.CountFull i j)) e)))
-outcome_over (Err (stop.EraSpent i)) h e = absurd (true≢false (sym (turn_over (turn_of (stop.EraSpent i)) e)))
+-- what is so where no word step was left
+pub outcome_over : (P : Type 0) (o : Result TreeAnswer Stop) → IfErr o (λ e. e ≡ stop.Died → P) → turn_by o ≡ turns.Died → P
+outcome_over P (Ok a) h e = absurd (true≢false (sym (turn_over (turns.Done a) e)))
+outcome_over P (Err stop.Died) h e = h refl
+outcome_over P (Err (stop.Full i j)) h e = absurd (true≢false (sym (turn_over (turn_of (stop.Full i j)) e)))
+outcome_over P (Err (stop.CountFull i j)) h e = absurd (true≢false (sym (turn_over (turn_of (stop.CountFull i j)) e)))
+outcome_over P (Err (stop.EraSpent i)) h e = absurd (true≢false (sym (turn_over (turn_of (stop.EraSpent i)) e)))
+
+-- one that was done isn't that
+pub outcome_done : (o : Result TreeAnswer Stop) → is_ok o ≡ true → turn_by o ≢ turns.Died
+outcome_done (Ok a) h e = true≢false (sym (turn_over (turns.Done a) e))
+outcome_done (Err s) h e = true≢false (sym h)
 
 pub outcome_forest : {g : Registers} (o : Result TreeAnswer Stop) → IfAlive o (IsForest g) → is_died (turn_by o) ≡ false → IsForest g
 outcome_forest (Ok a) h e = h
@@ -153,9 +160,9 @@ module _ {x y : ℕ} (line : TreeLine) (f g : Registers) (o : Result TreeAnswer 
       by (Err (stop.EraSpent e)) xg w s c d = λ calm. few_same line f g (s calm)
 
 -- all of it, where the client lived
-pub outcome_ran : {x y : ℕ} (line : TreeLine) (f g : Registers) (a b : Bool) (o : Result TreeAnswer Stop) (t : TreeTurn) → IsForest f → IsSwept f → AreFalling f.pool → AreFalling g.pool → IsInRange line → t ≡ turn_by o → b ≡ is_died t → Moves o f g x y → IfAlive o (IsSwept f → IsSwept g) → IfOk o (λ a. DoesLine line f g a) → IfErr o (λ e. IsReading line → e ≡ stop.Died) → IfOk o (λ a. CostsLine line f g x y) → IfOk o (λ a. FewSet line f g) → IfRefused o (EndsLine line f g x y) → IfOk o IsOwn
+pub outcome_ran : {x y : ℕ} (line : TreeLine) (f g : Registers) (a b : Bool) (o : Result TreeAnswer Stop) (t : TreeTurn) → IsForest f → IsSwept f → AreFalling f.pool → AreFalling g.pool → IsInRange line → t ≡ turn_by o → b ≡ is_died t → Moves o f g x y → IfAlive o (IsSwept f → IsSwept g) → IfOk o (λ a. DoesLine line f g a) → IfErr o (λ e. IsReading line → e ≡ stop.Died) → IfOk o (λ a. CostsLine line f g x y) → IfOk o (λ a. FewSet line f g) → IfRefused o (EndsLine line f g x y) → IfOk o IsOwn → IfErr o (λ e. e ≡ stop.Died → f.tidy ≡ true → 0 < x → IsUnspent g → IsCutShort line f g) → (f.tidy ≡ true → (ts : List Tree) → HasVersions f ts → IsWordless line ts → is_ok o ≡ true)
     → RanLine line (record { registers = f; died = a }) (record { registers = g; died = b }) x y t
-outcome_ran {x = x} {y = y} line f g a b o t xf sf ff fg lt is died m swept does reading costs few ended own =
+outcome_ran {x = x} {y = y} line f g a b o t xf sf ff fg lt is died m swept does reading costs few ended own off idle =
     record {
       went = m.went;
       does = subst (DoesTurn line f g) (sym is) (outcome_does line f g o does reading m.kept);
@@ -164,7 +171,9 @@ outcome_ran {x = x} {y = y} line f g a b o t xf sf ff fg lt is died m swept does
       few = subst (λ (u : TreeTurn). IfEnded u (IsUnspent g → FewLine line f g)) (sym is) (outcome_few line f g o xf sf ff fg m swept costs few);
       same = subst (λ (u : TreeTurn). IfStopped u (IsUnspent g → AreSameLives f.pool g.pool)) (sym is) (outcome_same line f g o xf sf ff fg m swept own);
       cause = subst (IsCaused f.pool g.pool) (sym is) (outcome_caused f.pool g.pool o own m.cause);
-      over = λ e. outcome_over o m.died (sym is ∙ e);
+      over = λ e. outcome_over (y ≡ 0) o m.died (sym is ∙ e);
+      wordless = λ calm ts v none e. outcome_done o (idle (sf calm) ts v none) (sym is ∙ e);
+      short = λ e calm after some. outcome_over (f.tidy ≡ true → 0 < x → IsUnspent g → IsCutShort line f g) o off (sym is ∙ e) (sf calm) some after;
       died = died;
     }
 

@@ -28,7 +28,7 @@ use Rattle.shm_ref.specs.declared.answer.SetFault.{SetFault}
 use Rattle.shm_ref.specs.declared.answer.SetFault.TheVariants as fault
 use Rattle.shm_ref.specs.SetRef.Control.{setting}
 use Rattle.shm_ref.specs.SetRef.Memos.{seen_dying, seen_op, seen_reached, seen_word, tag_seen, word_seen}
-use Rattle.shm_ref.specs.SetRef.{SetDid, SetLeaves, SetSpent, taken_events}
+use Rattle.shm_ref.specs.SetRef.{SetDid, SetLeaves, SetSpent, SetStays, taken_events}
 use Rattle.shm_ref.specs.SetRef.SetDid.{Kept, Raised, Taken}
 use Rattle.shm_ref.specs.SetRef.SetSpent.{AtStep, AtTear}
 use Rattle.shm_ref.proofs.SetKeeps.{set_lasts}
@@ -268,7 +268,15 @@ module _ (p q : Pool) (es : List Event) (on : IsOn p q es) (b : ℕ) (s : Side) 
   full_within d c l = let (x, none, all) = l.stays in within es l.left (left_none es l.left none all) l.bound
 
   pub set_cause : (f : SetFault) → SetLeaves (setting me b i to) r0 r tr es (Err f) → SetRefused p q f
-  set_cause f l = (b, i, to, within_self (λ m z t xs. SetLeaves (setting me b i to) m z t xs (Err f)) p q es on.did l)
+  set_cause f l = (b, i, to, within_self (λ m z t xs. SetLeaves (setting me b i to) m z t xs (Err f) × (xs ≡ [])) p q es on (l, undone f l.stays))
+    where
+      undone : (g : SetFault) → SetStays me b i to r0 r es l.left g → es ≡ []
+      undone (fault.NotAuthor a) (t, known, is, other, memo, none, all) = none
+      undone (fault.NoSuchRef c) (t, known, mine, is, under, memo, none, all) = none
+      undone fault.NotHeld (t, own, held, memo, none, all) = none
+      undone (fault.EraSpent e) (AtStep t old read other memo cause none all) = none
+      undone (fault.EraSpent e) (AtTear t old read some other took stopped torn told walk) = absurd (untaken old torn some told)
+      undone (fault.CountFull d c) (x, none, all) = none
 
   tag_known : (t : ℕ) → core r ≡ core (tag_seen b t r0) → Knows r (Tag b) t
   tag_known t e = subst (λ (ks : List Stored). Contains ks (record { spot = Tag b; value = t })) (sym (ap (λ (x : Memo). x.known) e)) (0, omega arith, refl)

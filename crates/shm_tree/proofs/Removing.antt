@@ -10,23 +10,21 @@ use Rattle.shm_tree.specs.declared.node.Content.{Content}
 use Rattle.shm_tree.specs.declared.node.Side.{Side}
 use Rattle.shm_tree.specs.declared.node.Side.TheVariants.{Left, Right}
 use Rattle.shm_tree.specs.Bounds.{fall_steps}
-use Rattle.shm_tree.specs.Building.{IsAtHand, IsBuilt, IsCut, IsHeld, IsRebuilt, KeepsBlocks, StandsOf, block_of, joined_by, named_by, rooms}
-use Rattle.shm_tree.specs.Inserting.{IsRegistered, side_of}
-use Rattle.shm_tree.specs.Keeping.{IsShared, IsStill, KeepsTrees, child_of, node_by, other_side}
+use Rattle.shm_tree.specs.Building.{IsAtHand, IsBuilt, IsCut, IsHeld, IsRebuilt, block_of, named_by, rooms}
+use Rattle.shm_tree.specs.Inserting.{IsRegistered}
+use Rattle.shm_tree.specs.Keeping.{IsShared, IsStill, child_of}
 use Rattle.shm_tree.specs.Living.{KeepsLives}
-use Rattle.shm_tree.specs.Removing.{IsKept, StandsAgain, StandsMoved, content_in, content_or, rest, side_tree}
-use Rattle.shm_tree.specs.Sharing.{IsSharingOver}
+use Rattle.shm_tree.specs.Removing.{IsKept, StandsMoved, content_in, rest, side_tree}
 use Rattle.shm_tree.specs.Spending.{HasSpent}
 use Rattle.shm_tree.specs.Standing.{Stands, weight, word_of}
 use Rattle.shm_tree.specs.Trees.{Tree, Empty, Node, IsSearch, found}
 use Rattle.shm_tree.specs.Ways.{IsEnd, IsLast, IsPlace, IsSome, down}
 use Rattle.shm_tree.specs.Working.{AreSameRoots, IsSameLatch, IsWorking, Went}
 use Rattle.shm_tree.proofs.Building.{built_after, built_cut, made_more, none_stands, root_reached, rooms_rooted, still_cut, cut_then}
-use Rattle.shm_tree.proofs.Inserting.{built_held, built_up, held_kept, sided}
+use Rattle.shm_tree.proofs.Inserting.{built_held, built_up}
 use Rattle.shm_tree.proofs.Levels.{IsWay, down_more, way_is}
-use Rattle.shm_tree.proofs.Lights.{blocks_up}
 use Rattle.shm_tree.proofs.Nodes.{made_then}
-use Rattle.shm_tree.proofs.Rotations.{content_is, parts}
+use Rattle.shm_tree.proofs.Rotations.{content_is}
 use Rattle.shm_tree.proofs.Growing.{down_tree}
 use Rattle.shm_tree.proofs.Ways.{down_found, tree_is}
 use Rattle.shm_tree.proofs.Weights.{blocks_nodes, weight_nodes}
@@ -65,10 +63,6 @@ pub kept_held : (n : ℕ) (p q : Pool) (o : Option Made) (u : Tree) → IsKept n
 kept_held n p q None u h st = tt
 kept_held n p q (Some m) u h st = built_held u h st
 
-pub some_held : {p q : Pool} (o : Option Made) → IsStill p q → IfSome o (IsHeld p) → IfSome o (IsHeld q)
-some_held None s h = tt
-some_held (Some m) s h = held_kept s h
-
 same_below : (p q : Pool) (n : ℕ) → AreSameRoots p q → sum_below n (λ j. one_if (named_by q j == 0)) ≡ sum_below n (λ j. one_if (named_by p j == 0))
 same_below p q zero h = refl
 same_below p q (suc n) h =
@@ -100,66 +94,22 @@ cut_at_hand {p = p} {q = q} {b = b} g h w =
 -- ---- one level more
 
 -- over what stays below it, if anything, after calls that read
-pub kept_up : (n : ℕ) {m : Made} {p q r s : Pool} (o : Option Made) → IsRun p → IsRun q → q.start ≡ p.start → IsRun r → r.start ≡ q.start → IsKept n o p q → IsStill q r → IsRebuilt 3 o m r s → KeepsBlocks p s → IsBuilt (n + 3) m p s
-kept_up n (Some low) hp hq start hr onward a i b blocks = built_up hp hq start hr onward a i b blocks
-kept_up n {m = m} {p = p} {q = q} {r = r} {s = s} None hp hq start hr onward a i b blocks =
+pub kept_up : (n : ℕ) {m : Made} {p q r s : Pool} (o : Option Made) → IsRun p → IsRun q → q.start ≡ p.start → IsRun r → r.start ≡ q.start → IsKept n o p q → IsStill q r → IsRebuilt 3 o m r s → IsBuilt (n + 3) m p s
+kept_up n (Some low) hp hq start hr onward a i b = built_up hp hq start hr onward a i b
+kept_up n {m = m} {p = p} {q = q} {r = r} {s = s} None hp hq start hr onward a i b =
     let same : (j : ℕ) → named_by r j ≡ named_by p j = λ j. i.roots j ∙ a.1 j in
     let all = cut_then hp hq start a.0 (still_cut i) in
     record {
       rooted = record { low = b.low; empty = sym (same m.root) ∙ b.empty; names = b.names; others = λ j h. b.others j h tt ∙ same j };
       some = b.some;
       trees = λ j t h st. subst (λ (k : ℕ). Stands s k t) (same j) (b.trees j t h tt (subst (λ (k : ℕ). Stands r k t) (sym (same j)) (all.trees j t h st)));
-      blocks = blocks;
+      blocks =
+          λ f j t h st.
+          (let there : Stands q (named_by p j) t = a.0.trees j t h st in
+          let more : weight f s (named_by p j) t ≡ weight f r (named_by p j) t = subst (λ (k : ℕ). weight f s k t ≡ weight f r k t) (same j) (b.blocks f j t h tt (subst (λ (k : ℕ). Stands r k t) (sym (same j)) (i.trees (named_by p j) t there))) in
+          more ∙ (weight_nodes f q r i.nodes (named_by p j) t there ∙ a.0.blocks f j t h st));
       made = made_more ((n + 0) + 3) (n + 3) p s (made_then (n + 0) 3 p r s hp hr (onward ∙ start) all.made b.made) (omega arith);
     }
-
-pub kept_blocks_up : (n : ℕ) {m : Made} {p q r s : Pool} (o : Option Made) → IsKept n o p q → KeepsBlocks p q → IsStill q r → IsSharingOver o m r s → KeepsBlocks p s
-kept_blocks_up n (Some low) a blocks i b = blocks_up a blocks i b
-kept_blocks_up n {p = p} {q = q} {r = r} {s = s} None a blocks i b =
-    λ f j t h st.
-    let same : named_by r j ≡ named_by p j = i.roots j ∙ a.1 j in
-    let there : Stands q (named_by p j) t = a.0.trees j t h st in
-    let more : weight f s (named_by p j) t ≡ weight f r (named_by p j) t = subst (λ (k : ℕ). weight f s k t ≡ weight f r k t) same (b.blocks f j t h tt (subst (λ (k : ℕ). Stands r k t) (sym same) (i.trees (named_by p j) t there))) in
-    more ∙ (weight_nodes f q r i.nodes (named_by p j) t there ∙ blocks f j t h st)
-
--- ---- the call for one level
-
-pub rebuilt_over_after : {n : ℕ} {m : Made} {p q r : Pool} (o : Option Made) → IsRun p → IsRun q → q.start ≡ p.start → IsStill p q → IsRebuilt n o m q r → IsRebuilt n o m p r
-rebuilt_over_after {n = n} {p = p} {q = q} {r = r} o hp hq start a b =
-    record {
-      low = b.low;
-      some = b.some;
-      empty = sym (a.roots _) ∙ b.empty;
-      names = b.names;
-      left = b.left;
-      others = λ j h i. b.others j h i ∙ a.roots j;
-      trees = λ j t low i s. subst (λ (k : ℕ). Stands r k t) (a.roots j) (b.trees j t low i (subst (λ (k : ℕ). Stands q k t) (sym (a.roots j)) (a.trees (named_by p j) t s)));
-      made = made_more (0 + n) n p r (made_then 0 n p q r hp hq start a.made b.made) (omega arith);
-    }
-
-pub sharing_after_read : {m : Made} {p q r : Pool} (o : Option Made) → IsStill p q → IsSharingOver o m q r → IsSharingOver o m p r
-sharing_after_read {m = m} {p = p} {q = q} {r = r} o still b =
-    record {
-      fresh = sym (still.lives m.block) ∙ b.fresh;
-      blocks =
-          λ f j t low i st.
-          (let there : Stands q (named_by q j) t = subst (λ (d : ℕ). Stands q d t) (sym (still.roots j)) (still.trees (named_by p j) t st) in
-          subst (λ (d : ℕ). weight f r d t ≡ weight f q d t) (still.roots j) (b.blocks f j t low i there) ∙ weight_nodes f p q still.nodes (named_by p j) t st);
-    }
-
--- a node made again, of which own and side were read
-pub again_up : {p q : Pool} (r : Pool) (x node below m : ℕ) (o : Option Content) (own c : Content) (s : Side) → node ≢ 0 → c ≡ content_or o own → s ≡ side_of x own.key → own.key ≡ word_of p (Body node 2) → own.number ≡ word_of p (Body node 3) → KeepsTrees p q
-    → StandsOf (joined_by s c) (record { near = below; far = child_of q node (other_side s) }) m q r → StandsAgain x o node below m p r
-again_up r x node below m o own c s some told side key number keeps b Empty u sn su = absurd (some sn)
-again_up {p = p} {q = q} r x node below m o own c s some told side key number keeps b (Node k n l w) u sn su =
-    let d : Content = record { key = k; number = n } in
-    let is : own ≡ d = content_is (key ∙ sn.0.key) (number ∙ sn.0.number) in
-    let i : s ≡ side_of x k = side ∙ ap (λ (e : Content). side_of x e.key) is in
-    let near : Tree = cond (nat_lt x k) l w in
-    let far : Tree = cond (nat_lt x k) w l in
-    let here : Stands q node (node_by s d near far) = subst (λ (e : Side). Stands q node (node_by e d near far)) (sym i) (subst (Stands q node) (sided (nat_lt x k) k n l w) (keeps node (Node k n l w) sn)) in
-    let made = b u far (keeps below u su) (parts q node s d near far here).far in
-    subst (λ (e : Content). Stands r m (joined_by (side_of x k) e u far)) (told ∙ ap (content_or o) is) (subst (λ (e : Side). Stands r m (joined_by e c u far)) i made)
 
 -- ---- the lowest level
 
@@ -179,7 +129,6 @@ pub record Falling (x a e d : ℕ) (top : ℕ) (o : Option Made) (p q : Pool) (u
   pub kept : IsKept (3 * (e - d)) o p q
   pub way : (t : Tree) → Stands p top t → IsWay x a e t
   pub stands : (t : Tree) → Stands p top t → Stands q (block_of o) (rest x a t d)
-  pub blocks : KeepsBlocks p q
   pub rests : KeepsLives p q
 
 -- a node stands at a block

@@ -82,7 +82,7 @@ module _ (k : ℕ) (p q : Pool) (work : IsWorking q) (d : IsDropped k p q) where
 
 -- ---- after calls that read
 
-pub rests_after : {n c x y : ℕ} (o : Result Made Stop) (p q r : Pool) → IsWorking q → IsStill p q → Builds n c o q r x y → IfOk o (λ m. KeepsLives q r) → IfOk o (λ m. KeepsLives p r)
+pub rests_after : {T : Type 0} {n c x y : ℕ} (o : Result T Stop) (p q r : Pool) → IsWorking q → IsStill p q → Builds n c o q r x y → IfOk o (λ m. KeepsLives q r) → IfOk o (λ m. KeepsLives p r)
 rests_after (Ok m) p q r wq s b h = rests_then p q r wq b.working b.went (rests_still s) h
 rests_after (Err e) p q r wq s b h = tt
 

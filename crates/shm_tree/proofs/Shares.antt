@@ -33,14 +33,16 @@ pub queues_quiet : (m r : Memo) → LeavesQueues m r → IsQuiet m r
 queues_quiet m r h = record { loose = h.loose; unsent = h.unsent; untaken = h.untaken }
 
 -- a call as one between two moments
-pub within_self : (L : Memo → Memo → Trail → List Event → Type 0) (p q : Pool) (es : List Event) → Did 0 p q es → L (memo_of p 0) (memo_of q 0) (memo_of q 0).call es → Within p q L
-within_self L p q es did leaves =
+pub within_self : (L : Memo → Memo → Trail → List Event → Type 0) (p q : Pool) (es : List Event) → IsOn p q es → L (memo_of p 0) (memo_of q 0) (memo_of q 0).call es → Within p q L
+within_self L p q es on leaves =
     record {
       before = p;
       after = q;
       told = es;
+      starts = (refl, on.start);
+      runs = (on.working.run, on.run);
       to = ([], did_none 0 p p refl);
-      ran = did;
+      ran = on.did;
       leaves = leaves;
       on = ([], did_none 0 q q refl);
     }
@@ -125,4 +127,4 @@ module _ (p q : Pool) (es : List Event) (on : IsOn p q es) where
     share_room (k, low, empty) h = h.all k low empty
 
     pub share_cause : (f : ShareFault) → UpRootLeaves me b r0 r tr es (Err f) → ShareRefused p q f
-    share_cause f h = (b, within_self (λ m n t xs. UpRootLeaves me b m n t xs (Err f)) p q es on.did h)
+    share_cause f h = (b, within_self (λ m n t xs. UpRootLeaves me b m n t xs (Err f)) p q es on h)

@@ -1,7 +1,6 @@
 -- How many blocks of a tree that was balanced again are others than those of the trees of which it was built.
-use Rattle.std.proofs.Common.{◌≡◌, ◌≢◌, ℕ, ◌+◌, ◌<◌, ◌≤◌, sym, ap, ◌∙◌, subst, arith, inl, inr}
-use Rattle.std.specs.Prelude.{None, Some}
-use Rattle.std.proofs.lemmas.Bool.{cases_eq}
+use Rattle.std.proofs.Common.{◌≡◌, ◌≢◌, ℕ, ◌+◌, ◌<◌, ◌≤◌, sym, ap, ◌∙◌, subst, arith, Result, Ok, Err}
+use Rattle.std.specs.Prelude.{IfOk}
 use Rattle.shm_graph.specs.declared.spot.Spot.TheVariants.{Body}
 use Rattle.shm_plain.specs.Pools.{Pool}
 use Rattle.shm_count.specs.declared.answer.Made.{Made}
@@ -9,17 +8,17 @@ use Rattle.shm_tree.specs.declared.node.Content.{Content}
 use Rattle.shm_tree.specs.declared.node.Pair.{Pair}
 use Rattle.shm_tree.specs.declared.node.Side.{Side}
 use Rattle.shm_tree.specs.declared.node.Side.TheVariants.{Left, Right}
+use Rattle.shm_tree.specs.declared.stop.Stop.{Stop}
 use Rattle.shm_tree.specs.Building.{IsBuilt, IsHeld, StandsOf, from_far, joined_by, named_by}
 use Rattle.shm_tree.specs.Keeping.{IsDropped, IsLinked, IsStill, KeepsNode, child_of, node_by, other_side}
-use Rattle.shm_tree.specs.Sharing.{CountsTop, IsOver, IsSharing, IsSharingOver, WeighsCrowned, WeighsFar, WeighsJoined, WeighsRaised, WeighsTurned, WeighsTurnedTwice}
+use Rattle.shm_tree.specs.Sharing.{CountsTop, IsFresh, IsOver, WeighsCrowned, WeighsFar, WeighsJoined, WeighsRaised, WeighsTurned, WeighsTurnedTwice}
 use Rattle.shm_tree.specs.Standing.{Stands, weight, word_of}
 use Rattle.shm_tree.specs.Trees.{Tree, height}
 use Rattle.shm_tree.specs.Working.{IsEmptied, IsWorking}
 use Rattle.shm_tree.proofs.Answering.{height_none}
-use Rattle.shm_tree.proofs.Building.{rooted_some}
 use Rattle.shm_tree.proofs.Rotations.{child_kept, content_is, far_double, far_single, joined_far, joined_flat, joined_near, node_of, node_other, parts, shaped}
 use Rattle.shm_tree.proofs.Ways.{stands_one}
-use Rattle.shm_tree.proofs.Weights.{node_root, weigh_link, weigh_sides, weight_nodes, weight_none, weight_root}
+use Rattle.shm_tree.proofs.Weights.{node_root, weigh_link, weigh_sides, weight_nodes, weight_root}
 
 pub weighs_once : (p q r : Pool) (s : Side) (c : Content) (trees : Pair) (m : ℕ) → trees.far ≢ 0 → IsStill p q → ((y z : Tree) → Stands p (child_of p trees.far s) y → Stands p (child_of p trees.far (other_side s)) z → height y ≤ height z) → WeighsTurned c s trees m q r → WeighsFar c s trees m p r
 weighs_once p q r s c trees m some still low b f x t count top sx st =
@@ -113,15 +112,9 @@ weighs_flat p q r s c trees m still flat b f x y count up down sx sy =
 
 -- ---- what single and double turns read before they build
 
-pub sharing_after : {m : Made} {p q r : Pool} → IsStill p q → IsSharing m q r → IsSharing m p r
-sharing_after {m = m} {p = p} {q = q} {r = r} still b =
-    record {
-      fresh = sym (still.lives m.block) ∙ b.fresh;
-      blocks =
-          λ f j t low st.
-          (let there : Stands q (named_by q j) t = subst (λ (d : ℕ). Stands q d t) (sym (still.roots j)) (still.trees (named_by p j) t st) in
-          subst (λ (d : ℕ). weight f r d t ≡ weight f q d t) (still.roots j) (b.blocks f j t low there) ∙ weight_nodes f p q still.nodes (named_by p j) t st);
-    }
+pub fresh_read : {p q : Pool} (o : Result Made Stop) → IsStill p q → IfOk o (IsFresh q) → IfOk o (IsFresh p)
+fresh_read (Ok m) still h = sym (still.lives m.block) ∙ h
+fresh_read (Err e) still h = tt
 
 pub weighs_single : (p q r : Pool) (s : Side) (c top : Content) (trees grand : Pair) (m : ℕ) → IsStill p q → top.key ≡ word_of p (Body trees.far 2) → top.number ≡ word_of p (Body trees.far 3) → grand.near ≡ child_of p trees.far s → grand.far ≡ child_of p trees.far (other_side s)
     → WeighsRaised top s (record { content = c; trees = record { near = trees.near; far = grand.near } }) grand.far m q r → WeighsTurned c s trees m p r
@@ -202,17 +195,6 @@ module _ (p q r : Pool) (n : ℕ) (w m : Made) (held : IsHeld p w) (b : IsBuilt 
   named : named_by r m.root ≡ m.block
   named = gone.others m.root ne ∙ b.rooted.names
 
-  pub renewed_sharing : IsSharing m p q → IsSharingOver (Some w) m p r
-  renewed_sharing a =
-      record {
-        fresh = a.fresh;
-        blocks =
-            λ f j t low o st. elim (cases_eq (named_by p j) 0) [
-              | inl e ↦ weight_none f p r (named_by p j) t e st
-              | inr some ↦ weight_root w.root q r work left f t j (named_by p j) (gone.others j o ∙ b.rooted.others j (rooted_some j b.rooted some)) (b.trees j t low st) ∙ a.blocks f j t low st
-            ];
-      }
-
   module _ (s : Side) (c : Content) (trees : Pair) (stands : StandsOf (joined_by s c) trees m.block p q) where
     pub renewed_weighs : WeighsJoined c s trees m.block p q → WeighsJoined c s trees m.block p r
     renewed_weighs a f x y count up down sx sy =
@@ -225,7 +207,3 @@ module _ (p q r : Pool) (n : ℕ) (w m : Made) (held : IsHeld p w) (b : IsBuilt 
         let node = node_of q m.block b.some (joined_by s c x y, stands x y sx sy) in
         let kept = node_root w.root q r work left m.root m.block node.0 node.1 node.2 named node.3 in
         side_kept s kept ∙ a x y sx sy near
-
--- where there was none
-pub alone_sharing : {m : Made} {p q : Pool} → IsSharing m p q → IsSharingOver None m p q
-alone_sharing a = record { fresh = a.fresh; blocks = λ f j t low o st. a.blocks f j t low st }

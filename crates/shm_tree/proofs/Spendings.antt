@@ -13,7 +13,7 @@ use Rattle.shm_plain.specs.Calls.{state_of}
 use Rattle.shm_plain.specs.Pools.{IsRun, Pool, memo_of}
 use Rattle.shm_count.specs.Tear.Events.{Visit, frees}
 use Rattle.shm_ref.specs.Leaving.{frees-append}
-use Rattle.shm_tree.specs.Bounds.{climb_steps, drop_steps, insert_steps, lowest_steps, with_child_steps}
+use Rattle.shm_tree.specs.Bounds.{climb_steps, drop_steps, insert_steps, lowest_steps, raise_steps}
 use Rattle.shm_tree.specs.Spending.{HasSpent}
 use Rattle.shm_tree.specs.Tearing.{HasTorn}
 use Rattle.shm_tree.specs.Working.{IsSpent, IsWorking, Went}
@@ -109,10 +109,10 @@ climbed_none p q {x} {y} e s =
     subst (λ j. HasSpent (climb_steps j e p.start.geometry) p q x y) (sym none) (spent_more _ (climb_steps 0 e p.start.geometry) (omega arith) s)
 
 -- and one above it made anew
-pub climbed_more : (p q : Pool) {x y : ℕ} (j d e i : ℕ) → d ≤ e → i ≡ j + 1 → HasSpent (climb_steps j e p.start.geometry + 5 * d + with_child_steps p.start.geometry) p q x y → HasSpent (climb_steps i e p.start.geometry) p q x y
+pub climbed_more : (p q : Pool) {x y : ℕ} (j d e i : ℕ) → d ≤ e → i ≡ j + 1 → HasSpent (climb_steps j e p.start.geometry + 5 * d + raise_steps p.start.geometry) p q x y → HasSpent (climb_steps i e p.start.geometry) p q x y
 climbed_more p q {x} {y} j d e i low next s =
     let g : Geometry = p.start.geometry in
-    subst (λ n. HasSpent (climb_steps n e g) p q x y) (sym next) (spent_more _ (climb_steps (j + 1) e g) (more (5 * e + 2 + lowest_steps g) j (5 * e + with_child_steps g) d e (with_child_steps g) refl low) s)
+    subst (λ n. HasSpent (climb_steps n e g) p q x y) (sym next) (spent_more _ (climb_steps (j + 1) e g) (more (5 * e + 2 + lowest_steps g) j (5 * e + raise_steps g) d e (raise_steps g) refl low) s)
 
 -- up to the first one
 pub climbed_low : (p q : Pool) {x y : ℕ} (j e h : ℕ) → j ≡ e → e ≤ h → HasSpent (climb_steps j e p.start.geometry) p q x y → HasSpent (insert_steps h p.start.geometry) p q x y
@@ -120,4 +120,4 @@ climbed_low p q {x} {y} j e h all low s =
     let g : Geometry = p.start.geometry in
     let whole : HasSpent (climb_steps e e g) p q x y = subst (λ n. HasSpent (climb_steps n e g) p q x y) all s in
     let sum : e + (h - e) ≡ h = omega (arith, low) in
-    subst (λ n. HasSpent (insert_steps n g) p q x y) sum (spent_more _ (insert_steps (e + (h - e)) g) (square e (h - e) (lowest_steps g) (with_child_steps g)) whole)
+    subst (λ n. HasSpent (insert_steps n g) p q x y) sum (spent_more _ (insert_steps (e + (h - e)) g) (square e (h - e) (lowest_steps g) (raise_steps g)) whole)

@@ -70,22 +70,22 @@ module _ (k : ℕ) (p q : Pool) (work : IsWorking q) (d : IsDropped k p q) where
 
 -- ---- one call after another
 
-pub blocks_then : {n : ℕ} {p q : Pool} (r : Pool) → IsCut n p q → KeepsBlocks p q → KeepsBlocks q r → KeepsBlocks p r
-blocks_then {p = p} {q = q} r cut a b f j t low st = elim (cases_eq (named_by p j) 0) [
+pub blocks_then : {n : ℕ} {p q : Pool} (r : Pool) → IsCut n p q → KeepsBlocks q r → KeepsBlocks p r
+blocks_then {p = p} {q = q} r cut b f j t low st = elim (cases_eq (named_by p j) 0) [
   | inl e ↦ weight_none f p r (named_by p j) t e st
   | inr ne ↦
       let same : named_by q j ≡ named_by p j = cut.roots j ne in
       let there : Stands q (named_by q j) t = subst (λ (d : ℕ). Stands q d t) (sym same) (cut.trees j t low st) in
-      subst (λ (d : ℕ). weight f r d t ≡ weight f q d t) same (b f j t low there) ∙ a f j t low st
+      subst (λ (d : ℕ). weight f r d t ≡ weight f q d t) same (b f j t low there) ∙ cut.blocks f j t low st
 ]
 
-pub blocks_dropped : {n k : ℕ} {p q r : Pool} → named_by p k ≡ 0 → IsCut n p q → KeepsBlocks p q → IsEmptied k q r → IsDropped k q r → IsWorking r → KeepsBlocks p r
-blocks_dropped {k = k} {p = p} {q = q} {r = r} none cut a gone left work f j t low st = elim (cases_eq (named_by p j) 0) [
+pub blocks_dropped : {n k : ℕ} {p q r : Pool} → named_by p k ≡ 0 → IsCut n p q → IsEmptied k q r → IsDropped k q r → IsWorking r → KeepsBlocks p r
+blocks_dropped {k = k} {p = p} {q = q} {r = r} none cut gone left work f j t low st = elim (cases_eq (named_by p j) 0) [
   | inl e ↦ weight_none f p r (named_by p j) t e st
   | inr some ↦
       let ne : j ≢ k = λ e. some (ap (named_by p) e ∙ none) in
       let root : named_by r j ≡ named_by p j = gone.others j ne ∙ cut.roots j some in
-      weight_root k q r work left f t j (named_by p j) root (cut.trees j t low st) ∙ a f j t low st
+      weight_root k q r work left f t j (named_by p j) root (cut.trees j t low st) ∙ cut.blocks f j t low st
 ]
 
 -- a block that wasn't live once another was made wasn't so before

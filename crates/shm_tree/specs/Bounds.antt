@@ -50,12 +50,12 @@ abbrev pub lowest_steps : Geometry → ℕ
 lowest_steps g = 6 + link_steps g
 
 -- and one above it is made anew
-abbrev pub with_child_steps : Geometry → ℕ
-with_child_steps g = 4 + renewed_steps g
+abbrev pub raise_steps : Geometry → ℕ
+raise_steps g = 4 + renewed_steps g
 
 -- the place of a key e nodes down is found, its node is made, and j nodes above it are made anew, to each of which leads a way down
 abbrev pub climb_steps : (j e : ℕ) → Geometry → ℕ
-climb_steps j e g = 5 * e + 2 + lowest_steps g + j * (5 * e + with_child_steps g)
+climb_steps j e g = 5 * e + 2 + lowest_steps g + j * (5 * e + raise_steps g)
 
 -- a key is put into a tree of the height h
 abbrev pub insert_steps : ℕ → Geometry → ℕ
@@ -67,7 +67,7 @@ remnant_steps g = 3 + share_steps g
 
 -- the lowest node of a removal is found e nodes down, the tree on a side of it gets a further root, and j nodes above it are made anew, to each of which leads a way down
 abbrev pub fall_steps : (j e : ℕ) → Geometry → ℕ
-fall_steps j e g = 5 * e + 9 + remnant_steps g + j * (5 * e + with_child_steps g)
+fall_steps j e g = 5 * e + 9 + remnant_steps g + j * (5 * e + raise_steps g)
 
 -- a key is taken out of a tree of the height h
 abbrev pub remove_steps : ℕ → Geometry → ℕ

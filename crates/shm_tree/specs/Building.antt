@@ -15,7 +15,7 @@ use Rattle.shm_tree.specs.Keeping.{HasMade, HasTree, node_by, other_side}
 use Rattle.shm_tree.specs.Spending.{HasSpent}
 use Rattle.shm_tree.specs.Standing.{Stands, weight}
 use Rattle.shm_tree.specs.Trees.{Tree, AreNear, from_left, from_right, height, joined}
-use Rattle.shm_tree.specs.Working.{IfAlive, IfRefused, IsOver, IsReached, IsRooted, IsSameLatch, IsWorking, Went}
+use Rattle.shm_tree.specs.Working.{DiedIn, IfAlive, IfRefused, IsReached, IsRooted, IsSameLatch, IsWorking, Went}
 
 -- what a root names
 abbrev pub named_by : Pool → ℕ → ℕ
@@ -48,9 +48,9 @@ pub record Builds {T : Type 0} (n c : ℕ) (r : Result T Stop) (p q : Pool) (x y
   pub refused : IfRefused r (IsCut n p q)
   pub spent : IfAlive r (HasSpent c p q x y)
   pub cause : IfErr r (λ e. StopCause p q e)
-  pub died : IfErr r (λ e. IsOver e y)
+  pub died : IfErr r (λ e. DiedIn e p q y)
 
--- a tree was built: a root that was empty names it, and no other root changed, nor what they name
+-- a tree was built: a root that was empty names it, and no other root changed, nor the trees that they name, nor the blocks of those
 pub record IsBuilt (n : ℕ) (m : Made) (p q : Pool) : Type 0 where
   pub rooted : IsRooted m.root m.block p q
   pub some : m.block ≢ 0
@@ -75,7 +75,7 @@ pub record IsHeld (p : Pool) (w : Made) : Type 0 where
   pub names : named_by p w.root ≡ w.block
   pub tree : HasTree p w.block
 
--- a tree was built: a root that was empty names it; the root of the tree below, if there is one, is empty; no other root changed, and what they name stands
+-- a tree was built: a root that was empty names it; the root of the tree below, if there is one, is empty; no other root changed, and what they name stands, of the same blocks
 pub record IsRebuilt (n : ℕ) (below : Option Made) (m : Made) (p q : Pool) : Type 0 where
   pub low : m.root < 16
   pub some : m.block ≢ 0
@@ -84,6 +84,7 @@ pub record IsRebuilt (n : ℕ) (below : Option Made) (m : Made) (p q : Pool) : T
   pub left : IfSome below (λ w. named_by q w.root ≡ 0)
   pub others : (j : ℕ) → j ≢ m.root → IsOther below j → named_by q j ≡ named_by p j
   pub trees : (j : ℕ) (t : Tree) → j < 16 → IsOther below j → Stands p (named_by p j) t → Stands q (named_by p j) t
+  pub blocks : (f : ℕ → ℕ) (j : ℕ) (t : Tree) → j < 16 → IsOther below j → Stands p (named_by p j) t → weight f q (named_by p j) t ≡ weight f p (named_by p j) t
   pub made : HasMade n p q
 
 -- ---- the trees that are built

@@ -1,10 +1,10 @@
 -- Why a line stops: a call of it was refused so.
-use Rattle.std.specs.Prelude.{◌≡◌, ℕ, ◌⊎◌, List, length, Err}
+use Rattle.std.specs.Prelude.{◌≡◌, ℕ, ◌⊎◌, List, [], length, Err}
 use Rattle.shm_graph.specs.declared.memo.Memo.{Memo}
 use Rattle.shm_graph.specs.Asks.{Trail}
 use Rattle.shm_graph.specs.Events.{Event}
 use Rattle.shm_plain.specs.Calls.{Did}
-use Rattle.shm_plain.specs.Pools.{Pool, memo_of}
+use Rattle.shm_plain.specs.Pools.{IsRun, Pool, memo_of}
 use Rattle.shm_alloc.specs.declared.alloc.AllocFault.{AllocFault}
 use Rattle.shm_alloc.specs.declared.alloc.AllocFault.TheVariants as alloc
 use Rattle.shm_alloc.specs.declared.point.AllocState.{AllocState}
@@ -24,11 +24,13 @@ use Rattle.plain_calls.specs.Allocating.{IsAsked}
 use Rattle.shm_tree.specs.declared.stop.Stop.{Stop}
 use Rattle.shm_tree.specs.declared.stop.Stop.TheVariants as stop
 
--- a call between two moments of a line left this
+-- a call between two moments of a line, to both of which turns led, left this
 pub record Within (p q : Pool) (L : Memo → Memo → Trail → List Event → Type 0) : Type 0 where
   pub before : Pool
   pub after : Pool
   pub told : List Event
+  pub starts : (before.start ≡ p.start) × (after.start ≡ p.start)
+  pub runs : IsRun before × IsRun after
   pub to : (es : List Event) × Did 0 p before es
   pub ran : Did 0 before after told
   pub leaves : L (memo_of before 0) (memo_of after 0) (memo_of after 0).call told
@@ -38,9 +40,9 @@ pub record Within (p q : Pool) (L : Memo → Memo → Trail → List Event → T
 abbrev pub AllocRefused : Pool → Pool → AllocFault → Type 0
 AllocRefused p q x = (m : AllocState) × (xs : List ℕ) × (length xs ≡ 3) × IsAsked p.start.geometry 0 2 xs m × Within p q (λ r0 r tr es. AllocGives m r0 r tr (Err x))
 
--- the setting of a reference was refused
+-- the setting of a reference was refused, and nothing was done
 abbrev pub SetRefused : Pool → Pool → SetFault → Type 0
-SetRefused p q x = (b i c : ℕ) × Within p q (λ r0 r tr es. SetLeaves (setting (member p.start.geometry 0) b i c) r0 r tr es (Err x))
+SetRefused p q x = (b i c : ℕ) × Within p q (λ r0 r tr es. SetLeaves (setting (member p.start.geometry 0) b i c) r0 r tr es (Err x) × (es ≡ []))
 
 -- a tree got no further root
 abbrev pub ShareRefused : Pool → Pool → ShareFault → Type 0

@@ -1,20 +1,13 @@
 -- What comes of a tree once a number is set at a key, level by level from the key's place up.
-use Rattle.std.specs.Prelude.{◌≡◌, ◌≢◌, ℕ, ◌+◌, ◌<◌, ◌≤◌, ◌==◌, ◌||◌, Bool, false, not, nat_lt, if◌then◌else◌}
+use Rattle.std.specs.Prelude.{◌≡◌, ◌≢◌, ℕ, ◌+◌, ◌<◌, ◌≤◌, ◌==◌, ◌||◌, Bool, false, not}
 use Rattle.shm_graph.specs.declared.spot.Spot.TheVariants.{Body}
 use Rattle.shm_graph.specs.References.{one_if}
 use Rattle.shm_plain.specs.Pools.{Pool}
-use Rattle.shm_tree.specs.declared.node.Side.{Side}
-use Rattle.shm_tree.specs.declared.node.Side.TheVariants.{Left, Right}
-use Rattle.shm_tree.specs.Building.{joined_by, named_by}
-use Rattle.shm_tree.specs.Keeping.{HasMade, child_of, other_side}
+use Rattle.shm_tree.specs.Building.{named_by}
 use Rattle.shm_tree.specs.Standing.{IsTree, Stands, weight, word_of}
-use Rattle.shm_tree.specs.Trees.{Tree, Empty, Node, AreNear, height, inserted}
-use Rattle.shm_tree.specs.Sharing.{CountsTop, IsCount}
+use Rattle.shm_tree.specs.Trees.{Tree, Empty, Node, inserted}
+use Rattle.shm_tree.specs.Sharing.{IsCount}
 use Rattle.shm_tree.specs.Ways.{IsEnd}
-
--- the side of a node with the key k on which the key x stands
-abbrev pub side_of : (x k : ℕ) → Side
-side_of x k = if nat_lt x k then Left else Right
 
 -- the trees on the two sides of a node, empty ones where there is none
 abbrev pub left_of : Tree → Tree
@@ -34,16 +27,6 @@ pub record IsRegistered (p : Pool) (b : ℕ) : Type 0 where
 abbrev pub StandsLowest : (x y : ℕ) (top b : ℕ) → Pool → Pool → Type 0
 StandsLowest x y top b p q = (t : Tree) → Stands p top t → IsEnd x t → Stands q b (inserted x y t)
 
--- at q there stands at b the node at `top` of p, balanced again with another tree on the side of the key x
-abbrev pub StandsRenewed : (x : ℕ) (top below b : ℕ) → Pool → Pool → Type 0
-StandsRenewed x top below b p q =
-    (k n : ℕ) (l r u : Tree) → Stands p top (Node k n l r) → Stands p below u → Stands q b (joined_by (side_of x k) (record { key = k; number = n }) u (if nat_lt x k then r else l))
-
--- where the heights of that tree and of the one on the other side differ by at most 1, at most one block was made
-abbrev pub IsCheapAt : (x : ℕ) (top below : ℕ) → Pool → Pool → Type 0
-IsCheapAt x top below p q =
-    (k n : ℕ) (l r u : Tree) → Stands p top (Node k n l r) → Stands p below u → AreNear (height u) (height (if nat_lt x k then r else l)) → HasMade 1 p q
-
 -- ---- the blocks that it has in common
 
 -- the block z is a node of the tree that stands at b
@@ -58,15 +41,3 @@ outside p b t z = one_if (not (is_part p z b t))
 -- one block is another one than those of the tree at `top`
 abbrev pub WeighsLowest : (x y : ℕ) (top b : ℕ) → Pool → Pool → Type 0
 WeighsLowest x y top b p q = (f : ℕ → ℕ) (t : Tree) → IsCount f → Stands p top t → IsEnd x t → weight f q b (inserted x y t) ≤ 1 + weight f p top t
-
--- one more than those of the tree at `below` and of the one on the other side, which isn't the higher one by 2
-abbrev pub WeighsRenewed : (x : ℕ) (top below b : ℕ) → Pool → Pool → Type 0
-WeighsRenewed x top below b p q =
-    (f : ℕ → ℕ) (k n : ℕ) (l r u : Tree) → IsCount f → Stands p top (Node k n l r) → Stands p below u
-    → (height (if nat_lt x k then r else l) + 1 < height u → CountsTop f p (other_side (side_of x k)) below) → height (if nat_lt x k then r else l) ≤ height u + 1
-    → weight f q b (joined_by (side_of x k) (record { key = k; number = n }) u (if nat_lt x k then r else l)) ≤ 1 + weight f p below u + weight f p (child_of p top (other_side (side_of x k))) (if nat_lt x k then r else l)
-
--- where the heights differ by at most 1, the tree at `below` is a child of the node at b
-abbrev pub IsOverAt : (x : ℕ) (top below b : ℕ) → Pool → Pool → Type 0
-IsOverAt x top below b p q =
-    (k n : ℕ) (l r u : Tree) → Stands p top (Node k n l r) → Stands p below u → AreNear (height u) (height (if nat_lt x k then r else l)) → child_of q b (side_of x k) ≡ below

@@ -5,6 +5,7 @@ pub mod Trees
 pub mod Standing
 pub mod Working
 pub mod Keeping
+pub mod Looking
 pub mod Bounds
 pub mod Tearing
 pub mod Spending
@@ -13,7 +14,9 @@ pub mod Building
 pub mod Ways
 pub mod Inserting
 pub mod Forests
+pub mod CutShort
 pub mod Sharing
+pub mod Raising
 pub mod Living
 pub mod Removing
 pub mod Ending

@@ -6,8 +6,8 @@ use Rattle.shm_tree.specs.declared.node.Content.{Content}
 use Rattle.shm_tree.specs.declared.node.Side.{Side}
 use Rattle.shm_tree.specs.declared.node.Side.TheVariants.{Left, Right}
 use Rattle.shm_tree.specs.declared.remove.Removed.{Removed}
-use Rattle.shm_tree.specs.Building.{IsBuilt, IsCut, block_of, joined_by}
-use Rattle.shm_tree.specs.Inserting.{left_of, right_of, side_of}
+use Rattle.shm_tree.specs.Building.{IsBuilt, IsCut, block_of}
+use Rattle.shm_tree.specs.Inserting.{left_of, right_of}
 use Rattle.shm_tree.specs.Keeping.{IsStill}
 use Rattle.shm_tree.specs.Standing.{Stands}
 use Rattle.shm_tree.specs.Trees.{Tree, Empty, Node, found, height, removed, without_least}
@@ -31,16 +31,6 @@ abbrev pub content_in : Tree → Content
 content_in Empty = record { key = 0; number = 0 }
 content_in (Node k n l r) = record { key = k; number = n }
 
--- a content that was told, or this one
-abbrev pub content_or : Option Content → Content → Content
-content_or None c = c
-content_or (Some d) c = d
-
--- a node made again with its own key and number, or with those that are told, where u stands on the side of the key x: balanced again
-abbrev pub again : (x : ℕ) → Option Content → Tree → Tree → Tree
-again x o Empty u = u
-again x o (Node k n l r) u = joined_by (side_of x k) (content_or o (record { key = k; number = n })) u (if nat_lt x k then r else l)
-
 -- what stays of the tree i nodes down on the way to the key x, whose node is a nodes down
 abbrev pub rest : (x a : ℕ) → Tree → ℕ → Tree
 rest x a t i = if nat_lt a i then less_least (down x t i) else removed x (down x t i)
@@ -55,10 +45,6 @@ StandsMoved top b p q = (t : Tree) → Stands p top t → Stands q b t
 abbrev pub IsKept : ℕ → Option Made → Pool → Pool → Type 0
 IsKept n None p q = IsCut n p q × AreSameRoots p q
 IsKept n (Some m) p q = IsBuilt n m p q
-
--- at q there stands at b the node at `top` of p made again
-abbrev pub StandsAgain : (x : ℕ) → Option Content → (top below b : ℕ) → Pool → Pool → Type 0
-StandsAgain x o top below b p q = (t u : Tree) → Stands p top t → Stands p below u → Stands q b (again x o t u)
 
 -- the tree had the key, and what it is without it was made: n blocks at most
 pub record IsWithout (x n : ℕ) (t : Tree) (o : Option Made) (p q : Pool) : Type 0 where

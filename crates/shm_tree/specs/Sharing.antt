@@ -1,8 +1,8 @@
 -- The blocks that trees have in common.
-use Rattle.std.specs.Prelude.{◌≡◌, ℕ, ◌+◌, ◌<◌, ◌≤◌, false, Option}
+use Rattle.std.specs.Prelude.{◌≡◌, ℕ, ◌+◌, ◌<◌, ◌≤◌, false}
 use Rattle.shm_plain.specs.Pools.{Pool}
 use Rattle.shm_count.specs.declared.answer.Made.{Made}
-use Rattle.shm_tree.specs.Building.{IsOther, KeepsBlocks, from_far, joined_by, named_by}
+use Rattle.shm_tree.specs.Building.{from_far, joined_by}
 use Rattle.shm_tree.specs.declared.balance.Plan.{Plan}
 use Rattle.shm_tree.specs.declared.node.Content.{Content}
 use Rattle.shm_tree.specs.declared.node.Pair.{Pair}
@@ -15,15 +15,9 @@ use Rattle.shm_tree.specs.Trees.{Tree, AreNear, height}
 abbrev pub IsCount : (ℕ → ℕ) → Type 0
 IsCount f = (b : ℕ) → f b ≤ 1
 
--- what was built is at a block that wasn't live, and leaves the blocks of the trees that stood
-pub record IsSharing (m : Made) (p q : Pool) : Type 0 where
-  pub fresh : is_live p m.block ≡ false
-  pub blocks : KeepsBlocks p q
-
--- what was built again is at a block that wasn't live, and leaves the blocks of the trees that stood, but for the tree below, if there is one
-pub record IsSharingOver (below : Option Made) (m : Made) (p q : Pool) : Type 0 where
-  pub fresh : is_live p m.block ≡ false
-  pub blocks : (f : ℕ → ℕ) (j : ℕ) (t : Tree) → j < 16 → IsOther below j → Stands p (named_by p j) t → weight f q (named_by p j) t ≡ weight f p (named_by p j) t
+-- what was built is at a block that wasn't live
+abbrev pub IsFresh : Pool → Made → Type 0
+IsFresh p m = is_live p m.block ≡ false
 
 -- ---- how many of the blocks are others than those of the trees of which it was built
 

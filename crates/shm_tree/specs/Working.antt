@@ -1,5 +1,5 @@
 -- The one client of a forest's pool at work.
-use Rattle.std.specs.Prelude.{◌≡◌, ◌≢◌, ℕ, ◌+◌, ◌-◌, ◌^◌, ◌<◌, ◌⊎◌, true, false, List, [], slice_index, Result, Ok, Err}
+use Rattle.std.specs.Prelude.{◌≡◌, ◌≢◌, ℕ, ◌+◌, ◌-◌, ◌^◌, ◌<◌, ◌⊎◌, true, false, List, [], slice_index, Some, Result, Ok, Err}
 use Rattle.shm_graph.specs.declared.memo.Memo.{Memo}
 use Rattle.shm_graph.specs.declared.spot.Spot.TheVariants.{Era, Home}
 use Rattle.shm_graph.specs.Agents.{acts, recovers, steps_made}
@@ -59,13 +59,33 @@ IfRefused (Err (stop.EraSpent e)) P = P
 
 -- no word step is left where a call stopped for want of one
 abbrev pub IsOver : Stop → ℕ → Type 0
-IsOver e x = e ≡ stop.Died → x ≡ 0
+IsOver e y = e ≡ stop.Died → y ≡ 0
+
+-- the client is in the midst of a call
+abbrev pub IsInCall : Pool → Type 0
+IsInCall p = (memo_of p 0).over ≡ false
+
+-- what stopped is cut off in the midst of a call, or between two of them, where the client holds its latch, or no latch, as before
+abbrev pub IsCutOff : Pool → Pool → Type 0
+IsCutOff p q = IsInCall q ⊎ ((memo_of q 0).latch ≡ (memo_of p 0).latch)
+
+-- where a call stopped for want of a word step none is left, and it is cut off so
+abbrev pub DiedIn : Stop → Pool → Pool → ℕ → Type 0
+DiedIn e p q y = e ≡ stop.Died → (y ≡ 0) × IsCutOff p q
+
+-- the client is in the midst of a call, or holds its latch
+abbrev pub IsUnderWay : Pool → Type 0
+IsUnderWay p = IsInCall p ⊎ ((memo_of p 0).latch ≡ Some 0)
 
 -- ---- roots
 
 -- its roots are as they were
 abbrev pub AreSameRoots : Pool → Pool → Type 0
 AreSameRoots p q = (k : ℕ) → root_word 0 (memo_of q 0) k ≡ root_word 0 (memo_of p 0) k
+
+-- where a drop of a root stopped for want of a word step it is in its midst; or there was none for it, and no root changed; or the own era is spent
+abbrev pub DiedBegun : Stop → Pool → Pool → ℕ → Type 0
+DiedBegun e p q x = e ≡ stop.Died → IsInCall q ⊎ (((x ≡ 0) × AreSameRoots p q) ⊎ IsSpent (memo_of q 0))
 
 -- a root is empty
 abbrev pub HasRoom : Pool → Type 0

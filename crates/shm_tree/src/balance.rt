@@ -2,11 +2,12 @@
 
 ghost use Rattle.std.specs.Prelude.{◌≡◌, ◌≢◌, ◌≤◌, Some, IfOk, IfSome};
 ghost use Rattle.shm_plain.specs.Pools.{memo_of};
-ghost use Rattle.shm_tree.specs.Bounds.{balanced_steps, crowned_steps, raised_steps, renewed_steps, rotated_steps, turned_steps};
+ghost use Rattle.shm_tree.specs.Bounds.{balanced_steps, crowned_steps, raise_steps, raised_steps, renewed_steps, rotated_steps, turned_steps};
 ghost use Rattle.shm_tree.specs.Building.{Builds, IsAtHand, IsBuilt, IsCheap, IsHeld, IsRebuilt, StandsCrowned, StandsOf, StandsRaised, StandsTurned, StandsTurnedTwice, block_of, from_far, joined_by, rooms};
 ghost use Rattle.shm_tree.specs.Keeping.{HasNode, HasTree, child_of, other_side};
 ghost use Rattle.shm_tree.specs.Living.{KeepsLives};
-ghost use Rattle.shm_tree.specs.Sharing.{IsOver, IsSharing, IsSharingOver, WeighsCrowned, WeighsFar, WeighsJoined, WeighsRaised, WeighsTurned, WeighsTurnedTwice};
+ghost use Rattle.shm_tree.specs.Raising.{IsCheapAt, IsOverAt, StandsAgain, WeighsAgain, content_or};
+ghost use Rattle.shm_tree.specs.Sharing.{IsOver, IsFresh, WeighsCrowned, WeighsFar, WeighsJoined, WeighsRaised, WeighsTurned, WeighsTurnedTwice};
 ghost use Rattle.shm_tree.specs.Working.{IfAlive, IsReached, IsWorking};
 
 use crate::calls::{child, drop_root, height};
@@ -41,7 +42,7 @@ fn raised(
     ensures builds { Builds 2 (raised_steps pool.old.start.geometry) result pool.old pool.new life.old.left life.new.left }
     ensures built { IfOk result (λ m. IsBuilt 2 m pool.old pool.new) }
     ensures stands { IfOk result (λ m. StandsRaised top side below far m.block pool.old pool.new) }
-    ensures sharing { IfOk result (λ m. IsSharing m pool.old pool.new) }
+    ensures fresh { IfOk result (IsFresh pool.old) }
     ensures rests { IfOk result (λ m. KeepsLives pool.old pool.new) }
     ensures weighs { IfOk result (λ m. WeighsRaised top side below far m.block pool.old pool.new) }
 {
@@ -74,7 +75,7 @@ fn crowned(
     ensures builds { Builds 3 (crowned_steps pool.old.start.geometry) result pool.old pool.new life.old.left life.new.left }
     ensures built { IfOk result (λ m. IsBuilt 3 m pool.old pool.new) }
     ensures stands { IfOk result (λ m. StandsCrowned top side near far m.block pool.old pool.new) }
-    ensures sharing { IfOk result (λ m. IsSharing m pool.old pool.new) }
+    ensures fresh { IfOk result (IsFresh pool.old) }
     ensures rests { IfOk result (λ m. KeepsLives pool.old pool.new) }
     ensures weighs { IfOk result (λ m. WeighsCrowned top side near far m.block pool.old pool.new) }
 {
@@ -106,7 +107,7 @@ fn single(
     ensures builds { Builds 2 (turned_steps pool.old.start.geometry) result pool.old pool.new life.old.left life.new.left }
     ensures built { IfOk result (λ m. IsBuilt 2 m pool.old pool.new) }
     ensures stands { IfOk result (λ m. StandsTurned middle side trees m.block pool.old pool.new) }
-    ensures sharing { IfOk result (λ m. IsSharing m pool.old pool.new) }
+    ensures fresh { IfOk result (IsFresh pool.old) }
     ensures rests { IfOk result (λ m. KeepsLives pool.old pool.new) }
     ensures weighs { IfOk result (λ m. WeighsTurned middle side trees m.block pool.old pool.new) }
 {
@@ -144,7 +145,7 @@ fn double(
     ensures builds { Builds 3 (turned_steps pool.old.start.geometry) result pool.old pool.new life.old.left life.new.left }
     ensures built { IfOk result (λ m. IsBuilt 3 m pool.old pool.new) }
     ensures stands { IfOk result (λ m. StandsTurnedTwice middle side trees m.block pool.old pool.new) }
-    ensures sharing { IfOk result (λ m. IsSharing m pool.old pool.new) }
+    ensures fresh { IfOk result (IsFresh pool.old) }
     ensures rests { IfOk result (λ m. KeepsLives pool.old pool.new) }
     ensures weighs { IfOk result (λ m. WeighsTurnedTwice middle side trees m.block pool.old pool.new) }
 {
@@ -185,7 +186,7 @@ fn rotated(
     ensures builds { Builds 3 (rotated_steps pool.old.start.geometry) result pool.old pool.new life.old.left life.new.left }
     ensures built { IfOk result (λ m. IsBuilt 3 m pool.old pool.new) }
     ensures stands { IfOk result (λ m. StandsOf (from_far side middle) trees m.block pool.old pool.new) }
-    ensures sharing { IfOk result (λ m. IsSharing m pool.old pool.new) }
+    ensures fresh { IfOk result (IsFresh pool.old) }
     ensures rests { IfOk result (λ m. KeepsLives pool.old pool.new) }
     ensures weighs { IfOk result (λ m. WeighsFar middle side trees m.block pool.old pool.new) }
 {
@@ -216,7 +217,7 @@ fn balanced(
     ensures built { IfOk result (λ m. IsBuilt 3 m pool.old pool.new) }
     ensures stands { IfOk result (λ m. StandsOf (joined_by side middle) trees m.block pool.old pool.new) }
     ensures cheap { IfAlive result (IsCheap trees pool.old pool.new) }
-    ensures sharing { IfOk result (λ m. IsSharing m pool.old pool.new) }
+    ensures fresh { IfOk result (IsFresh pool.old) }
     ensures rests { IfOk result (λ m. KeepsLives pool.old pool.new) }
     ensures weighs { IfOk result (λ m. WeighsJoined middle side trees m.block pool.old pool.new) }
     ensures top { IfOk result (λ m. IsOver trees side m.block pool.old pool.new) }
@@ -247,11 +248,7 @@ fn block_of(tree: Option<Made>) -> u32
 }
 
 /// Makes a tree as that of a node, with another key and number, and with another tree on this side, whose root is dropped.
-///
-/// # Errors
-///
-/// As a call was refused: what roots named they name still, and it stands. A node that was made then may be in a root that was empty.
-pub fn renewed(
+fn renewed(
     pool: &mut PlainPool,
     node: u32,
     middle: Content,
@@ -270,7 +267,7 @@ pub fn renewed(
     ensures rebuilt { IfOk result (λ m. IsRebuilt 3 tree m pool.old pool.new) }
     ensures stands { IfOk result (λ m. StandsOf (joined_by side middle) (record { near = block_of tree; far = child_of pool.old node (other_side side) }) m.block pool.old pool.new) }
     ensures cheap { IfAlive result (IsCheap (record { near = block_of tree; far = child_of pool.old node (other_side side) }) pool.old pool.new) }
-    ensures sharing { IfOk result (λ m. IsSharingOver tree m pool.old pool.new) }
+    ensures fresh { IfOk result (IsFresh pool.old) }
     ensures rests { IfOk result (λ m. KeepsLives pool.old pool.new) }
     ensures weighs { IfOk result (λ m. WeighsJoined middle side (record { near = block_of tree; far = child_of pool.old node (other_side side) }) m.block pool.old pool.new) }
     ensures top { IfOk result (λ m. IsOver (record { near = block_of tree; far = child_of pool.old node (other_side side) }) side m.block pool.old pool.new) }
@@ -288,4 +285,47 @@ pub fn renewed(
             Ok(made)
         }
     }
+}
+
+/// What is told, or this.
+fn content_or(told: Option<Content>, own: Content) -> Content
+    ensures { result ≡ content_or told own }
+{
+    match told {
+        None => own,
+        Some(content) => content,
+    }
+}
+
+/// The tree of a node, with another key and number where they are told, and with another tree on the side of a key, whose root is dropped.
+///
+/// # Errors
+///
+/// As a call was refused: what roots named they name still, and it stands. A node that was made then may be in a root that was empty.
+pub fn raise(
+    pool: &mut PlainPool,
+    node: u32,
+    wanted: u32,
+    told: Option<Content>,
+    below: Option<Made>,
+    life: &mut Life,
+) -> Result<Made, Stop>
+    requires working { IsWorking pool.old }
+    requires latch { (memo_of pool.old 0).latch ≡ Some 0 }
+    requires room { 3 ≤ rooms pool.old }
+    requires node { IsAtHand pool.old node }
+    requires some { node ≢ 0 }
+    requires below { IfSome below (IsHeld pool.old) }
+    ensures builds { Builds 3 (raise_steps pool.old.start.geometry) result pool.old pool.new life.old.left life.new.left }
+    ensures rebuilt { IfOk result (λ m. IsRebuilt 3 below m pool.old pool.new) }
+    ensures stands { IfOk result (λ m. StandsAgain wanted told node (block_of below) m.block pool.old pool.new) }
+    ensures cheap { IfAlive result (IsCheapAt wanted node (block_of below) pool.old pool.new) }
+    ensures fresh { IfOk result (IsFresh pool.old) }
+    ensures rests { IfOk result (λ m. KeepsLives pool.old pool.new) }
+    ensures weighs { IfOk result (λ m. WeighsAgain wanted told node (block_of below) m.block pool.old pool.new) }
+    ensures top { IfOk result (λ m. IsOverAt wanted node (block_of below) m.block pool.old pool.new) }
+{
+    let own = content_of(pool, node, life)?;
+    let side = Side::of(wanted, own.key);
+    renewed(pool, node, content_or(told, own), side, below, life)
 }

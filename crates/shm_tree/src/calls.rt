@@ -1,6 +1,6 @@
 //! The calls of the one client of a forest's pool.
 
-ghost use Rattle.std.specs.Prelude.{◌≡◌, ◌≢◌, ℕ, ◌+◌, ◌<◌, ◌≤◌, [], None, Some, IfErr, IfOk};
+ghost use Rattle.std.specs.Prelude.{◌≡◌, ◌≢◌, ℕ, ◌+◌, ◌<◌, ◌≤◌, ◌⊎◌, [], None, Some, IfErr, IfOk};
 ghost use Rattle.shm_graph.specs.declared.spot.Spot.TheVariants.{Body};
 ghost use Rattle.shm_plain.specs.Calls.{Did};
 ghost use Rattle.shm_plain.specs.Pools.{memo_of};
@@ -10,10 +10,11 @@ ghost use Rattle.shm_tree.specs.Bounds.{drop_steps, make_steps, refer_steps, sha
 ghost use Rattle.shm_tree.specs.Causes.{StopCause};
 ghost use Rattle.shm_tree.specs.Falling.{IsUnnamed};
 ghost use Rattle.shm_tree.specs.Keeping.{HasNode, HasTree, IsDropped, IsMade, IsReferring, IsShared, IsStill, child_of};
+ghost use Rattle.shm_tree.specs.Looking.{Looks};
 ghost use Rattle.shm_tree.specs.Standing.{Stands, word_of};
 ghost use Rattle.shm_tree.specs.Tearing.{HasTorn};
 ghost use Rattle.shm_tree.specs.Trees.{Tree as ATree, height as height_of};
-ghost use Rattle.shm_tree.specs.Working.{HasRoom, IfAlive, IfRefused, IsEmptied, IsOver, IsReached, IsSameLatch, IsSpent, IsWorking, Reaches, Went};
+ghost use Rattle.shm_tree.specs.Working.{AreSameRoots, DiedBegun, DiedIn, HasRoom, IfAlive, IfRefused, IsCutOff, IsEmptied, IsInCall, IsReached, IsSameLatch, IsSpent, IsWorking, Reaches, Went};
 
 use crate::node::{Content, Side};
 use crate::stop::Stop;
@@ -34,7 +35,7 @@ pub fn hold(pool: &mut PlainPool, life: &mut Life) -> Result<(), Stop>
     ensures still { IfOk result (λ u. IsStill pool.old pool.new) }
     ensures reaches { IfOk result (λ u. Reaches pool.old pool.new) }
     ensures steps { IfOk result (λ u. life.old.left ≡ life.new.left + 2) }
-    ensures died { IfErr result (λ e. (e ≡ stop.Died) × (life.new.left ≡ 0)) }
+    ensures died { IfErr result (λ e. (e ≡ stop.Died) × (life.new.left ≡ 0) × (0 < life.old.left → IsInCall pool.new)) }
 {
     let holding = Hold::new(pool.me(0), 0);
     match pool.run(0, holding, life) {
@@ -53,7 +54,7 @@ pub fn release(pool: &mut PlainPool, life: &mut Life) -> Result<(), Stop>
     ensures latch { IfOk result (λ u. (memo_of pool.new 0).latch ≡ None) }
     ensures still { IfOk result (λ u. IsStill pool.old pool.new) }
     ensures steps { IfOk result (λ u. life.old.left ≡ life.new.left + 3) }
-    ensures died { IfErr result (λ e. (e ≡ stop.Died) × (life.new.left ≡ 0)) }
+    ensures died { IfErr result (λ e. (e ≡ stop.Died) × (life.new.left ≡ 0) × IsCutOff pool.old pool.new) }
 {
     let releasing = Release::new(pool.me(0));
     match pool.run(0, releasing, life) {
@@ -66,16 +67,12 @@ pub fn release(pool: &mut PlainPool, life: &mut Life) -> Result<(), Stop>
 pub fn root_of(pool: &mut PlainPool, root: u8, life: &mut Life) -> Result<u32, Stop>
     requires working { IsWorking pool.old }
     requires root { root < 16 }
-    ensures went { Went pool.old pool.new life.old.left life.new.left }
-    ensures working { IfOk result (λ b. IsWorking pool.new) }
-    ensures latch { IfOk result (λ b. IsSameLatch pool.old pool.new) }
+    ensures looks { Looks result pool.old pool.new life.old.left life.new.left }
     ensures names { IfOk result (λ b. b ≡ root_word 0 (memo_of pool.old 0) root) }
-    ensures still { IfOk result (λ b. IsStill pool.old pool.new) }
-    ensures reaches { IfOk result (λ b. Reaches pool.old pool.new) }
     ensures reached { IfOk result (λ b. IsReached pool.new b) }
     ensures steps { IfOk result (λ b. life.old.left ≡ life.new.left + 1) }
     ensures quiet { IfOk result (λ b. Did 0 pool.old pool.new []) }
-    ensures died { IfErr result (λ e. (e ≡ stop.Died) × (life.new.left ≡ 0)) }
+    ensures begun { IfErr result (λ e. IsInCall pool.new ⊎ AreSameRoots pool.old pool.new) }
 {
     let naming = RootOf::new(pool.me(0), root);
     match pool.run(0, naming, life) {
@@ -90,15 +87,10 @@ pub fn child(pool: &mut PlainPool, node: u32, side: Side, life: &mut Life) -> Re
     requires latch { (memo_of pool.old 0).latch ≡ Some 0 }
     requires node { HasNode pool.old node }
     requires reached { IsReached pool.old node }
-    ensures went { Went pool.old pool.new life.old.left life.new.left }
-    ensures working { IfOk result (λ b. IsWorking pool.new) }
-    ensures latch { IfOk result (λ b. IsSameLatch pool.old pool.new) }
+    ensures looks { Looks result pool.old pool.new life.old.left life.new.left }
     ensures names { IfOk result (λ b. b ≡ child_of pool.old node side) }
-    ensures still { IfOk result (λ b. IsStill pool.old pool.new) }
-    ensures reaches { IfOk result (λ b. Reaches pool.old pool.new) }
     ensures reached { IfOk result (λ b. IsReached pool.new b) }
     ensures steps { IfOk result (λ b. life.old.left ≡ life.new.left + 3) }
-    ensures died { IfErr result (λ e. (e ≡ stop.Died) × (life.new.left ≡ 0)) }
 {
     let looking = Look::new(pool.me(0), node, side.word());
     match pool.run(0, looking, life) {
@@ -114,14 +106,9 @@ fn plain(pool: &mut PlainPool, node: u32, index: u8, life: &mut Life) -> Result<
     requires node { HasNode pool.old node }
     requires reached { IsReached pool.old node }
     requires index { index < 3 }
-    ensures went { Went pool.old pool.new life.old.left life.new.left }
-    ensures working { IfOk result (λ x. IsWorking pool.new) }
-    ensures latch { IfOk result (λ x. IsSameLatch pool.old pool.new) }
+    ensures looks { Looks result pool.old pool.new life.old.left life.new.left }
     ensures is { IfOk result (λ x. x ≡ word_of pool.old (Body node (2 + index))) }
-    ensures still { IfOk result (λ x. IsStill pool.old pool.new) }
-    ensures reaches { IfOk result (λ x. Reaches pool.old pool.new) }
     ensures steps { IfOk result (λ x. life.old.left ≡ life.new.left + 2) }
-    ensures died { IfErr result (λ e. (e ≡ stop.Died) × (life.new.left ≡ 0)) }
 {
     let reading = Read::new(pool.me(0), node, index);
     match pool.run(0, reading, life) {
@@ -136,14 +123,9 @@ pub fn key(pool: &mut PlainPool, node: u32, life: &mut Life) -> Result<u64, Stop
     requires working { IsWorking pool.old }
     requires node { HasNode pool.old node }
     requires reached { IsReached pool.old node }
-    ensures went { Went pool.old pool.new life.old.left life.new.left }
-    ensures working { IfOk result (λ k. IsWorking pool.new) }
-    ensures latch { IfOk result (λ k. IsSameLatch pool.old pool.new) }
+    ensures looks { Looks result pool.old pool.new life.old.left life.new.left }
     ensures is { IfOk result (λ k. k ≡ word_of pool.old (Body node 2)) }
-    ensures still { IfOk result (λ k. IsStill pool.old pool.new) }
-    ensures reaches { IfOk result (λ k. Reaches pool.old pool.new) }
     ensures steps { IfOk result (λ k. life.old.left ≡ life.new.left + 2) }
-    ensures died { IfErr result (λ e. (e ≡ stop.Died) × (life.new.left ≡ 0)) }
 {
     plain(pool, node, 0, life)
 }
@@ -153,14 +135,9 @@ pub fn number(pool: &mut PlainPool, node: u32, life: &mut Life) -> Result<u64, S
     requires working { IsWorking pool.old }
     requires node { HasNode pool.old node }
     requires reached { IsReached pool.old node }
-    ensures went { Went pool.old pool.new life.old.left life.new.left }
-    ensures working { IfOk result (λ n. IsWorking pool.new) }
-    ensures latch { IfOk result (λ n. IsSameLatch pool.old pool.new) }
+    ensures looks { Looks result pool.old pool.new life.old.left life.new.left }
     ensures is { IfOk result (λ n. n ≡ word_of pool.old (Body node 3)) }
-    ensures still { IfOk result (λ n. IsStill pool.old pool.new) }
-    ensures reaches { IfOk result (λ n. Reaches pool.old pool.new) }
     ensures steps { IfOk result (λ n. life.old.left ≡ life.new.left + 2) }
-    ensures died { IfErr result (λ e. (e ≡ stop.Died) × (life.new.left ≡ 0)) }
 {
     plain(pool, node, 1, life)
 }
@@ -170,14 +147,9 @@ pub fn height(pool: &mut PlainPool, tree: u32, life: &mut Life) -> Result<u64, S
     requires working { IsWorking pool.old }
     requires tree { HasTree pool.old tree }
     requires reached { IsReached pool.old tree }
-    ensures went { Went pool.old pool.new life.old.left life.new.left }
-    ensures working { IfOk result (λ h. IsWorking pool.new) }
-    ensures latch { IfOk result (λ h. IsSameLatch pool.old pool.new) }
+    ensures looks { Looks result pool.old pool.new life.old.left life.new.left }
     ensures is { IfOk result (λ h. (t : ATree) → Stands pool.old tree t → h ≡ height_of t) }
-    ensures still { IfOk result (λ h. IsStill pool.old pool.new) }
-    ensures reaches { IfOk result (λ h. Reaches pool.old pool.new) }
     ensures steps { IfOk result (λ h. life.old.left ≤ life.new.left + 2) }
-    ensures died { IfErr result (λ e. (e ≡ stop.Died) × (life.new.left ≡ 0)) }
 {
     if tree == 0 {
         Ok(0)
@@ -208,7 +180,7 @@ pub fn make(
     ensures still { IfRefused result (IsStill pool.old pool.new) }
     ensures steps { IfAlive result (life.old.left ≤ life.new.left + make_steps pool.old.start.geometry) }
     ensures cause { IfErr result (λ e. StopCause pool.old pool.new e) }
-    ensures died { IfErr result (λ e. IsOver e life.new.left) }
+    ensures died { IfErr result (λ e. DiedIn e pool.old pool.new life.new.left) }
 {
     match allocate(pool, 0, 2, &[content.key, content.number, height], life) {
         Ok(None) => Err(Stop::Died),
@@ -251,7 +223,7 @@ pub fn refer(
     ensures still { IfRefused result (IsStill pool.old pool.new) }
     ensures steps { IfAlive result (life.old.left ≤ life.new.left + refer_steps pool.old.start.geometry) }
     ensures cause { IfErr result (λ e. StopCause pool.old pool.new e) }
-    ensures died { IfErr result (λ e. IsOver e life.new.left) }
+    ensures died { IfErr result (λ e. DiedIn e pool.old pool.new life.new.left) }
 {
     let setting = SetRef::new(pool.me(0), node, side.word(), child);
     match pool.run(0, setting, life) {
@@ -284,7 +256,8 @@ pub fn share(pool: &mut PlainPool, tree: u32, life: &mut Life) -> Result<Made, S
     ensures still { IfRefused result (IsStill pool.old pool.new) }
     ensures steps { IfAlive result (life.old.left ≤ life.new.left + share_steps pool.old.start.geometry) }
     ensures cause { IfErr result (λ e. StopCause pool.old pool.new e) }
-    ensures died { IfErr result (λ e. IsOver e life.new.left) }
+    ensures died { IfErr result (λ e. DiedIn e pool.old pool.new life.new.left) }
+    ensures begun { IfErr result (λ e. e ≡ stop.Died → IsInCall pool.new ⊎ AreSameRoots pool.old pool.new) }
 {
     let sharing = Share::new(pool.me(0), tree);
     match pool.run(0, sharing, life) {
@@ -316,7 +289,8 @@ pub fn drop_root(pool: &mut PlainPool, root: u8, life: &mut Life) -> Result<(), 
     ensures refused_steps { IfRefused result (life.old.left ≤ life.new.left + drop_steps pool.old.start.geometry 0) }
     ensures spent { IfRefused result (IsSpent (memo_of pool.new 0)) }
     ensures cause { IfErr result (λ e. StopCause pool.old pool.new e) }
-    ensures died { IfErr result (λ e. IsOver e life.new.left) }
+    ensures died { IfErr result (λ e. DiedIn e pool.old pool.new life.new.left) }
+    ensures begun { IfErr result (λ e. DiedBegun e pool.old pool.new life.old.left) }
 {
     let dropping = DropRoot::new(pool.me(0), root);
     match pool.run(0, dropping, life) {

@@ -1,14 +1,13 @@
 //! Ways down a tree to a key.
 
-ghost use Rattle.std.specs.Prelude.{◌≡◌, ◌≢◌, ℕ, ◌+◌, ◌*◌, ◌-◌, ◌^◌, ◌<◌, ◌≤◌, Some, IfErr, IfOk};
+ghost use Rattle.std.specs.Prelude.{◌≡◌, ◌≢◌, ℕ, ◌+◌, ◌*◌, ◌-◌, ◌^◌, ◌<◌, ◌≤◌, Some, IfOk};
 ghost use Rattle.shm_plain.specs.Pools.{memo_of};
-ghost use Rattle.shm_tree.specs.declared.stop.Stop.TheVariants as stop;
 ghost use Rattle.shm_tree.specs.Building.{IsAtHand};
-ghost use Rattle.shm_tree.specs.Keeping.{IsStill};
+ghost use Rattle.shm_tree.specs.Looking.{Looks};
 ghost use Rattle.shm_tree.specs.Standing.{Stands, weight};
 ghost use Rattle.shm_tree.specs.Trees.{Tree as ATree, IsSearch, found, height};
 ghost use Rattle.shm_tree.specs.Ways.{IsDeep, IsEnd, IsLast, IsPlace, down};
-ghost use Rattle.shm_tree.specs.Working.{IsReached, IsSameLatch, IsWorking, Reaches, Went};
+ghost use Rattle.shm_tree.specs.Working.{IsReached, IsWorking};
 
 use crate::calls::{child, key, number};
 use crate::node::Side;
@@ -28,12 +27,7 @@ pub fn find(pool: &mut PlainPool, tree: u32, wanted: u32, life: &mut Life) -> Re
     requires working { IsWorking pool.old }
     requires latch { (memo_of pool.old 0).latch ≡ Some 0 }
     requires tree { IsAtHand pool.old tree }
-    ensures went { Went pool.old pool.new life.old.left life.new.left }
-    ensures working { IfOk result (λ w. IsWorking pool.new) }
-    ensures latch { IfOk result (λ w. IsSameLatch pool.old pool.new) }
-    ensures still { IfOk result (λ w. IsStill pool.old pool.new) }
-    ensures reaches { IfOk result (λ w. Reaches pool.old pool.new) }
-    ensures died { IfErr result (λ e. (e ≡ stop.Died) × (life.new.left ≡ 0)) }
+    ensures looks { Looks result pool.old pool.new life.old.left life.new.left }
     ensures steps { IfOk result (λ w. life.old.left ≤ life.new.left + 5 * w.depth + 2) }
     ensures place { IfOk result (λ w. (t : ATree) → Stands pool.old tree t → IsPlace pool.new w.node wanted w.depth t) }
     ensures low { IfOk result (λ w. w.depth < 2 ^ 24) }
@@ -65,12 +59,7 @@ pub fn above(
     requires latch { (memo_of pool.old 0).latch ≡ Some 0 }
     requires tree { IsAtHand pool.old tree }
     requires deep { (t : ATree) → Stands pool.old tree t → IsDeep wanted t depth }
-    ensures went { Went pool.old pool.new life.old.left life.new.left }
-    ensures working { IfOk result (λ w. IsWorking pool.new) }
-    ensures latch { IfOk result (λ w. IsSameLatch pool.old pool.new) }
-    ensures still { IfOk result (λ w. IsStill pool.old pool.new) }
-    ensures reaches { IfOk result (λ w. Reaches pool.old pool.new) }
-    ensures died { IfErr result (λ e. (e ≡ stop.Died) × (life.new.left ≡ 0)) }
+    ensures looks { Looks result pool.old pool.new life.old.left life.new.left }
     ensures steps { IfOk result (λ w. life.old.left ≡ life.new.left + 5 * depth) }
     ensures stands { IfOk result (λ w. (t : ATree) → Stands pool.old tree t → Stands pool.new w (down wanted t depth)) }
     ensures reached { IfOk result (λ w. IsReached pool.new w) }
@@ -93,12 +82,7 @@ pub fn last(pool: &mut PlainPool, place: Place, life: &mut Life) -> Result<Place
     requires tree { (t : ATree) × Stands pool.old place.node t × IsSearch t }
     requires reached { IsReached pool.old place.node }
     requires low { place.depth < 2 ^ 24 }
-    ensures went { Went pool.old pool.new life.old.left life.new.left }
-    ensures working { IfOk result (λ w. IsWorking pool.new) }
-    ensures latch { IfOk result (λ w. IsSameLatch pool.old pool.new) }
-    ensures still { IfOk result (λ w. IsStill pool.old pool.new) }
-    ensures reaches { IfOk result (λ w. Reaches pool.old pool.new) }
-    ensures died { IfErr result (λ e. (e ≡ stop.Died) × (life.new.left ≡ 0)) }
+    ensures looks { Looks result pool.old pool.new life.old.left life.new.left }
     ensures steps { IfOk result (λ w. life.old.left ≡ life.new.left + 3 * (w.depth - place.depth + 1)) }
     ensures below { IfOk result (λ w. place.depth ≤ w.depth) }
     ensures last { IfOk result (λ w. (x : ℕ) (t : ATree) → Stands pool.old place.node t → IsSearch t → IsEnd x t → IsLast pool.new w.node x (w.depth - place.depth) t) }
@@ -126,12 +110,7 @@ pub fn number_at(
     requires working { IsWorking pool.old }
     requires latch { (memo_of pool.old 0).latch ≡ Some 0 }
     requires tree { IsAtHand pool.old tree }
-    ensures went { Went pool.old pool.new life.old.left life.new.left }
-    ensures working { IfOk result (λ o. IsWorking pool.new) }
-    ensures latch { IfOk result (λ o. IsSameLatch pool.old pool.new) }
-    ensures still { IfOk result (λ o. IsStill pool.old pool.new) }
-    ensures reaches { IfOk result (λ o. Reaches pool.old pool.new) }
-    ensures died { IfErr result (λ e. (e ≡ stop.Died) × (life.new.left ≡ 0)) }
+    ensures looks { Looks result pool.old pool.new life.old.left life.new.left }
     ensures steps { IfOk result (λ o. (t : ATree) → Stands pool.old tree t → life.old.left ≤ life.new.left + 5 * height t + 4) }
     ensures is { IfOk result (λ o. (t : ATree) → Stands pool.old tree t → o ≡ found wanted t) }
 {

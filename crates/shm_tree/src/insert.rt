@@ -1,22 +1,21 @@
 //! A tree with a number at a key.
 
-ghost use Rattle.std.specs.Prelude.{◌≡◌, ◌≢◌, ℕ, ◌+◌, ◌≤◌, Some, IfErr, IfOk};
+ghost use Rattle.std.specs.Prelude.{◌≡◌, ℕ, ◌+◌, ◌≤◌, Some, IfOk};
 ghost use Rattle.shm_graph.specs.Bounds.{tear_steps};
 ghost use Rattle.shm_plain.specs.Pools.{memo_of};
-ghost use Rattle.shm_tree.specs.Bounds.{insert_steps, lowest_steps, with_child_steps};
-ghost use Rattle.shm_tree.specs.Building.{Builds, IsAtHand, IsBuilt, IsHeld, IsRebuilt, KeepsBlocks, rooms};
-ghost use Rattle.shm_tree.specs.declared.stop.Stop.TheVariants as stop;
-ghost use Rattle.shm_tree.specs.Inserting.{IsCheapAt, IsOverAt, IsRegistered, StandsLowest, StandsRenewed, WeighsLowest, WeighsRenewed, left_of, outside, right_of};
-ghost use Rattle.shm_tree.specs.Keeping.{IsStill};
+ghost use Rattle.shm_tree.specs.Bounds.{insert_steps, lowest_steps};
+ghost use Rattle.shm_tree.specs.Building.{Builds, IsAtHand, IsBuilt, rooms};
+ghost use Rattle.shm_tree.specs.Inserting.{IsRegistered, StandsLowest, WeighsLowest, left_of, outside, right_of};
+ghost use Rattle.shm_tree.specs.Looking.{Looks};
 ghost use Rattle.shm_tree.specs.Living.{AreFewNew, AreLivesTrees, KeepsLives};
-ghost use Rattle.shm_tree.specs.Sharing.{IsSharing, IsSharingOver};
+ghost use Rattle.shm_tree.specs.Sharing.{IsFresh};
 ghost use Rattle.shm_tree.specs.Standing.{Stands, weight};
 ghost use Rattle.shm_tree.specs.Trees.{Tree as ATree, height, inserted};
-ghost use Rattle.shm_tree.specs.Working.{IfAlive, IsReached, IsSameLatch, IsSpent, IsWorking, Reaches, Went};
+ghost use Rattle.shm_tree.specs.Working.{IsReached, IsSpent, IsWorking};
 
-use crate::balance::renewed;
+use crate::balance::raise;
 use crate::find::{above, find};
-use crate::node::{Content, Pair, Side, children, content_of, link};
+use crate::node::{Content, Pair, Side, children, link};
 use crate::stop::Stop;
 use shm_count::Made;
 use shm_graph::Life;
@@ -27,13 +26,8 @@ fn trees_of(pool: &mut PlainPool, node: u32, life: &mut Life) -> Result<Pair, St
     requires working { IsWorking pool.old }
     requires latch { (memo_of pool.old 0).latch ≡ Some 0 }
     requires node { IsAtHand pool.old node }
-    ensures went { Went pool.old pool.new life.old.left life.new.left }
-    ensures working { IfOk result (λ w. IsWorking pool.new) }
-    ensures latch { IfOk result (λ w. IsSameLatch pool.old pool.new) }
-    ensures still { IfOk result (λ w. IsStill pool.old pool.new) }
-    ensures reaches { IfOk result (λ w. Reaches pool.old pool.new) }
+    ensures looks { Looks result pool.old pool.new life.old.left life.new.left }
     ensures steps { IfOk result (λ w. life.old.left ≤ life.new.left + 6) }
-    ensures died { IfErr result (λ e. (e ≡ stop.Died) × (life.new.left ≡ 0)) }
     ensures near { IfOk result (λ w. (t : ATree) → Stands pool.old node t → Stands pool.old w.near (left_of t)) }
     ensures far { IfOk result (λ w. (t : ATree) → Stands pool.old node t → Stands pool.old w.far (right_of t)) }
     ensures near_reached { IfOk result (λ w. IsReached pool.new w.near) }
@@ -56,46 +50,12 @@ fn lowest(pool: &mut PlainPool, node: u32, content: Content, life: &mut Life) ->
     ensures builds { Builds 1 (lowest_steps pool.old.start.geometry) result pool.old pool.new life.old.left life.new.left }
     ensures built { IfOk result (λ m. IsBuilt 1 m pool.old pool.new) }
     ensures stands { IfOk result (λ m. StandsLowest content.key content.number node m.block pool.old pool.new) }
-    ensures sharing { IfOk result (λ m. IsSharing m pool.old pool.new) }
+    ensures fresh { IfOk result (IsFresh pool.old) }
     ensures rests { IfOk result (λ m. KeepsLives pool.old pool.new) }
     ensures weighs { IfOk result (λ m. WeighsLowest content.key content.number node m.block pool.old pool.new) }
 {
     let trees = trees_of(pool, node, life)?;
     link(pool, content, Side::Left, trees, life)
-}
-
-/// The tree of a node with another tree on the side of a key, whose root is dropped.
-fn with_child(
-    pool: &mut PlainPool,
-    node: u32,
-    wanted: u32,
-    below: Made,
-    life: &mut Life,
-) -> Result<Made, Stop>
-    requires working { IsWorking pool.old }
-    requires latch { (memo_of pool.old 0).latch ≡ Some 0 }
-    requires room { 3 ≤ rooms pool.old }
-    requires node { IsAtHand pool.old node }
-    requires some { node ≢ 0 }
-    requires below { IsHeld pool.old below }
-    ensures builds { Builds 3 (with_child_steps pool.old.start.geometry) result pool.old pool.new life.old.left life.new.left }
-    ensures rebuilt { IfOk result (λ m. IsRebuilt 3 (Some below) m pool.old pool.new) }
-    ensures stands { IfOk result (λ m. StandsRenewed wanted node below.block m.block pool.old pool.new) }
-    ensures cheap { IfAlive result (IsCheapAt wanted node below.block pool.old pool.new) }
-    ensures sharing { IfOk result (λ m. IsSharingOver (Some below) m pool.old pool.new) }
-    ensures rests { IfOk result (λ m. KeepsLives pool.old pool.new) }
-    ensures weighs { IfOk result (λ m. WeighsRenewed wanted node below.block m.block pool.old pool.new) }
-    ensures top { IfOk result (λ m. IsOverAt wanted node below.block m.block pool.old pool.new) }
-{
-    let middle = content_of(pool, node, life)?;
-    renewed(
-        pool,
-        node,
-        middle,
-        Side::of(wanted, middle.key),
-        Some(below),
-        life,
-    )
 }
 
 /// Makes a tree as this one, with the number at the key.
@@ -118,7 +78,6 @@ pub fn insert(
     ensures built { IfOk result (λ m. (t : ATree) → Stands pool.old tree t → IsBuilt (height t + 3) m pool.old pool.new) }
     ensures steps { IfOk result (λ m. (t : ATree) → Stands pool.old tree t → (IsSpent (memo_of pool.new 0) → ⊥) → AreLivesTrees pool.old → life.old.left ≤ life.new.left + insert_steps (height t) pool.old.start.geometry + tear_steps pool.old.start.geometry.wide (height t + 3)) }
     ensures stands { IfOk result (λ m. (t : ATree) → Stands pool.old tree t → Stands pool.new m.block (inserted wanted number t)) }
-    ensures blocks { IfOk result (λ m. KeepsBlocks pool.old pool.new) }
     ensures rests { IfOk result (λ m. KeepsLives pool.old pool.new) }
     ensures shares { IfOk result (λ m. (t : ATree) → Stands pool.old tree t → weight (outside pool.old tree t) pool.new m.block (inserted wanted number t) ≤ height t + 1) }
     ensures lives { IfOk result (λ m. (t : ATree) → Stands pool.old tree t → (IsSpent (memo_of pool.new 0) → ⊥) → AreLivesTrees pool.old → AreFewNew (height t + 1) pool.old pool.new) }
@@ -133,7 +92,7 @@ pub fn insert(
     'levels: while depth > 0 {
         depth -= 1;
         let node = above(pool, tree, wanted, depth, life)?;
-        made = with_child(pool, node, wanted, made, life)?;
+        made = raise(pool, node, wanted, None, Some(made), life)?;
     }
     Ok(made)
 }

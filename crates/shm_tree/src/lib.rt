@@ -20,6 +20,7 @@ mod registers;
 mod remove;
 mod shape;
 mod stop;
+mod sweeping;
 
 pub use forest::Forest;
 pub use laws::{insertions_are_changes, removals_are_changes, trees_are_low};

@@ -1,15 +1,15 @@
 //! Nodes: what they hold, and how one is made of two trees.
 
-ghost use Rattle.std.specs.Prelude.{◌≡◌, ◌+◌, ◌<◌, ◌≤◌, None, Some, if◌then◌else◌, nat_lt, IfErr, IfOk};
+ghost use Rattle.std.specs.Prelude.{◌≡◌, ◌+◌, ◌<◌, ◌≤◌, Some, if◌then◌else◌, nat_lt, IfErr, IfOk};
 ghost use Rattle.shm_graph.specs.declared.spot.Spot.TheVariants.{Body};
 ghost use Rattle.shm_plain.specs.Pools.{memo_of};
 ghost use Rattle.shm_tree.specs.declared.node.Side.TheVariants.{Left, Right};
-ghost use Rattle.shm_tree.specs.declared.stop.Stop.TheVariants as stop;
 ghost use Rattle.shm_tree.specs.Bounds.{link_steps};
 ghost use Rattle.shm_tree.specs.Causes.{StopCause};
-ghost use Rattle.shm_tree.specs.Keeping.{HasGrown, HasNode, HasTree, IsLinked, IsStill, child_of, other_side, side_word};
+ghost use Rattle.shm_tree.specs.Keeping.{HasGrown, HasNode, HasTree, IsLinked, child_of, other_side, side_word};
+ghost use Rattle.shm_tree.specs.Looking.{Looks};
 ghost use Rattle.shm_tree.specs.Standing.{word_of};
-ghost use Rattle.shm_tree.specs.Working.{HasRoom, IfAlive, IfRefused, IsOver, IsReached, IsSameLatch, IsWorking, Reaches, Went};
+ghost use Rattle.shm_tree.specs.Working.{DiedIn, HasRoom, IfAlive, IfRefused, IsReached, IsSameLatch, IsWorking, Reaches, Went};
 
 use crate::calls::{child, height, key, make, number, refer};
 use crate::stop::Stop;
@@ -76,15 +76,10 @@ pub fn content_of(pool: &mut PlainPool, node: u32, life: &mut Life) -> Result<Co
     requires working { IsWorking pool.old }
     requires node { HasNode pool.old node }
     requires reached { IsReached pool.old node }
-    ensures went { Went pool.old pool.new life.old.left life.new.left }
-    ensures working { IfOk result (λ c. IsWorking pool.new) }
-    ensures latch { IfOk result (λ c. IsSameLatch pool.old pool.new) }
+    ensures looks { Looks result pool.old pool.new life.old.left life.new.left }
     ensures key { IfOk result (λ c. c.key ≡ word_of pool.old (Body node 2)) }
     ensures number { IfOk result (λ c. c.number ≡ word_of pool.old (Body node 3)) }
-    ensures still { IfOk result (λ c. IsStill pool.old pool.new) }
-    ensures reaches { IfOk result (λ c. Reaches pool.old pool.new) }
     ensures steps { IfOk result (λ c. life.old.left ≡ life.new.left + 4) }
-    ensures died { IfErr result (λ e. (e ≡ stop.Died) × (life.new.left ≡ 0)) }
 {
     let key = key(pool, node, life)?;
     let number = number(pool, node, life)?;
@@ -97,15 +92,10 @@ pub fn children(pool: &mut PlainPool, node: u32, side: Side, life: &mut Life) ->
     requires latch { (memo_of pool.old 0).latch ≡ Some 0 }
     requires node { HasNode pool.old node }
     requires reached { IsReached pool.old node }
-    ensures went { Went pool.old pool.new life.old.left life.new.left }
-    ensures working { IfOk result (λ t. IsWorking pool.new) }
-    ensures latch { IfOk result (λ t. IsSameLatch pool.old pool.new) }
+    ensures looks { Looks result pool.old pool.new life.old.left life.new.left }
     ensures near { IfOk result (λ t. t.near ≡ child_of pool.old node side) }
     ensures far { IfOk result (λ t. t.far ≡ child_of pool.old node (other_side side)) }
-    ensures still { IfOk result (λ t. IsStill pool.old pool.new) }
-    ensures reaches { IfOk result (λ t. Reaches pool.old pool.new) }
     ensures steps { IfOk result (λ t. life.old.left ≡ life.new.left + 6) }
-    ensures died { IfErr result (λ e. (e ≡ stop.Died) × (life.new.left ≡ 0)) }
     ensures near_reached { IfOk result (λ t. IsReached pool.new t.near) }
     ensures far_reached { IfOk result (λ t. IsReached pool.new t.far) }
 {
@@ -141,7 +131,7 @@ pub fn link(
     ensures grown { IfRefused result (HasGrown 1 pool.old pool.new) }
     ensures steps { IfAlive result (life.old.left ≤ life.new.left + link_steps pool.old.start.geometry) }
     ensures cause { IfErr result (λ e. StopCause pool.old pool.new e) }
-    ensures died { IfErr result (λ e. IsOver e life.new.left) }
+    ensures died { IfErr result (λ e. DiedIn e pool.old pool.new life.new.left) }
 {
     let near = height(pool, trees.near, life)?;
     let far = height(pool, trees.far, life)?;

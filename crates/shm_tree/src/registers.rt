@@ -1,24 +1,28 @@
 //! Twelve registers over the calls of the one client of a pool.
 
-ghost use Rattle.std.specs.Prelude.{◌≡◌, ◌≢◌, ◌+◌, ◌*◌, ◌<◌, ◌≤◌, ◌⊎◌, ℕ, List, true, false, Ok, None, Some, length, slice_set, IfErr, IfOk};
+ghost use Rattle.std.specs.Prelude.{◌≡◌, ◌≢◌, ◌+◌, ◌*◌, ◌<◌, ◌≤◌, ◌⊎◌, ℕ, List, true, false, Ok, None, Some, slice_set, IfErr, IfOk, is_ok};
 ghost use Rattle.std.specs.Option.{is_some};
 ghost use Rattle.shm_plain.specs.Pools.{memo_of};
+ghost use Rattle.shm_tree.specs.declared.line.TreeLine.TheVariants as lines;
 ghost use Rattle.shm_tree.specs.declared.stop.Stop.TheVariants as stop;
 ghost use Rattle.shm_tree.specs.Bounds.{drop_steps};
 ghost use Rattle.shm_tree.specs.Building.{named_by, rooms};
 ghost use Rattle.shm_tree.specs.Costing.{Costs, CostsLine, EndsLine, FewSet, MakesFew, Spends, StopsLine, copied_steps, copy_steps, del_steps, planted_steps, pruned_steps, read_steps, set_steps, sweep_steps};
-ghost use Rattle.shm_tree.specs.Forests.{Calls, DoesLine, HasVersions, IsForest, IsFree, IsInRange, IsLeft, IsOwn, IsPruned, IsPut, IsReading, IsSpare, IsSwept, IsTidy, KeepsNamed, KeepsOthers, KeepsRegisters, KeepsRoots, Moves, Stopped, block_in, version};
+ghost use Rattle.shm_tree.specs.CutShort.{DiesHalfDone, IsCutShort, IsWordless};
+ghost use Rattle.shm_tree.specs.Forests.{Calls, DoesLine, HasVersions, IsForest, IsFree, IsInRange, IsLeft, IsOwn, IsPruned, IsPut, IsReading, IsSpare, IsSwept, IsTidy, IsUnspent, KeepsNamed, KeepsRegisters, Moves, Stopped, block_in, root_at, version};
 ghost use Rattle.shm_tree.specs.Keeping.{IsStill};
+ghost use Rattle.shm_tree.specs.Looking.{Looks};
 ghost use Rattle.shm_tree.specs.Standing.{IsTree, Stands};
 ghost use Rattle.shm_tree.specs.Trees.{Empty, Tree as ATree, found, height, inserted, removed};
-ghost use Rattle.shm_tree.specs.Working.{IfAlive, IfRefused, IsOver, IsReached, IsRooted, IsSameLatch, IsSpent, IsWorking, Reaches, Went};
+ghost use Rattle.shm_tree.specs.Working.{AreSameRoots, DiedBegun, IfAlive, IfRefused, IsInCall, IsOver, IsReached, IsRooted, IsSameLatch, IsSpent, IsUnderWay, IsWorking, Went};
 
-use crate::calls::{drop_root, hold, release, root_of, share};
+use crate::calls::{hold, release, root_of, share};
 use crate::find::number_at;
 use crate::insert::insert;
 use crate::line::{TreeAnswer, TreeLine};
 use crate::remove::{Removed, remove};
 use crate::stop::Stop;
+use crate::sweeping::{emptied, swept};
 use shm_count::Made;
 use shm_graph::Life;
 use shm_plain::PlainPool;
@@ -40,15 +44,10 @@ pub struct Registers {
 fn tree_in(pool: &mut PlainPool, root: u8, life: &mut Life) -> Result<u32, Stop>
     requires working { IsWorking pool.old }
     requires root { root ≤ 16 }
-    ensures went { Went pool.old pool.new life.old.left life.new.left }
-    ensures working { IfOk result (λ b. IsWorking pool.new) }
-    ensures latch { IfOk result (λ b. IsSameLatch pool.old pool.new) }
+    ensures looks { Looks result pool.old pool.new life.old.left life.new.left }
     ensures names { IfOk result (λ b. b ≡ block_in pool.old root) }
-    ensures still { IfOk result (λ b. IsStill pool.old pool.new) }
-    ensures reaches { IfOk result (λ b. Reaches pool.old pool.new) }
     ensures reached { IfOk result (λ b. IsReached pool.new b) }
     ensures steps { IfOk result (λ b. life.old.left ≤ life.new.left + 1) }
-    ensures died { IfErr result (λ e. (e ≡ stop.Died) × (life.new.left ≡ 0)) }
 {
     if root == NONE {
         Ok(0)
@@ -69,7 +68,7 @@ fn read(pool: &mut PlainPool, root: u8, key: u32, life: &mut Life) -> Result<Opt
     ensures still { IfOk result (λ o. IsStill pool.old pool.new) }
     ensures is { IfOk result (λ o. (t : ATree) → Stands pool.old (block_in pool.old root) t → o ≡ found key t) }
     ensures costs { IfOk result (λ o. (t : ATree) → Stands pool.old (block_in pool.old root) t → Costs 0 (read_steps (height t)) pool.old pool.new life.old.left life.new.left) }
-    ensures died { IfErr result (λ e. (e ≡ stop.Died) × (life.new.left ≡ 0)) }
+    ensures died { IfErr result (λ e. (e ≡ stop.Died) × (life.new.left ≡ 0) × (0 < life.old.left → IsUnderWay pool.new)) }
 {
     hold(pool, life)?;
     let tree = tree_in(pool, root, life)?;
@@ -91,6 +90,7 @@ fn planted(
     requires room { 4 ≤ rooms pool.old }
     requires root { root ≤ 16 }
     requires tree { (t : ATree) × IsTree pool.old (block_in pool.old root) t }
+    ensures off { IfErr result (λ e. e ≡ stop.Died → 0 < life.old.left → IsUnderWay pool.new) }
     ensures calls { Calls KeepsNamed result pool.old pool.new life.old.left life.new.left }
     ensures rooted { IfOk result (λ m. IsRooted m.root m.block pool.old pool.new) }
     ensures some { IfOk result (λ m. m.block ≢ 0) }
@@ -122,6 +122,7 @@ fn copied(pool: &mut PlainPool, root: u8, life: &mut Life) -> Result<Made, Stop>
     requires room { 4 ≤ rooms pool.old }
     requires root { root < 16 }
     requires some { named_by pool.old root ≢ 0 }
+    ensures off { IfErr result (λ e. e ≡ stop.Died → IsInCall pool.new ⊎ AreSameRoots pool.old pool.new) }
     ensures calls { Calls KeepsNamed result pool.old pool.new life.old.left life.new.left }
     ensures rooted { IfOk result (λ m. IsRooted m.root m.block pool.old pool.new) }
     ensures some { IfOk result (λ m. m.block ≢ 0) }
@@ -145,6 +146,7 @@ fn pruned(
     requires room { 4 ≤ rooms pool.old }
     requires root { root ≤ 16 }
     requires tree { (t : ATree) × IsTree pool.old (block_in pool.old root) t }
+    ensures off { IfErr result (λ e. e ≡ stop.Died → 0 < life.old.left → IsUnderWay pool.new) }
     ensures calls { Calls KeepsNamed result pool.old pool.new life.old.left life.new.left }
     ensures pruned { IfOk result (λ o. IsPruned key root o pool.old pool.new) }
     ensures costs { IfOk result (λ o. (t : ATree) → IsTree pool.old (block_in pool.old root) t → Costs (3 * height t) (pruned_steps (height t) pool.old.start.geometry) pool.old pool.new life.old.left life.new.left) }
@@ -167,67 +169,6 @@ fn pruned(
     }
 }
 
-/// Empties a root, unless it is one of these.
-fn drop_other(pool: &mut PlainPool, roots: [u8; 12], root: u8, life: &mut Life) -> Result<(), Stop>
-    requires working { IsWorking pool.old }
-    requires long { length roots ≡ 12 }
-    requires root { root < 16 }
-    ensures calls { Calls (KeepsRoots roots) result pool.old pool.new life.old.left life.new.left }
-    ensures others { IfOk result (λ u. (k : ℕ) → k ≢ root → named_by pool.new k ≡ named_by pool.old k) }
-    ensures empty { IfOk result (λ u. IsFree roots root → named_by pool.new root ≡ 0) }
-    ensures costs { IfOk result (λ u. Costs 0 (drop_steps pool.old.start.geometry 0) pool.old pool.new life.old.left life.new.left) }
-    ensures refused { IfRefused result (Spends 0 (drop_steps pool.old.start.geometry 0) pool.old pool.new life.old.left life.new.left) }
-    ensures spent { IfRefused result (IsSpent (memo_of pool.new 0)) }
-{
-    if roots.contains(&root) {
-        Ok(())
-    } else {
-        drop_root(pool, root, life)
-    }
-}
-
-/// Empties all roots but these.
-///
-/// # Errors
-///
-/// As a drop was refused: what is in these roots stands still.
-fn swept(pool: &mut PlainPool, roots: [u8; 12], life: &mut Life) -> Result<(), Stop>
-    requires working { IsWorking pool.old }
-    requires long { length roots ≡ 12 }
-    ensures calls { Calls (KeepsRoots roots) result pool.old pool.new life.old.left life.new.left }
-    ensures empty { IfOk result (λ u. (k : ℕ) → k < 16 → IsFree roots k → named_by pool.new k ≡ 0) }
-    ensures costs { IfOk result (λ u. Costs 0 (sweep_steps pool.old.start.geometry) pool.old pool.new life.old.left life.new.left) }
-    ensures refused { IfRefused result (Spends 0 (sweep_steps pool.old.start.geometry) pool.old pool.new life.old.left life.new.left) }
-    ensures spent { IfRefused result (IsSpent (memo_of pool.new 0)) }
-{
-    for root in 0..16u8 {
-        drop_other(pool, roots, root, life)?;
-    }
-    Ok(())
-}
-
-/// Empties a root; there is none where it is 16.
-///
-/// # Errors
-///
-/// As the drop was refused; nothing was done then.
-fn emptied(pool: &mut PlainPool, root: u8, life: &mut Life) -> Result<(), Stop>
-    requires working { IsWorking pool.old }
-    requires root { root ≤ 16 }
-    ensures calls { Calls (KeepsOthers root) result pool.old pool.new life.old.left life.new.left }
-    ensures others { IfOk result (λ u. (k : ℕ) → k ≢ root → named_by pool.new k ≡ named_by pool.old k) }
-    ensures empty { IfOk result (λ u. root < 16 → named_by pool.new root ≡ 0) }
-    ensures still { IfRefused result (IsStill pool.old pool.new) }
-    ensures costs { IfOk result (λ u. Costs 0 (drop_steps pool.old.start.geometry 0) pool.old pool.new life.old.left life.new.left) }
-    ensures refused { IfRefused result (Spends 0 (drop_steps pool.old.start.geometry 0) pool.old pool.new life.old.left life.new.left) }
-{
-    if root == NONE {
-        Ok(())
-    } else {
-        drop_root(pool, root, life)
-    }
-}
-
 impl Registers {
     /// Sees that all roots beside those of registers are empty.
     ///
@@ -236,6 +177,7 @@ impl Registers {
     /// As a drop was refused.
     pub fn sweep(&mut self, life: &mut Life) -> Result<(), Stop>
         requires forest { IsForest self.old }
+        ensures idle { self.old.tidy ≡ true → (is_ok result ≡ true) × (self.new ≡ self.old) × (life.new.left ≡ life.old.left) }
         ensures moves { Moves result self.old self.new life.old.left life.new.left }
         ensures same { IfOk result (λ u. KeepsRegisters self.old self.new) }
         ensures roots { self.new.roots ≡ self.old.roots }
@@ -263,6 +205,9 @@ impl Registers {
         requires at { at < 12 }
         requires root { IsSpare self.old root }
         requires tree { (t : ATree) × IsTree self.old.pool (block_in self.old.pool root) t }
+        ensures begun { IfErr result (λ e. DiedBegun e self.old.pool self.new.pool life.old.left) }
+        ensures kept { IfErr result (λ e. self.new.roots ≡ self.old.roots) }
+        ensures idle { root_at self.old at ≡ 16 → is_ok result ≡ true }
         ensures moves { Moves result self.old self.new life.old.left life.new.left }
         ensures put { IfOk result (λ u. IsPut at root self.old self.new) }
         ensures costs { IfOk result (λ u. Costs 0 (drop_steps self.old.pool.start.geometry 0) self.old.pool self.new.pool life.old.left life.new.left) }
@@ -287,6 +232,8 @@ impl Registers {
         requires root { IsSpare self.old root }
         requires tree { (t : ATree) × IsTree self.old.pool (block_in self.old.pool root) t }
         requires alone { (k : ℕ) → k < 16 → k ≢ root → IsFree self.old.roots k → named_by self.old.pool k ≡ 0 }
+        ensures begun { IfErr result (λ e. DiedBegun e self.old.pool self.new.pool life.old.left) }
+        ensures kept { IfErr result (λ e. self.new.roots ≡ self.old.roots) }
         ensures moves { Moves result self.old self.new life.old.left life.new.left }
         ensures put { IfOk result (λ u. IsPut at root self.old self.new) }
         ensures costs { IfOk result (λ u. Costs 0 (drop_steps self.old.pool.start.geometry 0) self.old.pool self.new.pool life.old.left life.new.left) }
@@ -302,6 +249,7 @@ impl Registers {
     pub fn get(&mut self, at: u8, key: u32, life: &mut Life) -> Result<Option<u64>, Stop>
         requires forest { IsForest self.old }
         requires at { at < 12 }
+        ensures off { DiesHalfDone (lines.Get at key) result self.old self.new life.old.left }
         ensures moves { Moves result self.old self.new life.old.left life.new.left }
         ensures died { IfErr result (λ e. e ≡ stop.Died) }
         ensures is { IfOk result (λ o. (ts : List ATree) → HasVersions self.old ts → (o ≡ found key (version ts at)) × HasVersions self.new ts) }
@@ -323,6 +271,7 @@ impl Registers {
         requires forest { IsForest self.old }
         requires to { to < 12 }
         requires from { from < 12 }
+        ensures off { DiesHalfDone (lines.Set to from key number) result self.old self.new life.old.left }
         ensures moves { Moves result self.old self.new life.old.left life.new.left }
         ensures done { IfOk result (λ u. (ts : List ATree) → HasVersions self.old ts → HasVersions self.new (slice_set ts to (inserted key number (version ts from)))) }
         ensures costs { IfOk result (λ u. (ts : List ATree) → HasVersions self.old ts → Costs (height (version ts from) + 3) (set_steps (height (version ts from)) self.old.pool.start.geometry) self.old.pool self.new.pool life.old.left life.new.left) }
@@ -341,6 +290,8 @@ impl Registers {
         requires forest { IsForest self.old }
         requires to { to < 12 }
         requires from { from < 12 }
+        ensures off { DiesHalfDone (lines.Copy to from) result self.old self.new life.old.left }
+        ensures idle { self.old.tidy ≡ true → root_at self.old to ≡ 16 → root_at self.old from ≡ 16 → is_ok result ≡ true }
         ensures moves { Moves result self.old self.new life.old.left life.new.left }
         ensures done { IfOk result (λ u. (ts : List ATree) → HasVersions self.old ts → HasVersions self.new (slice_set ts to (version ts from))) }
         ensures costs { IfOk result (λ u. Costs 0 (copy_steps self.old.pool.start.geometry) self.old.pool self.new.pool life.old.left life.new.left) }
@@ -361,6 +312,8 @@ impl Registers {
     pub fn clear(&mut self, at: u8, life: &mut Life) -> Result<(), Stop>
         requires forest { IsForest self.old }
         requires at { at < 12 }
+        ensures off { DiesHalfDone (lines.Clear at) result self.old self.new life.old.left }
+        ensures idle { root_at self.old at ≡ 16 → is_ok result ≡ true }
         ensures moves { Moves result self.old self.new life.old.left life.new.left }
         ensures done { IfOk result (λ u. (ts : List ATree) → HasVersions self.old ts → HasVersions self.new (slice_set ts at Empty)) }
         ensures costs { IfOk result (λ u. Costs 0 (drop_steps self.old.pool.start.geometry 0) self.old.pool self.new.pool life.old.left life.new.left) }
@@ -375,6 +328,7 @@ impl Registers {
         requires forest { IsForest self.old }
         requires to { to < 12 }
         requires from { from < 12 }
+        ensures off { DiesHalfDone (lines.Del to from key) result self.old self.new life.old.left }
         ensures moves { Moves result self.old self.new life.old.left life.new.left }
         ensures missing { result ≡ Ok false → (ts : List ATree) → HasVersions self.old ts → (found key (version ts from) ≡ None) × HasVersions self.new ts }
         ensures done { result ≡ Ok true → (ts : List ATree) → HasVersions self.old ts → (is_some (found key (version ts from)) ≡ true) × HasVersions self.new (slice_set ts to (removed key (version ts from))) }
@@ -405,6 +359,8 @@ impl Registers {
     pub fn answer(&mut self, line: &TreeLine, life: &mut Life) -> Result<TreeAnswer, Stop>
         requires forest { IsForest self.old }
         requires line { IsInRange line.now }
+        ensures off { DiesHalfDone line.now result self.old self.new life.old.left }
+        ensures idle { self.old.tidy ≡ true → (ts : List ATree) → HasVersions self.old ts → IsWordless line.now ts → is_ok result ≡ true }
         ensures moves { Moves result self.old self.new life.old.left life.new.left }
         ensures does { IfOk result (λ a. DoesLine line.now self.old self.new a) }
         ensures costs { IfOk result (λ a. CostsLine line.now self.old self.new life.old.left life.new.left) }
@@ -471,6 +427,8 @@ impl Registers {
     pub fn run(&mut self, line: &TreeLine, life: &mut Life) -> Result<TreeAnswer, Stop>
         requires forest { IsForest self.old }
         requires line { IsInRange line.now }
+        ensures off { IfErr result (λ e. e ≡ stop.Died → self.old.tidy ≡ true → 0 < life.old.left → IsUnspent self.new → IsCutShort line.now self.old self.new) }
+        ensures idle { self.old.tidy ≡ true → (ts : List ATree) → HasVersions self.old ts → IsWordless line.now ts → is_ok result ≡ true }
         ensures moves { Moves result self.old self.new life.old.left life.new.left }
         ensures does { IfOk result (λ a. DoesLine line.now self.old self.new a) }
         ensures costs { IfOk result (λ a. CostsLine line.now self.old self.new life.old.left life.new.left) }

@@ -1,22 +1,21 @@
 //! A tree without a key.
 
-ghost use Rattle.std.specs.Prelude.{◌≡◌, ◌≢◌, ◌+◌, ◌*◌, ◌≤◌, ◌==◌, None, Some, IfErr, IfOk, IfSome, if◌then◌else◌};
+ghost use Rattle.std.specs.Prelude.{◌≡◌, ◌≢◌, ◌+◌, ◌*◌, ◌≤◌, ◌==◌, None, Some, IfOk, if◌then◌else◌};
 ghost use Rattle.shm_graph.specs.Bounds.{tear_steps};
 ghost use Rattle.shm_plain.specs.Pools.{memo_of};
-ghost use Rattle.shm_tree.specs.Bounds.{remnant_steps, remove_steps, share_steps, with_child_steps};
+ghost use Rattle.shm_tree.specs.Bounds.{remnant_steps, remove_steps, share_steps};
 ghost use Rattle.shm_tree.specs.declared.node.Side.TheVariants.{Left, Right};
-ghost use Rattle.shm_tree.specs.declared.stop.Stop.TheVariants as stop;
-ghost use Rattle.shm_tree.specs.Building.{Builds, IsAtHand, IsHeld, IsRebuilt, KeepsBlocks, block_of, rooms};
+ghost use Rattle.shm_tree.specs.Building.{Builds, IsAtHand, block_of, rooms};
 ghost use Rattle.shm_tree.specs.Inserting.{IsRegistered};
-ghost use Rattle.shm_tree.specs.Keeping.{IsStill, child_of};
+ghost use Rattle.shm_tree.specs.Keeping.{child_of};
+ghost use Rattle.shm_tree.specs.Looking.{Looks};
 ghost use Rattle.shm_tree.specs.Living.{AreFewNew, AreLivesTrees, KeepsLives};
-ghost use Rattle.shm_tree.specs.Removing.{IsKept, IsRemoved, StandsAgain, StandsMoved, content_in, content_or};
-ghost use Rattle.shm_tree.specs.Sharing.{IsSharingOver};
+ghost use Rattle.shm_tree.specs.Removing.{IsKept, IsRemoved, StandsMoved, content_in};
 ghost use Rattle.shm_tree.specs.Standing.{Stands};
 ghost use Rattle.shm_tree.specs.Trees.{Tree as ATree, height};
-ghost use Rattle.shm_tree.specs.Working.{IsSameLatch, IsSpent, IsWorking, Reaches, Went};
+ghost use Rattle.shm_tree.specs.Working.{IsSpent, IsWorking};
 
-use crate::balance::renewed;
+use crate::balance::raise;
 use crate::calls::{child, share};
 use crate::find::{Place, above, find, last};
 use crate::node::{Content, Side, content_of};
@@ -40,7 +39,6 @@ fn shared(pool: &mut PlainPool, tree: u32, life: &mut Life) -> Result<Option<Mad
     ensures builds { Builds 0 (share_steps pool.old.start.geometry) result pool.old pool.new life.old.left life.new.left }
     ensures kept { IfOk result (λ o. IsKept 0 o pool.old pool.new) }
     ensures stands { IfOk result (λ o. StandsMoved tree (block_of o) pool.old pool.new) }
-    ensures blocks { IfOk result (λ o. KeepsBlocks pool.old pool.new) }
     ensures rests { IfOk result (λ o. KeepsLives pool.old pool.new) }
 {
     if tree == 0 {
@@ -65,7 +63,6 @@ fn remnant(
     ensures builds { Builds 0 (remnant_steps pool.old.start.geometry) result pool.old pool.new life.old.left life.new.left }
     ensures kept { IfOk result (λ o. IsKept 0 o pool.old pool.new) }
     ensures stands { IfOk result (λ o. StandsMoved (child_of pool.old node side) (block_of o) pool.old pool.new) }
-    ensures blocks { IfOk result (λ o. KeepsBlocks pool.old pool.new) }
     ensures rests { IfOk result (λ o. KeepsLives pool.old pool.new) }
 {
     let tree = child(pool, node, side, life)?;
@@ -94,12 +91,7 @@ fn next_of(
     requires working { IsWorking pool.old }
     requires node { IsAtHand pool.old lowest.node }
     requires some { lowest.node ≢ 0 }
-    ensures went { Went pool.old pool.new life.old.left life.new.left }
-    ensures working { IfOk result (λ o. IsWorking pool.new) }
-    ensures latch { IfOk result (λ o. IsSameLatch pool.old pool.new) }
-    ensures still { IfOk result (λ o. IsStill pool.old pool.new) }
-    ensures reaches { IfOk result (λ o. Reaches pool.old pool.new) }
-    ensures died { IfErr result (λ e. (e ≡ stop.Died) × (life.new.left ≡ 0)) }
+    ensures looks { Looks result pool.old pool.new life.old.left life.new.left }
     ensures steps { IfOk result (λ o. life.old.left ≤ life.new.left + 4) }
     ensures next { IfOk result (λ o. (t : ATree) → Stands pool.old lowest.node t → o ≡ (if lowest.depth == place.depth then None else Some (content_in t))) }
 {
@@ -116,42 +108,6 @@ fn lifted(depth: u32, place: Place, next: Option<Content>) -> Option<Content>
     ensures { result ≡ (if depth == place.depth then next else None) }
 {
     if depth == place.depth { next } else { None }
-}
-
-/// What is told, or this.
-fn content_or(told: Option<Content>, own: Content) -> Content
-    ensures { result ≡ content_or told own }
-{
-    match told {
-        None => own,
-        Some(content) => content,
-    }
-}
-
-/// The tree of a node, with another key and number where they are told, and with another tree on the side of a key, whose root is dropped.
-fn raise(
-    pool: &mut PlainPool,
-    node: u32,
-    wanted: u32,
-    told: Option<Content>,
-    below: Option<Made>,
-    life: &mut Life,
-) -> Result<Made, Stop>
-    requires working { IsWorking pool.old }
-    requires latch { (memo_of pool.old 0).latch ≡ Some 0 }
-    requires room { 3 ≤ rooms pool.old }
-    requires node { IsAtHand pool.old node }
-    requires some { node ≢ 0 }
-    requires below { IfSome below (IsHeld pool.old) }
-    ensures builds { Builds 3 (with_child_steps pool.old.start.geometry) result pool.old pool.new life.old.left life.new.left }
-    ensures rebuilt { IfOk result (λ m. IsRebuilt 3 below m pool.old pool.new) }
-    ensures stands { IfOk result (λ m. StandsAgain wanted told node (block_of below) m.block pool.old pool.new) }
-    ensures sharing { IfOk result (λ m. IsSharingOver below m pool.old pool.new) }
-    ensures rests { IfOk result (λ m. KeepsLives pool.old pool.new) }
-{
-    let own = content_of(pool, node, life)?;
-    let side = Side::of(wanted, own.key);
-    renewed(pool, node, content_or(told, own), side, below, life)
 }
 
 /// Makes a tree as this one, without the key; none where it has no such key.
@@ -171,7 +127,6 @@ pub fn remove(
     requires tree { IsRegistered pool.old tree }
     ensures builds { (t : ATree) → Stands pool.old tree t → Builds (3 * height t) (remove_steps (height t) pool.old.start.geometry) result pool.old pool.new life.old.left life.new.left }
     ensures removed { IfOk result (λ o. (t : ATree) → Stands pool.old tree t → IsRemoved wanted t o pool.old pool.new) }
-    ensures blocks { IfOk result (λ o. KeepsBlocks pool.old pool.new) }
     ensures steps { IfOk result (λ o. (t : ATree) → Stands pool.old tree t → (IsSpent (memo_of pool.new 0) → ⊥) → AreLivesTrees pool.old → life.old.left ≤ life.new.left + remove_steps (height t) pool.old.start.geometry + tear_steps pool.old.start.geometry.wide (3 * height t)) }
     ensures rests { IfOk result (λ o. KeepsLives pool.old pool.new) }
     ensures lives { IfOk result (λ o. (t : ATree) → Stands pool.old tree t → AreFewNew (3 * height t) pool.old pool.new) }

@@ -1,4 +1,5 @@
 pub mod Plays
+pub mod Rooms
 pub mod Sizes
 pub mod Told
 pub mod Runs

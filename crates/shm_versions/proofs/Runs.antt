@@ -12,6 +12,7 @@ use Rattle.shm_versions.specs.declared.treed.Holding.{Holding}
 use Rattle.shm_versions.specs.declared.treed.Treed.{Treed}
 use Rattle.shm_versions.specs.TreeRuns.{Holds, IsEnding, IsPlayed, IsTreeRun, first_versions, life_of}
 use Rattle.shm_versions.proofs.Plays.{lines_versions}
+use Rattle.shm_versions.proofs.Rooms.{played_room, played_unspent}
 
 life_low : (o : Option ℕ) → IfSome o (λ n. (1 ≤ n) × (n ≤ 2 ^ 40)) → unwrap_or o (2 ^ 40) ≤ 2 ^ 40
 life_low None w = omega arith
@@ -26,8 +27,8 @@ held_last None rest last final left ts w has holds = tt
 held_last (Some h) rest last final left ts w has holds =
     subst (λ (f : Forested). Holds f ts h) w.same (holds ts (subst (λ (f : Forested). HasVersions f.registers ts) (sym w.same) has))
 
-pub tree_run : (s : Scripted) (r : Treed) (n : ℕ) (ls : List TreeLine) (first final : Forested) (x : ℕ) (whole : Bool) → n ≡ s.segments → ls ≡ s.lines → x ≡ life_of s → is_some r.holding ≡ whole → IsFirstForest n first → IsPlayed ls r.answers.items first x final whole → ((ts : List Tree) → HasVersions final.registers ts → IfSome r.holding (Holds final ts)) → IsClosedForest final r.closed → IsTreeRun s r
-tree_run s r n ls first final x whole segments lines life is made played holds closed =
+pub tree_run : (s : Scripted) (r : Treed) (n : ℕ) (ls : List TreeLine) (first final : Forested) (x : ℕ) (whole : Bool) → IsScript s → n ≡ s.segments → ls ≡ s.lines → x ≡ life_of s → is_some r.holding ≡ whole → IsFirstForest n first → IsPlayed ls r.answers.items first x final whole → ((ts : List Tree) → HasVersions final.registers ts → IfSome r.holding (Holds final ts)) → IsClosedForest final r.closed → IsTreeRun s r
+tree_run s r n ls first final x whole script segments lines life is made played holds closed =
     let first_made : IsFirstForest s.segments first = subst (λ (m : ℕ). IsFirstForest m first) segments made in
     let of : IsPlayed s.lines r.answers.items first x final whole = subst (λ (us : List TreeLine). IsPlayed us r.answers.items first x final whole) lines played in
     let from : IsPlayed s.lines r.answers.items first (life_of s) final whole = subst (λ (m : ℕ). IsPlayed s.lines r.answers.items first m final whole) life of in
@@ -41,5 +42,7 @@ tree_run s r n ls first final x whole segments lines life is made played holds c
       versions = behind.0;
       answered = behind.1;
       holding = held_last r.holding ran.rest ran.last final ran.left _ ran.ending behind.0 holds;
+      roomy = played_unspent s.segments s.lines r.answers.items first final (life_of s) (is_some r.holding) first_made (script_low s script) ran;
+      unspent = played_room s.segments s.lines r.answers.items first final (life_of s) (is_some r.holding) first_made (script_low s script) ran;
       closed = closed;
     }

@@ -1,13 +1,15 @@
 -- Runs of scripts: a forest is made, lines are run one after the other until one isn't finished, and the pool is closed.
 use Rattle.std.specs.Prelude.{◌≡◌, ℕ, ◌^◌, Bool, true, false, List, [], ◌∷◌, ◌++◌, map, replicate, unwrap_or, IfSome}
+use Rattle.std.specs.List.{AllByRecursion}
 use Rattle.std.specs.Option.{is_some}
 use Rattle.shm_graph.specs.References.{live_count}
 use Rattle.shm_graph.specs.Spots.{see}
 use Rattle.shm_tree.specs.declared.line.TreeAnswer.{TreeAnswer}
+use Rattle.shm_tree.specs.declared.line.TreeAnswer.TheVariants as answers
 use Rattle.shm_tree.specs.declared.line.TreeLine.{TreeLine}
 use Rattle.shm_tree.specs.declared.line.TreeTurn.TheVariants as turns
 use Rattle.shm_tree.specs.ForestCalls.{IsClosedForest, IsFirstForest, RanLine}
-use Rattle.shm_tree.specs.Forests.{Forested, HasVersions, IsAnswered, versions_by}
+use Rattle.shm_tree.specs.Forests.{Forested, HasVersions, IsAnswered, IsUnspent, versions_by}
 use Rattle.shm_tree.specs.Scripts.{Scripted}
 use Rattle.shm_tree.specs.Trees.{Empty, Tree, size}
 use Rattle.shm_versions.specs.declared.treed.Holding.{Holding}
@@ -48,7 +50,7 @@ pub record IsWhole (rest : List TreeLine) (last final : Forested) : Type 0 where
   pub none : rest ≡ []
   pub same : final ≡ last
 
--- the first of these lines wasn't finished for want of word steps, of which none is left
+-- the first of these lines wasn't finished for want of word steps: none is left, and it takes one more
 pub record IsCut (rest : List TreeLine) (last final : Forested) (left : ℕ) : Type 0 where
   pub line : TreeLine
   pub more : List TreeLine
@@ -60,6 +62,11 @@ abbrev pub IsEnding : Bool → List TreeLine → (last final : Forested) → ℕ
 IsEnding true rest last final left = IsWhole rest last final
 IsEnding false rest last final left = IsCut rest last final left
 
+-- a line wasn't refused since the own era is spent
+abbrev pub HasRoom : TreeAnswer → Type 0
+HasRoom (answers.EraSpent e) = ⊥
+HasRoom answer = Unit {0}
+
 -- Lines were run with these answers, from the forest f with x word steps left, until one wasn't finished or none was left, which leaves the forest g; whether all were finished
 pub record IsPlayed (lines : List TreeLine) (answers : List TreeAnswer) (f : Forested) (x : ℕ) (g : Forested) (whole : Bool) : Type 0 where
   pub done : List TreeLine
@@ -70,7 +77,7 @@ pub record IsPlayed (lines : List TreeLine) (answers : List TreeAnswer) (f : For
   pub ran : Lines done answers f x last left
   pub ending : IsEnding whole rest last g left
 
--- What a run of a script leaves: its forest was made, with empty registers; its lines were run until one wasn't finished; the versions behind the lines that were finished are those that the lines make, and each answer is one that may come of its line there; what is told of the forest is what it held then; and the closed pool is what the last forest leaves
+-- What a run of a script leaves: its forest was made, with empty registers; its lines were run until one wasn't finished; the versions behind the lines that were finished are those that the lines make, and each answer is one that may come of its line there; the own era isn't spent, and no line was refused since it is; what is told of the forest is what it held then; and the closed pool is what the last forest leaves
 pub record IsTreeRun (s : Scripted) (r : Treed) : Type 0 where
   pub first : Forested
   pub made : IsFirstForest s.segments first
@@ -79,4 +86,6 @@ pub record IsTreeRun (s : Scripted) (r : Treed) : Type 0 where
   pub versions : HasVersions played.last.registers (versions_of played.done r.answers.items first_versions)
   pub answered : AreAnswered played.done r.answers.items first_versions
   pub holding : IfSome r.holding (Holds played.last (versions_of played.done r.answers.items first_versions))
+  pub roomy : IsUnspent played.last.registers × IsUnspent final.registers
+  pub unspent : AllByRecursion HasRoom r.answers.items
   pub closed : IsClosedForest final r.closed

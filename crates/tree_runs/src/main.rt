@@ -2,9 +2,10 @@
 //!
 //! A line that begins with `#` is a title: it is told as it is, and an empty script begins. `+ LINE` adds a line to the script. `go` runs it and
 //! tells what came of it: the lines that were finished with their answers, how it ended, how much the forest held then, and what is live in the
-//! closed pool. `lives N` runs it N times, with 1 to N word steps, and tells of how many no block is live in the closed pool. What must be told
-//! (the file stdout) was computed by an independent implementation. `maps KEYS LINES` sets so many keys and does so many random lines on a forest
-//! and on ordered maps of std, and tells how many answers and sizes are the same.
+//! closed pool. `audit` runs it and tells what an audit of the closed pool finds. `lives N` runs it N times, with 1 to N word steps, and tells of
+//! how many no block is live in the closed pool. What must be told (the file stdout) was computed by an independent implementation.
+//! `maps KEYS LINES` sets so many keys and does so many random lines on a forest and on ordered maps of std, and tells how many answers and sizes
+//! are the same.
 #![tactic(auto)]
 
 mod beside;
@@ -12,6 +13,7 @@ mod beside;
 ghost use Rattle.shm_tree.specs.ScriptTexts.{IsScript};
 
 use beside::compare;
+use shm_audit::{Verdict, audit, write_image};
 use shm_script::push_text;
 use shm_tree::{TreeScript, parse_tree, scripts_are_spelled};
 use shm_versions::{run_script, run_text};
@@ -38,6 +40,28 @@ fn go(rt: &HostRuntime, script: &TreeScript) -> io::Result<()>
     }
 }
 
+/// What an audit of the closed pool of a script finds.
+fn audited(alloc: Global, script: &TreeScript) -> Result<Option<Verdict>, AllocError>
+    requires { IsScript script.now }
+{
+    let run = run_script(alloc, script)?;
+    let geometry = run.closed.geometry();
+    let image = write_image(alloc, geometry, run.closed.words())?;
+    Ok(audit(alloc, image.as_slice()).ok())
+}
+
+/// Tells what an audit of the closed pool of a script finds.
+fn audit_row(rt: &HostRuntime, script: &TreeScript) -> io::Result<()>
+    requires { IsScript script.now }
+{
+    match audited(rt.alloc(), script)? {
+        Some(Verdict::Clean { live, refs }) => {
+            println!(rt; "an audit finds {live} live blocks and {refs} references")
+        }
+        _ => println!(rt; "an audit finds a fault"),
+    }
+}
+
 /// Tells how many of the scripts with 1 to `most` word steps leave no live block.
 fn lives(rt: &HostRuntime, script: &mut TreeScript, most: u32) -> io::Result<()>
     requires { IsScript script.old }
@@ -59,6 +83,7 @@ fn act(rt: &HostRuntime, bytes: &[u8], line: &str) -> io::Result<()> {
     scripts_are_spelled();
     match parse_tree(rt.alloc(), bytes) {
         Err(_) => println!(rt; "no script"),
+        Ok(script) if line == "audit" => audit_row(rt, &script),
         Ok(mut script) => match line.strip_prefix("lives ") {
             None => go(rt, &script),
             Some(most) => lives(rt, &mut script, most.parse::<u32>().unwrap_or(0)),

@@ -1,14 +1,15 @@
 use Rattle.shm_tree.proofs.Resting.{rests_dropped, rests_linked, rests_then}
 use Rattle.shm_tree.specs.Keeping.{node_by}
 use Rattle.shm_tree.specs.Trees.{Tree}
-use Rattle.shm_tree.proofs.Weights.{blocks_dropped, blocks_nodes, blocks_then, fresh_under, weigh_link, weight_nodes, weight_root}
+use Rattle.shm_tree.proofs.Weights.{fresh_under, weigh_link, weight_nodes, weight_root}
 use Rattle.std.proofs.Common.{◌+◌, ◌∙◌, lit≤, arith}
+use Rattle.std.specs.Prelude.{Ok}
 use Rattle.shm_count.specs.declared.answer.Made.{Made}
-use Rattle.shm_tree.proofs.Building.{apart, builds_from, at_hand_linked, born_built, builds_cut, builds_done, built_cut, built_over, cut_then, grown_cuts, linked_at_hand, linked_some, looked_none, rooms_rooted, rooms_some, spent_calls, spent_refused, still_cut, still_cuts, top_stands, went_on}
-use Rattle.shm_tree.specs.Bounds.{drop_steps, link_steps}
-use Rattle.shm_tree.specs.Spending.{HasSpent}
-use Rattle.shm_tree.proofs.Spendings.{spent_call, spent_drop, spent_then}
-use Rattle.shm_tree.proofs.balance.raised.Goals.{In_ok-made}
+use Rattle.shm_tree.proofs.Building.{apart, at_hand_linked, born_built, builds_cut, builds_drop, builds_from, builds_link, builds_on, builds_stuck, built_cut, built_over, cut_then, grown_cuts, linked_at_hand, linked_some, looked_none, rooms_rooted, rooms_some, spent_calls, still_cut, top_stands}
+use Rattle.shm_tree.specs.Bounds.{link_steps}
+use Rattle.shm_tree.specs.Building.{Builds, IsBuilt}
+use Rattle.shm_tree.proofs.Spendings.{spent_call}
+use Rattle.shm_tree.proofs.balance.raised.Goals.{In_ok-lower, In_ok-made}
 use Rattle.shm_tree.proofs.balance.raised.Goals as goal
 
 pub link-requires-clause-room : goal.link-requires-clause-room
@@ -45,32 +46,35 @@ link-requires-2 c =
 pub drop_root-requires : goal.drop_root-requires
 drop_root-requires c = record { working = c.in_ok-made.ensures.working; root = c.in_ok-lower.ensures.linked.born.rooted.low }
 
--- word steps for both nodes
-both : (c : In_ok-made) → HasSpent (link_steps c.args.pool.now.start.geometry + link_steps c.args.pool.now.start.geometry) c.args.pool.now c.link-2.new.pool c.args.life.now.left c.link-2.new.life.left
+low : (c : In_ok-lower) → IsBuilt 1 c.in_ok-lower.lower c.args.pool.now c.link.new.pool
+low c = born_built (linked_some c.in_ok-lower.ensures.linked c.requires.near.0 c.requires.middle.0) c.in_ok-lower.ensures.linked.born
+
+high : (c : In_ok-made) → IsBuilt 1 c.in_ok-made.made c.link.new.pool c.link-2.new.pool
+high c =
+    let l = c.in_ok-lower.ensures in
+    let far = at_hand_linked c.args.far l.linked l.reaches c.requires.far in
+    let node = linked_at_hand l.linked c.requires.near.0 c.requires.middle.0 l.working in
+    born_built (linked_some c.in_ok-made.ensures.linked node.0 far.0) c.in_ok-made.ensures.linked.born
+
+-- both nodes
+both : (c : In_ok-made) → Builds 2 (link_steps c.args.pool.now.start.geometry + link_steps c.args.pool.now.start.geometry) (Ok c.in_ok-made.made) c.args.pool.now c.link-2.new.pool c.args.life.now.left c.link-2.new.life.left
 both c =
     let l = c.in_ok-lower.ensures in
     let m = c.in_ok-made.ensures in
-    spent_then link_steps c.requires.working l.went m.went (spent_call (link_steps c.args.pool.now.start.geometry) l.went l.steps) (spent_call (link_steps c.link.new.pool.start.geometry) m.went m.steps)
+    builds_on link_steps c.requires.working (builds_link _ _ (Ok c.in_ok-lower.lower) l.went l.working l.latch l.grown l.steps l.cause l.died) (builds_link _ _ (Ok c.in_ok-made.made) m.went m.working m.latch m.grown m.steps m.cause m.died)
 
 pub returns-clause-builds : goal.returns-clause-builds
 returns-clause-builds c =
-    let run = c.requires.working.run in
-    let l = c.in_ok-lower.ensures in
-    let m = c.in_ok-made.ensures in
     let d = c.in_ok-drop_root.ensures in
-    builds_done c.in_ok-made.made (went_on run (went_on run l.went m.went) d.went) d.working (d.latch ∙ (m.latch ∙ l.latch))
-    (spent_then (λ g. drop_steps g 0) c.requires.working (went_on run l.went m.went) d.went (both (goal.at.returns-clause-builds c).In_ok-made) (spent_drop c.in_ok-lower.lower.root d.working d.steps))
+    builds_drop c.in_ok-lower.lower.root c.requires.working (both (goal.at.returns-clause-builds c).In_ok-made) d.went d.working d.latch d.steps
 
 pub returns-clause-built : goal.returns-clause-built
 returns-clause-built c =
-    let run = c.requires.working.run in
+    let at = (goal.at.returns-clause-built c).In_ok-made in
     let l = c.in_ok-lower.ensures in
     let m = c.in_ok-made.ensures in
     let d = c.in_ok-drop_root.ensures in
-    let far = at_hand_linked c.args.far l.linked l.reaches c.requires.far in
-    let low = linked_at_hand l.linked c.requires.near.0 c.requires.middle.0 l.working in
-    built_over run l.went.run l.went.start m.went.run m.went.start
-    (born_built (linked_some l.linked c.requires.near.0 c.requires.middle.0) l.linked.born) (born_built (linked_some m.linked low.0 far.0) m.linked.born) d.emptied d.dropped d.working
+    built_over c.requires.working.run l.went.run l.went.start m.went.run m.went.start (low (goal.at.returns-clause-built c).In_ok-lower) (high at) d.emptied d.dropped d.working
 
 pub returns-clause-stands : goal.returns-clause-stands
 returns-clause-stands c =
@@ -91,35 +95,21 @@ pub returns-in_err-made-clause-builds : goal.returns-in_err-made-clause-builds
 returns-in_err-made-clause-builds c =
     let l = c.in_ok-lower.ensures in
     let e = c.in_err-made.ensures in
-    let low = born_built (linked_some l.linked c.requires.near.0 c.requires.middle.0) l.linked.born in
-    builds_from c.from_residual-in_err-made.result c.from_residual-in_err-made.ensures.1 (builds_cut Made 1 link_steps {T = Made} {n = 1} {k = 2} _ (lit≤ tt) (omega arith) c.requires.working l.went l.latch (built_cut low) (spent_call _ l.went l.steps) e.went e.working e.latch (grown_cuts Made 1 _ _ _ e.grown) (spent_calls Made _ _ e.went e.steps) e.cause e.died)
+    builds_from c.from_residual-in_err-made.result c.from_residual-in_err-made.ensures.1 (builds_cut Made 1 link_steps {T = Made} {n = 1} {k = 2} _ (lit≤ tt) (omega arith) c.requires.working l.went l.latch (built_cut (low (goal.at.returns-in_err-made-clause-builds c).In_ok-lower)) (spent_call _ l.went l.steps) e.went e.working e.latch (grown_cuts Made 1 _ _ _ e.grown) (spent_calls Made _ _ e.went e.steps) e.cause e.died)
 
 pub returns-in_err-drop_root-clause-builds : goal.returns-in_err-drop_root-clause-builds
 returns-in_err-drop_root-clause-builds c =
+    let at = (goal.at.returns-in_err-drop_root-clause-builds c).In_ok-made in
     let l = c.in_ok-lower.ensures in
-    let m = c.in_ok-made.ensures in
     let e = c.in_err-drop_root.ensures in
-    let run = c.requires.working.run in
-    let far = at_hand_linked c.args.far l.linked l.reaches c.requires.far in
-    let node = linked_at_hand l.linked c.requires.near.0 c.requires.middle.0 l.working in
-    let low = born_built (linked_some l.linked c.requires.near.0 c.requires.middle.0) l.linked.born in
-    let high = born_built (linked_some m.linked node.0 far.0) m.linked.born in
-    builds_from c.from_residual-in_err-drop_root.result c.from_residual-in_err-drop_root.ensures.1 (builds_cut (Unit {0}) 0 (λ g. drop_steps g 0) {T = Made} {n = 2} {k = 2} _ (lit≤ tt) (omega arith) c.requires.working (went_on run l.went m.went) (m.latch ∙ l.latch) (cut_then run l.went.run l.went.start (built_cut low) (built_cut high)) (both (goal.at.returns-in_err-drop_root-clause-builds c).In_ok-made) e.went e.working e.latch (still_cuts (Unit {0}) _ _ _ e.still) (spent_refused (Unit {0}) _ _ e.went e.refused_steps) e.cause e.died)
+    let cut = cut_then c.requires.working.run l.went.run l.went.start (built_cut (low (goal.at.returns-in_err-drop_root-clause-builds c).In_ok-lower)) (built_cut (high at)) in
+    builds_from c.from_residual-in_err-drop_root.result c.from_residual-in_err-drop_root.ensures.1 (builds_stuck _ c.requires.working (both at) cut e.went e.working e.latch e.still e.refused_steps e.cause e.died)
 
-pub returns-clause-sharing : goal.returns-clause-sharing
-returns-clause-sharing c =
-    let run = c.requires.working.run in
+pub returns-clause-fresh : goal.returns-clause-fresh
+returns-clause-fresh c =
     let l = c.in_ok-lower.ensures in
     let m = c.in_ok-made.ensures in
-    let d = c.in_ok-drop_root.ensures in
-    let far = at_hand_linked c.args.far l.linked l.reaches c.requires.far in
-    let node = linked_at_hand l.linked c.requires.near.0 c.requires.middle.0 l.working in
-    let low = built_cut (born_built (linked_some l.linked c.requires.near.0 c.requires.middle.0) l.linked.born) in
-    let high = built_cut (born_built (linked_some m.linked node.0 far.0) m.linked.born) in
-    record {
-      fresh = fresh_under c.in_ok-made.made.block l.linked.born m.linked.born.fresh;
-      blocks = blocks_dropped l.linked.born.rooted.empty (cut_then run l.went.run l.went.start low high) (blocks_then c.link-2.new.pool low (blocks_nodes l.linked.born.nodes) (blocks_nodes m.linked.born.nodes)) d.emptied d.dropped d.working;
-    }
+    fresh_under c.in_ok-made.made.block l.linked.born m.linked.born.fresh
 
 pub returns-clause-weighs : goal.returns-clause-weighs
 returns-clause-weighs c =

@@ -1,13 +1,13 @@
 use Rattle.shm_tree.proofs.Resting.{rests_after}
 use Rattle.shm_tree.specs.Sharing.{WeighsRaised, WeighsTurned}
-use Rattle.shm_tree.proofs.Sharings.{sharing_after, weighs_single}
+use Rattle.shm_tree.proofs.Sharings.{fresh_read, weighs_single}
 use Rattle.std.proofs.Common.{◌≡◌, ◌∙◌, lit≤, sym, subst, arith}
 use Rattle.shm_count.specs.declared.answer.Made.{Made}
 use Rattle.shm_tree.specs.declared.node.Content.{Content}
 use Rattle.shm_tree.specs.Building.{StandsRaised, StandsTurned}
 use Rattle.shm_tree.specs.Keeping.{node_by}
 use Rattle.shm_tree.specs.Standing.{Stands}
-use Rattle.shm_tree.proofs.Building.{builds_from, at_hand_still, builds_after, builds_died, built_after, looked, looked_none, ok_kept, rooms_still}
+use Rattle.shm_tree.proofs.Building.{at_hand_still, builds_after, builds_first, builds_from, built_after, looked, ok_kept, rooms_still}
 use Rattle.shm_tree.proofs.Rotations.{content_is, node_of, parts}
 use Rattle.shm_tree.specs.Bounds.{raised_steps}
 use Rattle.shm_tree.proofs.balance.single.Goals as goal
@@ -18,11 +18,11 @@ content_of-requires c = record { working = c.requires.working; node = node_of c.
 pub raised-requires : goal.raised-requires
 raised-requires c =
     let t = c.in_ok-top.ensures in
-    let read = looked t.went t.working t.latch t.still t.reaches in
-    let same = rooms_still t.still in
+    let read = looked t.looks in
+    let same = rooms_still t.looks.still in
     record {
-      working = t.working;
-      latch = t.latch ∙ c.requires.latch;
+      working = t.looks.working;
+      latch = t.looks.latch ∙ c.requires.latch;
       room = omega arith;
       near = at_hand_still c.args.trees.near read c.requires.near;
       middle = at_hand_still c.args.grand.near read c.requires.grand_near;
@@ -33,13 +33,13 @@ pub returns-clause-builds : goal.returns-clause-builds
 returns-clause-builds c =
     let t = c.in_ok-top.ensures in
     let e = t.steps in
-    builds_after 2 2 4 raised_steps _ (lit≤ tt) (omega arith) c.requires.working (looked t.went t.working t.latch t.still t.reaches) (omega (arith, e)) c.raised.ensures.builds
+    builds_after 2 2 4 raised_steps _ (lit≤ tt) (omega arith) c.requires.working (looked t.looks) (omega (arith, e)) c.raised.ensures.builds
 
 pub returns-clause-built : goal.returns-clause-built
 returns-clause-built c =
     let run = c.requires.working.run in
     let t = c.in_ok-top.ensures in
-    ok_kept _ (λ m b. built_after run t.went.run t.went.start t.still b) c.raised.ensures.built
+    ok_kept _ (λ m b. built_after run t.looks.went.run t.looks.went.start t.looks.still b) c.raised.ensures.built
 
 pub returns-clause-stands : goal.returns-clause-stands
 returns-clause-stands c =
@@ -51,26 +51,25 @@ returns-clause-stands c =
     let sy = subst (λ e. Stands c.args.pool.now e y) (sym c.requires.near_is) w.near in
     let sz = subst (λ e. Stands c.args.pool.now e z) (sym c.requires.far_is) w.far in
     subst (λ (v : Content). Stands c.raised.new.pool m.block (node_by s v (node_by s c.args.middle x y) z)) is
-    (b x y z (t.still.trees _ x sx) (t.still.trees _ y sy) (t.still.trees _ z sz))) c.raised.ensures.stands
+    (b x y z (t.looks.still.trees _ x sx) (t.looks.still.trees _ y sy) (t.looks.still.trees _ z sz))) c.raised.ensures.stands
 
 pub returns-in_err-top-clause-builds : goal.returns-in_err-top-clause-builds
 returns-in_err-top-clause-builds c =
-    let run = c.requires.working.run in
     let e = c.in_err-top.ensures in
-    builds_from c.from_residual.result c.from_residual.ensures.1 (builds_died _ run (looked_none c.args.pool.now c.args.life.now.left c.requires.working).went e.went e.died)
+    builds_from c.from_residual.result c.from_residual.ensures.1 (builds_first e.looks)
 
-pub returns-clause-sharing : goal.returns-clause-sharing
-returns-clause-sharing c =
+pub returns-clause-fresh : goal.returns-clause-fresh
+returns-clause-fresh c =
     let t = c.in_ok-top.ensures in
-    ok_kept _ (λ m b. sharing_after t.still b) c.raised.ensures.sharing
+    fresh_read _ t.looks.still c.raised.ensures.fresh
 
 pub returns-clause-weighs : goal.returns-clause-weighs
 returns-clause-weighs c =
     let t = c.in_ok-top.ensures in
     ok_kept {T = Made} {P = λ m. WeighsRaised c.in_ok-top.top c.args.side (record { content = c.args.middle; trees = record { near = c.args.trees.near; far = c.args.grand.near } }) c.args.grand.far m.block c.content_of.new.pool c.raised.new.pool} {Q = λ m. WeighsTurned c.args.middle c.args.side c.args.trees m.block c.args.pool.now c.raised.new.pool} _
-    (λ m b. weighs_single c.args.pool.now c.content_of.new.pool c.raised.new.pool c.args.side c.args.middle c.in_ok-top.top c.args.trees c.args.grand m.block t.still t.key t.number c.requires.near_is c.requires.far_is b) c.raised.ensures.weighs
+    (λ m b. weighs_single c.args.pool.now c.content_of.new.pool c.raised.new.pool c.args.side c.args.middle c.in_ok-top.top c.args.trees c.args.grand m.block t.looks.still t.key t.number c.requires.near_is c.requires.far_is b) c.raised.ensures.weighs
 
 pub returns-clause-rests : goal.returns-clause-rests
 returns-clause-rests c =
     let t = c.in_ok-top.ensures in
-    rests_after c.raised.result c.args.pool.now c.content_of.new.pool c.raised.new.pool t.working t.still c.raised.ensures.builds c.raised.ensures.rests
+    rests_after c.raised.result c.args.pool.now c.content_of.new.pool c.raised.new.pool t.looks.working t.looks.still c.raised.ensures.builds c.raised.ensures.rests

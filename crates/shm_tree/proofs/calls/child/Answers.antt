@@ -1,5 +1,5 @@
 use Rattle.std.proofs.Common.{◌≡◌, true, refl, ap, ◌∙◌, Bool, false}
-use Rattle.std.specs.Prelude.{Some, Ok, Err}
+use Rattle.std.specs.Prelude.{Ok}
 use Rattle.shm_graph.specs.declared.ask.Me.{Me}
 use Rattle.shm_graph.specs.Reach.{is_reached}
 use Rattle.shm_plain.specs.Pools.{memo_of}
@@ -8,17 +8,18 @@ use Rattle.shm_count.specs.Roots.{member}
 use Rattle.shm_ref.specs.LatchTasks.{LookMay}
 use Rattle.shm_ref.specs.Look.{look_plan, looking}
 use Rattle.plain_calls.proofs.Reaching.{reached_small}
-use Rattle.plain_calls.proofs.Running.{plan_done, plan_may}
+use Rattle.plain_calls.proofs.Running.{plan_may}
 use Rattle.shm_tree.specs.Keeping.{side_word}
-use Rattle.shm_tree.proofs.Alive.{went_alive, went_dead}
-use Rattle.shm_tree.proofs.Answering.{Answered, answered_at}
+use Rattle.shm_tree.proofs.Alive.{went_alive}
+use Rattle.shm_tree.proofs.Answering.{plan_answered}
 use Rattle.shm_tree.proofs.Counts.{taken_by}
 use Rattle.shm_tree.proofs.Findings.{look_names, look_only, look_refused, look_still, look_works, read_reaches}
 use Rattle.shm_calls.specs.CallsControl.{calls_control, calls_does, calls_of}
 use Rattle.shm_plain.specs.Calls.{Ran}
 use Rattle.shm_tree.specs.Falling.{AreFalling}
 use Rattle.shm_tree.proofs.Anytime.{always_falls}
-use Rattle.shm_tree.proofs.calls.child.Goals.{After-me, After-new-looking, In-Some-Ok, In-Some-Err, After-run}
+use Rattle.shm_tree.proofs.CutOffs.{looks_dead}
+use Rattle.shm_tree.proofs.calls.child.Goals.{After-me, After-new-looking, After-run}
 use Rattle.shm_tree.proofs.calls.child.Goals as goal
 
 -- references fall after it, whether it was answered or not
@@ -40,65 +41,43 @@ run-requires-clause-may c =
     plan_may look_plan (λ (x : Me). looking x c.args.node (side_word c.args.side)) (member c.args.pool.now.start.geometry 0) _ _ _ c.me.ensures.is (planned at.After-new-looking) refl
     LookMay (memo_of c.args.pool.now 0) (refl, reached at.After-me)
 
-looked : (c : In-Some-Ok) → Answered look_plan (looking (member c.args.pool.now.start.geometry 0) c.args.node (side_word c.args.side)) c.args.pool.now c.run.new.self (Ok c.in-Some-Ok.child)
-looked c =
-    let p = c.args.pool.now in
-    let q = c.run.new.self in
-    let me = member p.start.geometry 0 in
-    let k = side_word c.args.side in
-    let a = c.in-Some-Ok.field-0 in
-    answered_at look_plan (looking me c.args.node k) p q _ _ a (Ok c.in-Some-Ok.child) c.in-Some-Ok.field-0-is c.requires.working c.in-Some-Ok.ensures.ran (c.in-Some-Ok.ensures.at_work tt)
-    (plan_done look_plan (λ (x : Me). looking x c.args.node k) me _ _ _ c.me.ensures.is (planned (goal.at.In-Some-Ok c).After-new-looking) refl word_control 0 p q (Some a) a refl c.in-Some-Ok.ensures.leaves)
-
-refused : (c : In-Some-Err) → Answered look_plan (looking (member c.args.pool.now.start.geometry 0) c.args.node (side_word c.args.side)) c.args.pool.now c.run.new.self (Err c.in-Some-Err.field-0-0)
-refused c =
-    let p = c.args.pool.now in
-    let q = c.run.new.self in
-    let me = member p.start.geometry 0 in
-    let k = side_word c.args.side in
-    let a = c.in-Some-Err.field-0 in
-    answered_at look_plan (looking me c.args.node k) p q _ _ a (Err c.in-Some-Err.field-0-0) c.in-Some-Err.field-0-is c.requires.working c.in-Some-Err.ensures.ran (c.in-Some-Err.ensures.at_work tt)
-    (plan_done look_plan (λ (x : Me). looking x c.args.node k) me _ _ _ c.me.ensures.is (planned (goal.at.In-Some-Err c).After-new-looking) refl word_control 0 p q (Some a) a refl c.in-Some-Err.ensures.leaves)
-
 pub unreachable-requires : goal.unreachable-requires
 unreachable-requires c =
     let p = c.args.pool.now in
     let q = c.run.new.self in
-    let (es, on, h) = refused (goal.at.unreachable-requires c).In-Some-Err in
+    let (es, on, h) = plan_answered word_control look_plan (λ (x : Me). looking x c.args.node (side_word c.args.side)) p q c.in-Some-Err.field-0 c.me.ensures.is (planned (goal.at.unreachable-requires c).After-new-looking) c.in-Some-Err.field-0-is c.requires.working c.in-Some-Err.ensures.ran (c.in-Some-Err.ensures.at_work tt) c.in-Some-Err.ensures.leaves in
     look_refused p q es on c.args.node c.args.side (memo_of q 0).call c.in-Some-Err.field-0-0 c.requires.node c.requires.latch h
 
 pub returns-in-None : goal.returns-in-None
 returns-in-None c =
     record {
-      went = went_dead true c.args.pool.now c.run.new.self _ _ c.requires.working c.in-None.ensures.ran (falls (goal.at.returns-in-None c).After-run false c.in-None.ensures.ran);
-      working = tt;
-      latch = tt;
+      looks = looks_dead c.requires.working c.in-None.ensures.ran (falls (goal.at.returns-in-None c).After-run false c.in-None.ensures.ran);
       names = tt;
-      still = tt;
-      reaches = tt;
       reached = tt;
       steps = tt;
-      died = (refl, c.in-None.ensures.ran.died refl);
     }
 
 pub returns-in-Some-Ok : goal.returns-in-Some-Ok
 returns-in-Some-Ok c =
     let p = c.args.pool.now in
     let q = c.run.new.self in
-    let (es, on, h) = looked (goal.at.returns-in-Some-Ok c).In-Some-Ok in
+    let (es, on, h) = plan_answered word_control look_plan (λ (x : Me). looking x c.args.node (side_word c.args.side)) p q c.in-Some-Ok.field-0 c.me.ensures.is (planned (goal.at.returns-in-Some-Ok c).After-new-looking) c.in-Some-Ok.field-0-is c.requires.working c.in-Some-Ok.ensures.ran (c.in-Some-Ok.ensures.at_work tt) c.in-Some-Ok.ensures.leaves in
     let tr = (memo_of q 0).call in
     let b = c.args.node in
     let k = side_word c.args.side in
     let v = c.in-Some-Ok.child in
     let only = look_only p q es on b k tr (Ok v) h in
     record {
-      went = went_alive true p q _ _ c.in-Some-Ok.ensures.ran (c.in-Some-Ok.ensures.at_work tt) (falls (goal.at.returns-in-Some-Ok c).After-run true c.in-Some-Ok.ensures.ran);
-      working = look_works p q es on b k tr (Ok v) h;
-      latch = only.latch;
+      looks =
+          record {
+            went = went_alive true p q _ _ c.in-Some-Ok.ensures.ran (c.in-Some-Ok.ensures.at_work tt) (falls (goal.at.returns-in-Some-Ok c).After-run true c.in-Some-Ok.ensures.ran);
+            working = look_works p q es on b k tr (Ok v) h;
+            latch = only.latch;
+            still = look_still p q es on b k tr (Ok v) h;
+            reaches = read_reaches p q es on only;
+            died = tt;
+          };
       names = look_names p q es on b c.args.side tr v c.requires.node h;
-      still = look_still p q es on b k tr (Ok v) h;
-      reaches = read_reaches p q es on only;
       reached = h.reach;
       steps = taken_by _ _ _ _ h.trail (c.in-Some-Ok.ensures.ran.spent refl refl);
-      died = tt;
     }

@@ -1,5 +1,5 @@
 use Rattle.std.proofs.Common.{◌≡◌, ◌≢◌, ℕ, ◌+◌, ◌≤◌, length, arith, refl, sym, ap, ◌∙◌, subst, inr, true, Bool, false}
-use Rattle.std.specs.Prelude.{Some, Ok, Err}
+use Rattle.std.specs.Prelude.{Ok, Err}
 use Rattle.std.proofs.lemmas.Result.{err_from_is_err_and}
 use Rattle.shm_graph.specs.declared.ask.Me.{Me}
 use Rattle.shm_graph.specs.Asks.{IsWithin}
@@ -12,13 +12,13 @@ use Rattle.shm_ref.specs.declared.drop_root.DropState.{DropState}
 use Rattle.shm_ref.specs.DropRoot.Control.{drop_parts, dropping}
 use Rattle.shm_ref.specs.DropRoot.{DropLeaves, drop_plan}
 use Rattle.shm_ref.specs.RootTasks.{DropMay}
-use Rattle.plain_calls.proofs.Running.{plan_done, plan_may}
+use Rattle.plain_calls.proofs.Running.{plan_may}
 use Rattle.shm_tree.specs.Keeping.{IsStill}
 use Rattle.shm_tree.specs.Working.{IsSameLatch, IsSpent, IsWorking, Reaches}
 use Rattle.shm_tree.proofs.Alive.{went_alive, went_dead}
-use Rattle.shm_tree.proofs.Answering.{Answered, alive_died, answered_at, cause_died, emptied_then, reaches_then, refused_died, within_before}
+use Rattle.shm_tree.proofs.Answering.{Answered, alive_died, cause_died, emptied_then, reaches_then, refused_died, within_before, plan_answered}
 use Rattle.shm_tree.proofs.Drops.{drop_done, drop_kept, drop_latch, drop_spent, drop_torn, drop_works, dropped_then, kept_within}
-use Rattle.shm_tree.proofs.Eras.{spent_stays}
+use Rattle.shm_tree.proofs.Eras.{spent_stays, spent_went}
 use Rattle.shm_tree.proofs.Links.{still_then, went_then}
 use Rattle.shm_tree.proofs.Makes.{spent_over}
 use Rattle.shm_tree.proofs.SureCalls.{drop_most}
@@ -27,6 +27,7 @@ use Rattle.shm_ref.proofs.RefusedDrops.{spent_some}
 use Rattle.shm_tree.specs.Falling.{AreFalling}
 use Rattle.shm_tree.proofs.Anytime.{always_falls}
 use Rattle.shm_tree.proofs.Harmless.{drop_keeps}
+use Rattle.shm_tree.proofs.CutOffs.{begun_ran, died_ran, died_then, look_died}
 use Rattle.shm_tree.proofs.calls.drop_root.Goals.{After-new-dropping, In-Some-Ok, In-Some-Err, After-run}
 use Rattle.shm_tree.proofs.calls.drop_root.Goals as goal
 
@@ -39,22 +40,10 @@ run-requires-clause-may c =
     plan_may drop_plan (λ (x : Me). dropping x c.args.root) (member c.args.pool.now.start.geometry 0) _ _ _ c.me.ensures.is c.new-dropping.ensures refl DropMay (memo_of c.args.pool.now 0) (refl, c.requires.root)
 
 dropped : (c : In-Some-Ok) → Answered drop_plan (dropping (member c.args.pool.now.start.geometry 0) c.args.root) c.args.pool.now c.run.new.self (Ok c.in-Some-Ok.field-0-0)
-dropped c =
-    let p = c.args.pool.now in
-    let q = c.run.new.self in
-    let me = member p.start.geometry 0 in
-    let x = c.in-Some-Ok in
-    answered_at drop_plan (dropping me c.args.root) p q _ _ x.field-0 (Ok x.field-0-0) x.field-0-is c.requires.working x.ensures.ran (x.ensures.at_work tt)
-    (plan_done drop_plan (λ (z : Me). dropping z c.args.root) me _ _ _ c.me.ensures.is c.new-dropping.ensures refl drop_parts 0 p q (Some x.field-0) x.field-0 refl x.ensures.leaves)
+dropped c = let x = c.in-Some-Ok in plan_answered drop_parts drop_plan (λ (z : Me). dropping z c.args.root) c.args.pool.now c.run.new.self x.field-0 c.me.ensures.is c.new-dropping.ensures x.field-0-is c.requires.working x.ensures.ran (x.ensures.at_work tt) x.ensures.leaves
 
 spent : (c : In-Some-Err) → Answered drop_plan (dropping (member c.args.pool.now.start.geometry 0) c.args.root) c.args.pool.now c.run.new.self (Err c.in-Some-Err.spent)
-spent c =
-    let p = c.args.pool.now in
-    let q = c.run.new.self in
-    let me = member p.start.geometry 0 in
-    let x = c.in-Some-Err in
-    answered_at drop_plan (dropping me c.args.root) p q _ _ x.field-0 (Err x.spent) x.field-0-is c.requires.working x.ensures.ran (x.ensures.at_work tt)
-    (plan_done drop_plan (λ (z : Me). dropping z c.args.root) me _ _ _ c.me.ensures.is c.new-dropping.ensures refl drop_parts 0 p q (Some x.field-0) x.field-0 refl x.ensures.leaves)
+spent c = let x = c.in-Some-Err in plan_answered drop_parts drop_plan (λ (z : Me). dropping z c.args.root) c.args.pool.now c.run.new.self x.field-0 c.me.ensures.is c.new-dropping.ensures x.field-0-is c.requires.working x.ensures.ran (x.ensures.at_work tt) x.ensures.leaves
 
 -- no exchange of it failed
 took_most : (c : After-new-dropping) (n : ℕ) (q : Pool) (y : ℕ) → Took (calls_control drop_parts drop_plan) 0 c.args.pool.now (calls_of drop_plan c.new-dropping.result) q → Ran 0 true true c.args.pool.now q c.args.life.now.left y → IsWithin n (memo_of q 0).call → c.args.life.now.left ≤ y + n
@@ -65,6 +54,12 @@ took_most c n q y took ran most =
 
 working : (c : In-Some-Err) → IsWorking c.run.new.self
 working c = let (es, on, h) = spent c in drop_works c.args.pool.now c.run.new.self es on c.args.root (Err c.in-Some-Err.spent) h
+
+latch : (c : In-Some-Err) → IsSameLatch c.args.pool.now c.run.new.self
+latch c = let (es, on, h) = spent c in drop_latch c.args.pool.now c.run.new.self es on c.args.root (Err c.in-Some-Err.spent) h
+
+spent_era : (c : In-Some-Err) → IsSpent (memo_of c.run.new.self 0)
+spent_era c = let (es, on, h) = spent c in drop_spent c.args.pool.now c.run.new.self es on c.args.root c.in-Some-Err.spent h
 
 pub root_of-requires-clause-working : goal.root_of-requires-clause-working
 root_of-requires-clause-working c = working (goal.at.root_of-requires-clause-working c).In-Some-Err
@@ -83,7 +78,8 @@ returns-in-None c =
       refused_steps = tt;
       spent = tt;
       cause = tt;
-      died = λ e. c.in-None.ensures.ran.died refl;
+      died = died_ran _ c.in-None.ensures.ran;
+      begun = begun_ran _ c.in-None.ensures.ran;
     }
 
 pub returns-in-Some-Ok : goal.returns-in-Some-Ok
@@ -109,6 +105,7 @@ returns-in-Some-Ok c =
       spent = tt;
       cause = tt;
       died = tt;
+      begun = tt;
     }
 
 -- the root that was asked: no word step was left for it
@@ -117,10 +114,11 @@ returns-in_err-tree-in-Some-Err c =
     let p = c.args.pool.now in
     let m = c.run.new.self in
     let q = c.root_of.new.pool in
-    let died = c.in_err-tree-in-Some-Err.ensures.died in
+    let first = (goal.at.returns-in_err-tree-in-Some-Err c).In-Some-Err in
+    let died = c.in_err-tree-in-Some-Err.ensures.looks.died in
     let handed = err_from_is_err_and c.from_residual.result c.from_residual.ensures.1 in
     rw (handed.1, handed.2) (record {
-      went = went_then p m q _ _ _ c.requires.working.run (went_alive true p m _ _ c.in-Some-Err.ensures.ran (c.in-Some-Err.ensures.at_work tt) (falls (goal.at.returns-in_err-tree-in-Some-Err c).After-run true c.in-Some-Err.ensures.ran)) c.in_err-tree-in-Some-Err.ensures.went;
+      went = went_then p m q _ _ _ c.requires.working.run (went_alive true p m _ _ c.in-Some-Err.ensures.ran (c.in-Some-Err.ensures.at_work tt) (falls (goal.at.returns-in_err-tree-in-Some-Err c).After-run true c.in-Some-Err.ensures.ran)) c.in_err-tree-in-Some-Err.ensures.looks.went;
       working = alive_died (Unit {0}) (IsWorking q) _ died.0;
       latch = alive_died (Unit {0}) (IsSameLatch p q) _ died.0;
       emptied = tt;
@@ -131,7 +129,8 @@ returns-in_err-tree-in-Some-Err c =
       refused_steps = refused_died (Unit {0}) _ _ died.0;
       spent = refused_died (Unit {0}) (IsSpent (memo_of q 0)) _ died.0;
       cause = cause_died p q _ died.0;
-      died = λ e. died.1;
+      died = died_then p m q _ _ (latch first) (look_died m q _ _ died);
+      begun = λ e. inr (inr (spent_went m q (working first) c.in_err-tree-in-Some-Err.ensures.looks.went (spent_era first)));
     })
 
 -- it was empty: the drop was done
@@ -150,18 +149,19 @@ returns-then-tree-eq0 c =
     let most = took_most (goal.at.returns-then-tree-eq0 c).After-new-dropping _ m _ c.in-Some-Err.ensures.took c.in-Some-Err.ensures.ran h.1.bound in
     let more = asked.steps in
     record {
-      went = went_then p m q _ _ _ c.requires.working.run (went_alive true p m _ _ c.in-Some-Err.ensures.ran (c.in-Some-Err.ensures.at_work tt) (falls (goal.at.returns-then-tree-eq0 c).After-run true c.in-Some-Err.ensures.ran)) asked.went;
-      working = asked.working;
-      latch = asked.latch ∙ drop_latch p m es on k (Err s) h;
-      emptied = emptied_then k p m q torn.0 asked.still;
-      dropped = dropped_then k p m q c.requires.working (working first) on.start torn.1 asked.still;
+      went = went_then p m q _ _ _ c.requires.working.run (went_alive true p m _ _ c.in-Some-Err.ensures.ran (c.in-Some-Err.ensures.at_work tt) (falls (goal.at.returns-then-tree-eq0 c).After-run true c.in-Some-Err.ensures.ran)) asked.looks.went;
+      working = asked.looks.working;
+      latch = asked.looks.latch ∙ drop_latch p m es on k (Err s) h;
+      emptied = emptied_then k p m q torn.0 asked.looks.still;
+      dropped = dropped_then k p m q c.requires.working (working first) on.start torn.1 asked.looks.still;
       still = tt;
       reaches = tt;
-      steps = (frees es + length h.0, torn_then k (frees es + length h.0) p m q c.requires.working (working first) on.start (stopped_torn p m es on k s h empty (spent_some 0 k (memo_of p 0) (memo_of m 0) es s.era h.0 h.1.at)) asked.quiet asked.still, omega (arith, most, more));
+      steps = (frees es + length h.0, torn_then k (frees es + length h.0) p m q c.requires.working (working first) on.start (stopped_torn p m es on k s h empty (spent_some 0 k (memo_of p 0) (memo_of m 0) es s.era h.0 h.1.at)) asked.quiet asked.looks.still, omega (arith, most, more));
       refused_steps = tt;
       spent = tt;
       cause = tt;
       died = tt;
+      begun = tt;
     }
 
 -- it names its tree still: nothing was done
@@ -180,16 +180,17 @@ returns-else-tree-eq0 c =
     let most = took_most (goal.at.returns-else-tree-eq0 c).After-new-dropping _ m _ c.in-Some-Err.ensures.took c.in-Some-Err.ensures.ran (kept_within p m es on k s h some) in
     let more = asked.steps in
     record {
-      went = went_then p m q _ _ _ c.requires.working.run (went_alive true p m _ _ c.in-Some-Err.ensures.ran (c.in-Some-Err.ensures.at_work tt) (falls (goal.at.returns-else-tree-eq0 c).After-run true c.in-Some-Err.ensures.ran)) asked.went;
-      working = asked.working;
-      latch = asked.latch ∙ drop_latch p m es on k (Err s) h;
+      went = went_then p m q _ _ _ c.requires.working.run (went_alive true p m _ _ c.in-Some-Err.ensures.ran (c.in-Some-Err.ensures.at_work tt) (falls (goal.at.returns-else-tree-eq0 c).After-run true c.in-Some-Err.ensures.ran)) asked.looks.went;
+      working = asked.looks.working;
+      latch = asked.looks.latch ∙ drop_latch p m es on k (Err s) h;
       emptied = tt;
       dropped = tt;
-      still = still_then p m q c.requires.working (working first) on.start kept.0 asked.still;
-      reaches = reaches_then p m q kept.1 asked.reaches;
+      still = still_then p m q c.requires.working (working first) on.start kept.0 asked.looks.still;
+      reaches = reaches_then p m q kept.1 asked.looks.reaches;
       steps = tt;
       refused_steps = omega (arith, most, more);
-      spent = spent_stays m q (working first) asked.working asked.went (drop_spent p m es on k s h);
-      cause = inr (inr (inr (k, within_before (λ r0 r tr xs. DropLeaves (dropping (member p.start.geometry 0) k) r0 r tr xs (Err s)) p m q es on.did h asked.went.did)));
-      died = spent_over s.era c.root_of.new.life.left;
+      spent = spent_stays m q (working first) asked.looks.working asked.looks.went (drop_spent p m es on k s h);
+      cause = inr (inr (inr (k, within_before (λ r0 r tr xs. DropLeaves (dropping (member p.start.geometry 0) k) r0 r tr xs (Err s)) p m q es on h asked.looks.went.did)));
+      died = spent_over s.era p q c.root_of.new.life.left;
+      begun = λ e. absurd cc;
     }

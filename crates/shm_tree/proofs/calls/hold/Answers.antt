@@ -1,5 +1,4 @@
 use Rattle.std.proofs.Common.{◌≡◌, refl, ap, ◌∙◌, subst, true, Bool, false}
-use Rattle.std.specs.Prelude.{Some, Ok, Err}
 use Rattle.shm_graph.specs.declared.ask.Me.{Me}
 use Rattle.shm_plain.specs.Calls.{Took, Ran}
 use Rattle.shm_calls.specs.CallsControl.{calls_control, calls_of, calls_does}
@@ -8,43 +7,24 @@ use Rattle.shm_count.specs.Roots.{member}
 use Rattle.shm_ref.specs.declared.hold.HoldState.{HoldState}
 use Rattle.shm_ref.specs.Hold.Control.{holding}
 use Rattle.shm_ref.specs.Hold.{hold_plan}
-use Rattle.plain_calls.proofs.Running.{plan_done}
 use Rattle.shm_tree.proofs.Alive.{went_alive, went_dead}
-use Rattle.shm_tree.proofs.Answering.{Answered, answered_at}
+use Rattle.shm_tree.proofs.Answering.{plan_answered}
 use Rattle.shm_tree.proofs.Counts.{taken_by}
 use Rattle.shm_tree.proofs.Latches.{held_latch, held_reaches, held_still, held_works, hold_free}
 use Rattle.shm_tree.specs.Falling.{AreFalling}
 use Rattle.shm_tree.proofs.Anytime.{always_falls}
-use Rattle.shm_tree.proofs.calls.hold.Goals.{In-Some-Ok, In-Some-Err, After-run}
+use Rattle.shm_tree.proofs.calls.hold.Goals.{After-run}
 use Rattle.shm_tree.proofs.calls.hold.Goals as goal
 
 -- references fall after it, whether it was answered or not
 falls : (c : After-run) (answered : Bool) → Ran 0 true answered c.args.pool.now c.run.new.self c.args.life.now.left c.run.new.life.left → AreFalling c.args.pool.now → AreFalling c.run.new.self
 falls c answered ran = always_falls (calls_control word_control hold_plan) (calls_does word_control hold_plan) (calls_of hold_plan c.new-holding.result) answered c.args.pool.now c.run.new.self c.args.life.now.left c.run.new.life.left (λ r n s i. tt) c.requires.working ran c.run.ensures.told
 
-held : (c : In-Some-Ok) → Answered hold_plan (holding (member c.args.pool.now.start.geometry 0) 0) c.args.pool.now c.run.new.self (Ok tt)
-held c =
-    let p = c.args.pool.now in
-    let q = c.run.new.self in
-    let me = member p.start.geometry 0 in
-    let a = c.in-Some-Ok.field-0 in
-    answered_at hold_plan (holding me 0) p q _ _ a (Ok tt) c.in-Some-Ok.field-0-is c.requires.working c.in-Some-Ok.ensures.ran (c.in-Some-Ok.ensures.at_work tt)
-    (plan_done hold_plan (λ (x : Me). holding x 0) me _ _ _ c.me.ensures.is c.new-holding.ensures refl word_control 0 p q (Some a) a refl c.in-Some-Ok.ensures.leaves)
-
-busy : (c : In-Some-Err) → Answered hold_plan (holding (member c.args.pool.now.start.geometry 0) 0) c.args.pool.now c.run.new.self (Err c.in-Some-Err.field-0-0)
-busy c =
-    let p = c.args.pool.now in
-    let q = c.run.new.self in
-    let me = member p.start.geometry 0 in
-    let a = c.in-Some-Err.field-0 in
-    answered_at hold_plan (holding me 0) p q _ _ a (Err c.in-Some-Err.field-0-0) c.in-Some-Err.field-0-is c.requires.working c.in-Some-Err.ensures.ran (c.in-Some-Err.ensures.at_work tt)
-    (plan_done hold_plan (λ (x : Me). holding x 0) me _ _ _ c.me.ensures.is c.new-holding.ensures refl word_control 0 p q (Some a) a refl c.in-Some-Err.ensures.leaves)
-
 pub unreachable-requires : goal.unreachable-requires
 unreachable-requires c =
     let p = c.args.pool.now in
     let q = c.run.new.self in
-    let (es, on, h) = busy (goal.at.unreachable-requires c).In-Some-Err in
+    let (es, on, h) = plan_answered word_control hold_plan (λ (x : Me). holding x 0) p q c.in-Some-Err.field-0 c.me.ensures.is c.new-holding.ensures c.in-Some-Err.field-0-is c.requires.working c.in-Some-Err.ensures.ran (c.in-Some-Err.ensures.at_work tt) c.in-Some-Err.ensures.leaves in
     let made : c.new-holding.result ≡ holding (member p.start.geometry 0) 0 = c.new-holding.ensures ∙ ap (λ (x : Me). holding x 0) c.me.ensures.is in
     hold_free p q es on c.in-Some-Err.field-0-0 c.requires.latch h (subst (λ (s : HoldState). Took (calls_control word_control hold_plan) 0 p (calls_of hold_plan s) q) made c.in-Some-Err.ensures.took)
 
@@ -57,14 +37,14 @@ returns-in-None c =
       still = tt;
       reaches = tt;
       steps = tt;
-      died = (refl, c.in-None.ensures.ran.died refl);
+      died = (refl, c.in-None.ensures.ran.died refl, c.in-None.ensures.ran.within refl);
     }
 
 pub returns-in-Some-Ok : goal.returns-in-Some-Ok
 returns-in-Some-Ok c =
     let p = c.args.pool.now in
     let q = c.run.new.self in
-    let (es, on, h) = held (goal.at.returns-in-Some-Ok c).In-Some-Ok in
+    let (es, on, h) = plan_answered word_control hold_plan (λ (x : Me). holding x 0) p q c.in-Some-Ok.field-0 c.me.ensures.is c.new-holding.ensures c.in-Some-Ok.field-0-is c.requires.working c.in-Some-Ok.ensures.ran (c.in-Some-Ok.ensures.at_work tt) c.in-Some-Ok.ensures.leaves in
     record {
       went = went_alive true p q _ _ c.in-Some-Ok.ensures.ran (c.in-Some-Ok.ensures.at_work tt) (falls (goal.at.returns-in-Some-Ok c).After-run true c.in-Some-Ok.ensures.ran);
       working = held_works p q es on tt h;

@@ -8,6 +8,7 @@ use Rattle.shm_tree.proofs.Alive.{on_answer, went_alive, went_dead}
 use Rattle.shm_tree.proofs.Makes.{full_over, make_cause, make_latch, make_made, make_reaches, make_room, make_within, make_works, refused_reaches, refused_still, spent_over}
 use Rattle.shm_tree.proofs.Harmless.{alloc_falls}
 use Rattle.shm_tree.proofs.Unnamed.{made_unnamed}
+use Rattle.shm_tree.proofs.CutOffs.{died_ran}
 use Rattle.shm_tree.proofs.calls.make.Goals as goal
 
 pub unreachable-requires : goal.unreachable-requires
@@ -42,7 +43,7 @@ returns-in-Ok-None c =
       still = tt;
       steps = tt;
       cause = tt;
-      died = λ e. ran.died refl;
+      died = died_ran _ ran;
     }
 
 pub returns-in-Ok-Some-Ok : goal.returns-in-Ok-Some-Ok
@@ -99,7 +100,7 @@ returns-in-Ok-Some-Err-Full c =
       still = refused_still p q es on d h m asked f y refl;
       steps = make_within p q es on d h m asked _ _ (Err f) y (ran.spent refl refl);
       cause = make_cause p q es on d h m asked f y;
-      died = full_over x.segments x.blocks c.allocate.new.life.left;
+      died = full_over x.segments x.blocks p q c.allocate.new.life.left;
     }
 
 pub returns-in-Ok-Some-Err-EraSpent : goal.returns-in-Ok-Some-Err-EraSpent
@@ -126,5 +127,5 @@ returns-in-Ok-Some-Err-EraSpent c =
       still = refused_still p q es on d h m asked f y refl;
       steps = make_within p q es on d h m asked _ _ (Err f) y (ran.spent refl refl);
       cause = inl (make_cause p q es on d h m asked f y);
-      died = spent_over x.era c.allocate.new.life.left;
+      died = spent_over x.era p q c.allocate.new.life.left;
     }

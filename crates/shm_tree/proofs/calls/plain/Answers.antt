@@ -1,5 +1,5 @@
 use Rattle.std.proofs.Common.{◌≡◌, true, refl, Bool, false}
-use Rattle.std.specs.Prelude.{Some, Ok, Err}
+use Rattle.std.specs.Prelude.{Ok}
 use Rattle.shm_graph.specs.declared.ask.Me.{Me}
 use Rattle.shm_graph.specs.Reach.{is_reached}
 use Rattle.shm_plain.specs.Pools.{memo_of}
@@ -8,16 +8,17 @@ use Rattle.shm_count.specs.Roots.{member}
 use Rattle.shm_ref.specs.LatchTasks.{ReadMay}
 use Rattle.shm_ref.specs.Read.{read_plan, reading}
 use Rattle.plain_calls.proofs.Reaching.{reached_small}
-use Rattle.plain_calls.proofs.Running.{plan_done, plan_may}
-use Rattle.shm_tree.proofs.Alive.{went_alive, went_dead}
-use Rattle.shm_tree.proofs.Answering.{Answered, answered_at}
+use Rattle.plain_calls.proofs.Running.{plan_may}
+use Rattle.shm_tree.proofs.Alive.{went_alive}
+use Rattle.shm_tree.proofs.Answering.{plan_answered}
 use Rattle.shm_tree.proofs.Counts.{taken_by}
 use Rattle.shm_tree.proofs.Findings.{plain_is, plain_refused, plain_still, read_only, read_reaches, read_works}
 use Rattle.shm_calls.specs.CallsControl.{calls_control, calls_does, calls_of}
 use Rattle.shm_plain.specs.Calls.{Ran}
 use Rattle.shm_tree.specs.Falling.{AreFalling}
 use Rattle.shm_tree.proofs.Anytime.{always_falls}
-use Rattle.shm_tree.proofs.calls.plain.Goals.{After-me, In-Some-Ok, In-Some-Err, After-run}
+use Rattle.shm_tree.proofs.CutOffs.{looks_dead}
+use Rattle.shm_tree.proofs.calls.plain.Goals.{After-me, After-run}
 use Rattle.shm_tree.proofs.calls.plain.Goals as goal
 
 -- references fall after it, whether it was answered or not
@@ -35,61 +36,41 @@ run-requires-clause-may c =
     plan_may read_plan (λ (x : Me). reading x c.args.node c.args.index) (member c.args.pool.now.start.geometry 0) _ _ _ c.me.ensures.is c.new-reading.ensures refl
     ReadMay (memo_of c.args.pool.now 0) (refl, reached (goal.at.run-requires-clause-may c).After-me)
 
-found : (c : In-Some-Ok) → Answered read_plan (reading (member c.args.pool.now.start.geometry 0) c.args.node c.args.index) c.args.pool.now c.run.new.self (Ok c.in-Some-Ok.word)
-found c =
-    let p = c.args.pool.now in
-    let q = c.run.new.self in
-    let me = member p.start.geometry 0 in
-    let a = c.in-Some-Ok.field-0 in
-    answered_at read_plan (reading me c.args.node c.args.index) p q _ _ a (Ok c.in-Some-Ok.word) c.in-Some-Ok.field-0-is c.requires.working c.in-Some-Ok.ensures.ran (c.in-Some-Ok.ensures.at_work tt)
-    (plan_done read_plan (λ (x : Me). reading x c.args.node c.args.index) me _ _ _ c.me.ensures.is c.new-reading.ensures refl word_control 0 p q (Some a) a refl c.in-Some-Ok.ensures.leaves)
-
-refused : (c : In-Some-Err) → Answered read_plan (reading (member c.args.pool.now.start.geometry 0) c.args.node c.args.index) c.args.pool.now c.run.new.self (Err c.in-Some-Err.field-0-0)
-refused c =
-    let p = c.args.pool.now in
-    let q = c.run.new.self in
-    let me = member p.start.geometry 0 in
-    let a = c.in-Some-Err.field-0 in
-    answered_at read_plan (reading me c.args.node c.args.index) p q _ _ a (Err c.in-Some-Err.field-0-0) c.in-Some-Err.field-0-is c.requires.working c.in-Some-Err.ensures.ran (c.in-Some-Err.ensures.at_work tt)
-    (plan_done read_plan (λ (x : Me). reading x c.args.node c.args.index) me _ _ _ c.me.ensures.is c.new-reading.ensures refl word_control 0 p q (Some a) a refl c.in-Some-Err.ensures.leaves)
-
 pub unreachable-requires : goal.unreachable-requires
 unreachable-requires c =
     let p = c.args.pool.now in
     let q = c.run.new.self in
-    let (es, on, h) = refused (goal.at.unreachable-requires c).In-Some-Err in
+    let (es, on, h) = plan_answered word_control read_plan (λ (x : Me). reading x c.args.node c.args.index) p q c.in-Some-Err.field-0 c.me.ensures.is c.new-reading.ensures c.in-Some-Err.field-0-is c.requires.working c.in-Some-Err.ensures.ran (c.in-Some-Err.ensures.at_work tt) c.in-Some-Err.ensures.leaves in
     plain_refused p q es on c.args.node c.args.index (memo_of q 0).call c.in-Some-Err.field-0-0 c.requires.node c.requires.index h
 
 pub returns-in-None : goal.returns-in-None
 returns-in-None c =
     record {
-      went = went_dead true c.args.pool.now c.run.new.self _ _ c.requires.working c.in-None.ensures.ran (falls (goal.at.returns-in-None c).After-run false c.in-None.ensures.ran);
-      working = tt;
-      latch = tt;
+      looks = looks_dead c.requires.working c.in-None.ensures.ran (falls (goal.at.returns-in-None c).After-run false c.in-None.ensures.ran);
       is = tt;
-      still = tt;
-      reaches = tt;
       steps = tt;
-      died = (refl, c.in-None.ensures.ran.died refl);
     }
 
 pub returns-in-Some-Ok : goal.returns-in-Some-Ok
 returns-in-Some-Ok c =
     let p = c.args.pool.now in
     let q = c.run.new.self in
-    let (es, on, h) = found (goal.at.returns-in-Some-Ok c).In-Some-Ok in
+    let (es, on, h) = plan_answered word_control read_plan (λ (x : Me). reading x c.args.node c.args.index) p q c.in-Some-Ok.field-0 c.me.ensures.is c.new-reading.ensures c.in-Some-Ok.field-0-is c.requires.working c.in-Some-Ok.ensures.ran (c.in-Some-Ok.ensures.at_work tt) c.in-Some-Ok.ensures.leaves in
     let tr = (memo_of q 0).call in
     let b = c.args.node in
     let i = c.args.index in
     let v = c.in-Some-Ok.word in
     let only = read_only p q es on b i tr (Ok v) h in
     record {
-      went = went_alive true p q _ _ c.in-Some-Ok.ensures.ran (c.in-Some-Ok.ensures.at_work tt) (falls (goal.at.returns-in-Some-Ok c).After-run true c.in-Some-Ok.ensures.ran);
-      working = read_works p q es on b i tr (Ok v) h;
-      latch = only.latch;
+      looks =
+          record {
+            went = went_alive true p q _ _ c.in-Some-Ok.ensures.ran (c.in-Some-Ok.ensures.at_work tt) (falls (goal.at.returns-in-Some-Ok c).After-run true c.in-Some-Ok.ensures.ran);
+            working = read_works p q es on b i tr (Ok v) h;
+            latch = only.latch;
+            still = plain_still p q es on b i tr (Ok v) h;
+            reaches = read_reaches p q es on only;
+            died = tt;
+          };
       is = plain_is p q es on b i tr v c.requires.node c.requires.index h;
-      still = plain_still p q es on b i tr (Ok v) h;
-      reaches = read_reaches p q es on only;
       steps = taken_by _ _ _ _ h.trail (c.in-Some-Ok.ensures.ran.spent refl refl);
-      died = tt;
     }

@@ -16,16 +16,17 @@ use Rattle.shm_ref.specs.RootTasks.{SetMay}
 use Rattle.shm_ref.specs.SetRef.Control.{set_parts, setting}
 use Rattle.shm_ref.specs.SetRef.{set_plan}
 use Rattle.plain_calls.proofs.Reaching.{reached_small, reached_whole}
-use Rattle.plain_calls.proofs.Running.{MachineLeft, plan_done, plan_may}
+use Rattle.plain_calls.proofs.Running.{MachineLeft, plan_may}
 use Rattle.shm_tree.specs.Bounds.{refer_steps}
 use Rattle.shm_tree.specs.Keeping.{side_word}
 use Rattle.shm_tree.proofs.Alive.{went_alive, went_dead}
-use Rattle.shm_tree.proofs.Answering.{Answered, answered_at}
+use Rattle.shm_tree.proofs.Answering.{Answered, plan_answered}
 use Rattle.shm_tree.proofs.Refers.{full_within, set_cause, set_full, set_latch, set_reaches, set_refers, set_refused, set_spent, set_within, set_works, spent_within}
 use Rattle.shm_tree.proofs.SureCalls.{set_most}
 use Rattle.shm_graph.specs.Tells.{happens_along}
 use Rattle.shm_tree.specs.Falling.{AreFalling, IsUnnamed}
 use Rattle.shm_tree.proofs.Referring.{setting_falls, setting_unnamed}
+use Rattle.shm_tree.proofs.CutOffs.{died_ran}
 use Rattle.shm_tree.proofs.calls.refer.Goals.{After-me, After-new-setting, After-run}
 use Rattle.shm_tree.proofs.calls.refer.Goals as goal
 
@@ -70,12 +71,7 @@ run-requires-clause-may c =
 -- what is left where it answered a, which is b
 left : (c : After-new-setting) (q : Pool) (y : ℕ) (a b : Result (Unit {0}) SetFault) → a ≡ b → Ran 0 true true c.args.pool.now q c.args.life.now.left y → IsAtWork 0 q → MachineLeft set_parts set_plan (calls_of set_plan c.new-setting.result) 0 c.args.pool.now q (Some a)
     → Answered set_plan (setting (member c.args.pool.now.start.geometry 0) c.args.node (side_word c.args.side) c.args.child) c.args.pool.now q b
-left c q y a b is ran at h =
-    let p = c.args.pool.now in
-    let me = member p.start.geometry 0 in
-    let k = side_word c.args.side in
-    answered_at set_plan (setting me c.args.node k c.args.child) p q _ y a b is c.requires.working ran at
-    (plan_done set_plan (λ (z : Me). setting z c.args.node k c.args.child) me _ _ _ c.me.ensures.is (planned c) refl set_parts 0 p q (Some a) a refl h)
+left c q y a b is ran at h = plan_answered set_parts set_plan (λ (z : Me). setting z c.args.node (side_word c.args.side) c.args.child) c.args.pool.now q a c.me.ensures.is (planned c) is c.requires.working ran at h
 
 -- no exchange of it failed
 took_few : (c : After-new-setting) (q : Pool) (y : ℕ) → Took (calls_control set_parts set_plan) 0 c.args.pool.now (calls_of set_plan c.new-setting.result) q → Ran 0 true true c.args.pool.now q c.args.life.now.left y → IsWithin (refer_steps c.args.pool.now.start.geometry) (memo_of q 0).call
@@ -125,7 +121,7 @@ returns-in-None c =
       still = tt;
       steps = tt;
       cause = tt;
-      died = λ e. c.in-None.ensures.ran.died refl;
+      died = died_ran _ c.in-None.ensures.ran;
     }
 
 pub returns-in-Some-Ok : goal.returns-in-Some-Ok
@@ -173,7 +169,7 @@ returns-in-Some-Err-EraSpent c =
       still = none.still;
       steps = took_few (goal.at.returns-in-Some-Err-EraSpent c).After-new-setting q _ x.ensures.took x.ensures.ran (spent_within p q es on b s to i n d node c.requires.empty x.era h);
       cause = inr (inl (set_cause p q es on b s to i n d node c.requires.empty f h));
-      died = λ e. cc;
+      died = λ e. absurd cc;
     }
 
 pub returns-in-Some-Err-CountFull : goal.returns-in-Some-Err-CountFull
@@ -198,5 +194,5 @@ returns-in-Some-Err-CountFull c =
       still = none.still;
       steps = took_few (goal.at.returns-in-Some-Err-CountFull c).After-new-setting q _ x.ensures.took x.ensures.ran (full_within p q es on b s to i n d node c.requires.empty x.block x.count h);
       cause = inl (set_cause p q es on b s to i n d node c.requires.empty f h);
-      died = λ e. cc;
+      died = λ e. absurd cc;
     }

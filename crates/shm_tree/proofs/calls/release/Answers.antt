@@ -1,20 +1,20 @@
 use Rattle.std.proofs.Common.{refl, true, Bool, false}
-use Rattle.std.specs.Prelude.{Some}
 use Rattle.shm_plain.specs.Pools.{memo_of}
 use Rattle.shm_calls.specs.Words.{word_control}
 use Rattle.shm_count.specs.Roots.{member}
 use Rattle.shm_ref.specs.LatchTasks.{ReleaseMay}
 use Rattle.shm_ref.specs.Release.{release_plan, releasing}
-use Rattle.plain_calls.proofs.Running.{plan_done, plan_may}
+use Rattle.plain_calls.proofs.Running.{plan_may}
 use Rattle.shm_tree.proofs.Alive.{went_alive, went_dead}
-use Rattle.shm_tree.proofs.Answering.{Answered, answered_at}
+use Rattle.shm_tree.proofs.Answering.{plan_answered}
 use Rattle.shm_tree.proofs.Counts.{taken_by}
 use Rattle.shm_tree.proofs.Latches.{released_still, released_works}
 use Rattle.shm_calls.specs.CallsControl.{calls_control, calls_does, calls_of}
 use Rattle.shm_plain.specs.Calls.{Ran}
 use Rattle.shm_tree.specs.Falling.{AreFalling}
 use Rattle.shm_tree.proofs.Anytime.{always_falls}
-use Rattle.shm_tree.proofs.calls.release.Goals.{In-Some, After-run}
+use Rattle.shm_tree.proofs.CutOffs.{cut_ran}
+use Rattle.shm_tree.proofs.calls.release.Goals.{After-run}
 use Rattle.shm_tree.proofs.calls.release.Goals as goal
 
 -- references fall after it, whether it was answered or not
@@ -26,14 +26,6 @@ run-requires-clause-may c =
     let p = c.args.pool.now in
     plan_may release_plan releasing (member p.start.geometry 0) _ _ _ c.me.ensures.is c.new-releasing.ensures refl ReleaseMay (memo_of p 0) (refl, (0, c.requires.latch))
 
-released : (c : In-Some) → Answered release_plan (releasing (member c.args.pool.now.start.geometry 0)) c.args.pool.now c.run.new.self tt
-released c =
-    let p = c.args.pool.now in
-    let q = c.run.new.self in
-    let me = member p.start.geometry 0 in
-    answered_at release_plan (releasing me) p q _ _ tt tt refl c.requires.working c.in-Some.ensures.ran (c.in-Some.ensures.at_work tt)
-    (plan_done release_plan releasing me _ _ _ c.me.ensures.is c.new-releasing.ensures refl word_control 0 p q (Some tt) tt refl c.in-Some.ensures.leaves)
-
 pub returns-in-None : goal.returns-in-None
 returns-in-None c =
     record {
@@ -42,14 +34,14 @@ returns-in-None c =
       latch = tt;
       still = tt;
       steps = tt;
-      died = (refl, c.in-None.ensures.ran.died refl);
+      died = (refl, c.in-None.ensures.ran.died refl, cut_ran c.in-None.ensures.ran);
     }
 
 pub returns-in-Some : goal.returns-in-Some
 returns-in-Some c =
     let p = c.args.pool.now in
     let q = c.run.new.self in
-    let (es, on, h) = released (goal.at.returns-in-Some c).In-Some in
+    let (es, on, h) = plan_answered word_control release_plan releasing p q tt c.me.ensures.is c.new-releasing.ensures refl c.requires.working c.in-Some.ensures.ran (c.in-Some.ensures.at_work tt) c.in-Some.ensures.leaves in
     record {
       went = went_alive true p q _ _ c.in-Some.ensures.ran (c.in-Some.ensures.at_work tt) (falls (goal.at.returns-in-Some c).After-run true c.in-Some.ensures.ran);
       working = released_works p q es on h;

@@ -1,9 +1,9 @@
 use Rattle.std.proofs.Common.{◌≡◌, ℕ, true, refl, ap, ◌∙◌, subst, inl, inr, Bool, false}
-use Rattle.std.specs.Prelude.{Some, Ok, Err}
+use Rattle.std.specs.Prelude.{Some, Ok, Err, Result}
 use Rattle.shm_graph.specs.declared.ask.Me.{Me}
 use Rattle.shm_calls.specs.CallsControl.{calls_control, calls_of, calls_does}
-use Rattle.shm_plain.specs.Calls.{Took, Ran}
-use Rattle.shm_plain.specs.Pools.{Pool, memo_of}
+use Rattle.shm_plain.specs.Calls.{Took, Ran, IsAtWork}
+use Rattle.shm_plain.specs.Pools.{memo_of}
 use Rattle.shm_count.specs.declared.answer.ShareFault.TheVariants as fault
 use Rattle.shm_count.specs.declared.up_root.RootingState.{RootingState}
 use Rattle.shm_count.specs.Roots.{member}
@@ -11,24 +11,27 @@ use Rattle.shm_count.specs.ShareTask.{ShareMay}
 use Rattle.shm_count.specs.UpRoot.Control.{rooting, rooting_parts}
 use Rattle.shm_count.specs.UpRoot.{rooting_plan}
 use Rattle.plain_calls.proofs.Reaching.{reached_small}
-use Rattle.plain_calls.proofs.Running.{plan_done, plan_may}
+use Rattle.plain_calls.proofs.Running.{plan_may, MachineLeft}
 use Rattle.shm_tree.proofs.Alive.{went_alive, went_dead}
-use Rattle.shm_tree.proofs.Answering.{Answered, answered_at}
+use Rattle.shm_tree.proofs.Answering.{Answered, plan_answered}
 use Rattle.shm_tree.proofs.Shares.{share_cause, share_latch, share_reaches, share_room, share_shared, share_still, share_works}
+use Rattle.shm_tree.proofs.CutShort.{unanswered}
 use Rattle.shm_tree.proofs.SureCalls.{share_within}
 use Rattle.shm_tree.specs.Falling.{AreFalling}
 use Rattle.shm_tree.proofs.Anytime.{always_falls}
 use Rattle.shm_tree.proofs.Harmless.{share_keeps}
-use Rattle.shm_tree.proofs.calls.share.Goals.{In-Some-Ok, In-Some-Err-EraSpent, In-Some-Err-CountFull, In-Some-Err-RootsFull, After-run}
+use Rattle.shm_tree.proofs.CutOffs.{died_ran}
+use Rattle.shm_count.specs.declared.answer.ShareFault.{ShareFault}
+use Rattle.shm_tree.proofs.calls.share.Goals.{After-run}
 use Rattle.shm_tree.proofs.calls.share.Goals as goal
 
 -- references fall after it, whether it was answered or not
 falls : (c : After-run) (answered : Bool) → Ran 0 true answered c.args.pool.now c.run.new.self c.args.life.now.left c.run.new.life.left → AreFalling c.args.pool.now → AreFalling c.run.new.self
 falls c answered ran = always_falls (calls_control rooting_parts rooting_plan) (calls_does rooting_parts rooting_plan) (calls_of rooting_plan c.new-sharing.result) answered c.args.pool.now c.run.new.self c.args.life.now.left c.run.new.life.left share_keeps c.requires.working ran c.run.ensures.told
 
--- as it was made
-made : (e : RootingState) (x : Me) (p : Pool) (b : ℕ) → e ≡ rooting x b → x ≡ member p.start.geometry 0 → e ≡ rooting (member p.start.geometry 0) b
-made e x p b planned is = planned ∙ ap (λ (z : Me). rooting z b) is
+-- its turns, by the plan as it was made
+took : (c : After-run) → Took (calls_control rooting_parts rooting_plan) 0 c.args.pool.now (calls_of rooting_plan c.new-sharing.result) c.run.new.self → Took (calls_control rooting_parts rooting_plan) 0 c.args.pool.now (calls_of rooting_plan (rooting (member c.args.pool.now.start.geometry 0) c.args.tree)) c.run.new.self
+took c t = subst (λ (s : RootingState). Took (calls_control rooting_parts rooting_plan) 0 c.args.pool.now (calls_of rooting_plan s) c.run.new.self) (c.new-sharing.ensures ∙ ap (λ (z : Me). rooting z c.args.tree) c.me.ensures.is) t
 
 pub new-sharing-requires-clause-block : goal.new-sharing-requires-clause-block
 new-sharing-requires-clause-block c = reached_small c.args.pool.now 0 c.requires.working.work c.requires.working.run c.args.tree (c.requires.reached c.requires.some)
@@ -38,45 +41,15 @@ run-requires-clause-may c =
     plan_may rooting_plan (λ (x : Me). rooting x c.args.tree) (member c.args.pool.now.start.geometry 0) _ _ _ c.me.ensures.is c.new-sharing.ensures refl
     ShareMay (memo_of c.args.pool.now 0) (refl, c.requires.working.client, c.requires.reached c.requires.some)
 
-shared : (c : In-Some-Ok) → Answered rooting_plan (rooting (member c.args.pool.now.start.geometry 0) c.args.tree) c.args.pool.now c.run.new.self (Ok c.in-Some-Ok.root)
-shared c =
-    let p = c.args.pool.now in
-    let q = c.run.new.self in
-    let me = member p.start.geometry 0 in
-    let a = c.in-Some-Ok.field-0 in
-    answered_at rooting_plan (rooting me c.args.tree) p q _ _ a (Ok c.in-Some-Ok.root) c.in-Some-Ok.field-0-is c.requires.working c.in-Some-Ok.ensures.ran (c.in-Some-Ok.ensures.at_work tt)
-    (plan_done rooting_plan (λ (x : Me). rooting x c.args.tree) me _ _ _ c.me.ensures.is c.new-sharing.ensures refl rooting_parts 0 p q (Some a) a refl c.in-Some-Ok.ensures.leaves)
-
-spent : (c : In-Some-Err-EraSpent) → Answered rooting_plan (rooting (member c.args.pool.now.start.geometry 0) c.args.tree) c.args.pool.now c.run.new.self (Err (fault.EraSpent c.in-Some-Err-EraSpent.era))
-spent c =
-    let p = c.args.pool.now in
-    let q = c.run.new.self in
-    let me = member p.start.geometry 0 in
-    let x = c.in-Some-Err-EraSpent in
-    answered_at rooting_plan (rooting me c.args.tree) p q _ _ x.field-0 (Err (fault.EraSpent x.era)) (x.field-0-is ∙ ap Err x.field-0-0-is) c.requires.working x.ensures.ran (x.ensures.at_work tt)
-    (plan_done rooting_plan (λ (z : Me). rooting z c.args.tree) me _ _ _ c.me.ensures.is c.new-sharing.ensures refl rooting_parts 0 p q (Some x.field-0) x.field-0 refl x.ensures.leaves)
-
-full : (c : In-Some-Err-CountFull) → Answered rooting_plan (rooting (member c.args.pool.now.start.geometry 0) c.args.tree) c.args.pool.now c.run.new.self (Err (fault.CountFull c.in-Some-Err-CountFull.block c.in-Some-Err-CountFull.count))
-full c =
-    let p = c.args.pool.now in
-    let q = c.run.new.self in
-    let me = member p.start.geometry 0 in
-    let x = c.in-Some-Err-CountFull in
-    answered_at rooting_plan (rooting me c.args.tree) p q _ _ x.field-0 (Err (fault.CountFull x.block x.count)) (x.field-0-is ∙ ap Err x.field-0-0-is) c.requires.working x.ensures.ran (x.ensures.at_work tt)
-    (plan_done rooting_plan (λ (z : Me). rooting z c.args.tree) me _ _ _ c.me.ensures.is c.new-sharing.ensures refl rooting_parts 0 p q (Some x.field-0) x.field-0 refl x.ensures.leaves)
-
-roomless : (c : In-Some-Err-RootsFull) → Answered rooting_plan (rooting (member c.args.pool.now.start.geometry 0) c.args.tree) c.args.pool.now c.run.new.self (Err fault.RootsFull)
-roomless c =
-    let p = c.args.pool.now in
-    let q = c.run.new.self in
-    let me = member p.start.geometry 0 in
-    let x = c.in-Some-Err-RootsFull in
-    answered_at rooting_plan (rooting me c.args.tree) p q _ _ x.field-0 (Err fault.RootsFull) (x.field-0-is ∙ ap Err x.field-0-0-is) c.requires.working x.ensures.ran (x.ensures.at_work tt)
-    (plan_done rooting_plan (λ (z : Me). rooting z c.args.tree) me _ _ _ c.me.ensures.is c.new-sharing.ensures refl rooting_parts 0 p q (Some x.field-0) x.field-0 refl x.ensures.leaves)
+-- what is left where it answered a, which is b
+left : (c : After-run) (a b : Result ℕ ShareFault) → a ≡ b → Ran 0 true true c.args.pool.now c.run.new.self c.args.life.now.left c.run.new.life.left → IsAtWork 0 c.run.new.self → MachineLeft rooting_parts rooting_plan (calls_of rooting_plan c.new-sharing.result) 0 c.args.pool.now c.run.new.self (Some a)
+    → Answered rooting_plan (rooting (member c.args.pool.now.start.geometry 0) c.args.tree) c.args.pool.now c.run.new.self b
+left c a b is ran at h = plan_answered rooting_parts rooting_plan (λ (z : Me). rooting z c.args.tree) c.args.pool.now c.run.new.self a c.me.ensures.is c.new-sharing.ensures is c.requires.working ran at h
 
 pub unreachable-requires : goal.unreachable-requires
 unreachable-requires c =
-    let (es, on, h) = roomless (goal.at.unreachable-requires c).In-Some-Err-RootsFull in
+    let x = c.in-Some-Err-RootsFull in
+    let (es, on, h) = left (goal.at.unreachable-requires c).After-run x.field-0 (Err fault.RootsFull) (x.field-0-is ∙ ap Err x.field-0-0-is) x.ensures.ran (x.ensures.at_work tt) x.ensures.leaves in
     share_room c.args.pool.now c.run.new.self es on c.args.tree c.requires.room h
 
 pub returns-in-None : goal.returns-in-None
@@ -91,7 +64,8 @@ returns-in-None c =
       still = tt;
       steps = tt;
       cause = tt;
-      died = λ e. c.in-None.ensures.ran.died refl;
+      died = died_ran _ c.in-None.ensures.ran;
+      begun = λ e. unanswered c.args.pool.now c.run.new.self c.in-None.ensures.ran;
     }
 
 pub returns-in-Some-Ok : goal.returns-in-Some-Ok
@@ -99,19 +73,21 @@ returns-in-Some-Ok c =
     let p = c.args.pool.now in
     let q = c.run.new.self in
     let b = c.args.tree in
-    let k = c.in-Some-Ok.root in
-    let (es, on, h) = shared (goal.at.returns-in-Some-Ok c).In-Some-Ok in
+    let x = c.in-Some-Ok in
+    let k = x.root in
+    let (es, on, h) = left (goal.at.returns-in-Some-Ok c).After-run x.field-0 (Ok k) x.field-0-is x.ensures.ran (x.ensures.at_work tt) x.ensures.leaves in
     record {
-      went = went_alive true p q _ _ c.in-Some-Ok.ensures.ran (c.in-Some-Ok.ensures.at_work tt) (falls (goal.at.returns-in-Some-Ok c).After-run true c.in-Some-Ok.ensures.ran);
+      went = went_alive true p q _ _ x.ensures.ran (x.ensures.at_work tt) (falls (goal.at.returns-in-Some-Ok c).After-run true x.ensures.ran);
       working = share_works p q es on b (Ok k) h;
       latch = share_latch p q es on b (Ok k) h;
       reaches = share_reaches p q es on b (Ok k) h;
       block = refl;
       shared = share_shared p q es on b k h;
       still = tt;
-      steps = share_within p q b _ _ es (Ok k) c.requires.working (refl, c.requires.working.client, c.requires.reached c.requires.some) (subst (λ (s : RootingState). Took (calls_control rooting_parts rooting_plan) 0 p (calls_of rooting_plan s) q) (made c.new-sharing.result c.me.result p b c.new-sharing.ensures c.me.ensures.is) c.in-Some-Ok.ensures.took) c.in-Some-Ok.ensures.ran h;
+      steps = share_within p q b _ _ es (Ok k) c.requires.working (refl, c.requires.working.client, c.requires.reached c.requires.some) (took (goal.at.returns-in-Some-Ok c).After-run x.ensures.took) x.ensures.ran h;
       cause = tt;
       died = tt;
+      begun = tt;
     }
 
 pub returns-in-Some-Err-EraSpent : goal.returns-in-Some-Err-EraSpent
@@ -121,7 +97,7 @@ returns-in-Some-Err-EraSpent c =
     let b = c.args.tree in
     let x = c.in-Some-Err-EraSpent in
     let f = fault.EraSpent x.era in
-    let (es, on, h) = spent (goal.at.returns-in-Some-Err-EraSpent c).In-Some-Err-EraSpent in
+    let (es, on, h) = left (goal.at.returns-in-Some-Err-EraSpent c).After-run x.field-0 (Err f) (x.field-0-is ∙ ap Err x.field-0-0-is) x.ensures.ran (x.ensures.at_work tt) x.ensures.leaves in
     record {
       went = went_alive true p q _ _ x.ensures.ran (x.ensures.at_work tt) (falls (goal.at.returns-in-Some-Err-EraSpent c).After-run true x.ensures.ran);
       working = share_works p q es on b (Err f) h;
@@ -130,9 +106,10 @@ returns-in-Some-Err-EraSpent c =
       block = tt;
       shared = tt;
       still = share_still p q es on b f h;
-      steps = share_within p q b _ _ es (Err f) c.requires.working (refl, c.requires.working.client, c.requires.reached c.requires.some) (subst (λ (s : RootingState). Took (calls_control rooting_parts rooting_plan) 0 p (calls_of rooting_plan s) q) (made c.new-sharing.result c.me.result p b c.new-sharing.ensures c.me.ensures.is) x.ensures.took) x.ensures.ran h;
+      steps = share_within p q b _ _ es (Err f) c.requires.working (refl, c.requires.working.client, c.requires.reached c.requires.some) (took (goal.at.returns-in-Some-Err-EraSpent c).After-run x.ensures.took) x.ensures.ran h;
       cause = inr (inr (inl (share_cause p q es on b f h)));
-      died = λ e. cc;
+      died = λ e. absurd cc;
+      begun = λ e. absurd cc;
     }
 
 pub returns-in-Some-Err-CountFull : goal.returns-in-Some-Err-CountFull
@@ -142,7 +119,7 @@ returns-in-Some-Err-CountFull c =
     let b = c.args.tree in
     let x = c.in-Some-Err-CountFull in
     let f = fault.CountFull x.block x.count in
-    let (es, on, h) = full (goal.at.returns-in-Some-Err-CountFull c).In-Some-Err-CountFull in
+    let (es, on, h) = left (goal.at.returns-in-Some-Err-CountFull c).After-run x.field-0 (Err f) (x.field-0-is ∙ ap Err x.field-0-0-is) x.ensures.ran (x.ensures.at_work tt) x.ensures.leaves in
     record {
       went = went_alive true p q _ _ x.ensures.ran (x.ensures.at_work tt) (falls (goal.at.returns-in-Some-Err-CountFull c).After-run true x.ensures.ran);
       working = share_works p q es on b (Err f) h;
@@ -151,7 +128,8 @@ returns-in-Some-Err-CountFull c =
       block = tt;
       shared = tt;
       still = share_still p q es on b f h;
-      steps = share_within p q b _ _ es (Err f) c.requires.working (refl, c.requires.working.client, c.requires.reached c.requires.some) (subst (λ (s : RootingState). Took (calls_control rooting_parts rooting_plan) 0 p (calls_of rooting_plan s) q) (made c.new-sharing.result c.me.result p b c.new-sharing.ensures c.me.ensures.is) x.ensures.took) x.ensures.ran h;
+      steps = share_within p q b _ _ es (Err f) c.requires.working (refl, c.requires.working.client, c.requires.reached c.requires.some) (took (goal.at.returns-in-Some-Err-CountFull c).After-run x.ensures.took) x.ensures.ran h;
       cause = inr (share_cause p q es on b f h);
-      died = λ e. cc;
+      died = λ e. absurd cc;
+      begun = λ e. absurd cc;
     }

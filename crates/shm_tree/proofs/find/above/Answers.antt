@@ -2,7 +2,7 @@ use Rattle.std.proofs.Common.{◌≡◌, ℕ, ◌≤◌, ◌∙◌, subst, arith
 use Rattle.shm_tree.specs.Standing.{Stands, weight}
 use Rattle.shm_tree.specs.Ways.{down}
 use Rattle.shm_tree.proofs.Answering.{node_still, reached_then}
-use Rattle.shm_tree.proofs.Building.{looked, looked_none, looked_then, went_on}
+use Rattle.shm_tree.proofs.Building.{looked, looked_none, looked_then, looks_after, looks_done, looks_from}
 use Rattle.shm_tree.proofs.Descents.{level_light, level_stands}
 use Rattle.shm_tree.proofs.Ways.{some_node}
 use Rattle.shm_tree.proofs.find.above.Goals as goal
@@ -25,10 +25,10 @@ child-requires c =
     let some = c.requires.deep t.0 t.1 c.loop-level._level (omega arith) in
     let node = some_node c.loop-level.pool c.loop-level.node _ (r.stands t.0 t.1) some in
     record {
-      working = a.working;
-      latch = a.latch ∙ (r.passed.latch ∙ c.requires.latch);
-      node = node_still c.loop-level.pool c.key.new.pool c.loop-level.node a.still node;
-      reached = reached_then c.loop-level.pool c.key.new.pool c.loop-level.node r.reached a.reaches;
+      working = a.looks.working;
+      latch = a.looks.latch ∙ (r.passed.latch ∙ c.requires.latch);
+      node = node_still c.loop-level.pool c.key.new.pool c.loop-level.node a.looks.still node;
+      reached = reached_then c.loop-level.pool c.key.new.pool c.loop-level.node r.reached a.looks.reaches;
     }
 
 pub loop-level-preserved : goal.loop-level-preserved
@@ -40,13 +40,13 @@ loop-level-preserved c =
     let x = c.args.wanted in
     let d = c.loop-level._level in
     record {
-      passed = looked_then run (looked_then run r.passed (looked a.went a.working a.latch a.still a.reaches)) (looked b.went b.working b.latch b.still b.reaches);
+      passed = looked_then run (looked_then run r.passed (looked a.looks)) (looked b.looks);
       steps = let s = r.steps in let u = a.steps in let v = b.steps in omega (arith, s, u, v);
       reached = b.reached;
-      stands = λ t st. level_stands c.loop-level.pool c.key.new.pool c.child.new.pool c.loop-level.node c.in_ok-node.node x c.in_ok-here.here c.of.result a.still b.still a.is c.of.ensures b.names t d (r.stands t st) (c.requires.deep t st d (omega arith));
+      stands = λ t st. level_stands c.loop-level.pool c.key.new.pool c.child.new.pool c.loop-level.node c.in_ok-node.node x c.in_ok-here.here c.of.result a.looks.still b.looks.still a.is c.of.ensures b.names t d (r.stands t st) (c.requires.deep t st d (omega arith));
       light =
           λ f t st.
-          (let a1 = level_light c.loop-level.pool c.key.new.pool c.child.new.pool c.loop-level.node c.in_ok-node.node x c.in_ok-here.here c.of.result a.still b.still a.is c.of.ensures b.names f t d (r.stands t st) (c.requires.deep t st d (omega arith)) in
+          (let a1 = level_light c.loop-level.pool c.key.new.pool c.child.new.pool c.loop-level.node c.in_ok-node.node x c.in_ok-here.here c.of.result a.looks.still b.looks.still a.is c.of.ensures b.names f t d (r.stands t st) (c.requires.deep t st d (omega arith)) in
           let a2 = r.light f t st in
           omega (arith, a1, a2));
     }
@@ -56,22 +56,20 @@ returns c =
     let r = c.loop-level.invariant in
     let all : c.loop-level._level ≡ c.args.depth = omega arith in
     record {
-      went = r.passed.went;
-      working = r.passed.working;
-      latch = r.passed.latch;
-      still = r.passed.still;
-      reaches = r.passed.reaches;
-      died = tt;
+      looks = looks_done _ r.passed;
       steps = let s = r.steps in omega (arith, s, all);
       stands = λ t st. subst (λ (i : ℕ). Stands c.loop-level.pool c.loop-level.node (down c.args.wanted t i)) all (r.stands t st);
       reached = r.reached;
       light = λ f t st. subst (λ (i : ℕ). weight f c.loop-level.pool c.loop-level.node (down c.args.wanted t i) ≤ weight f c.args.pool.now c.args.tree t) all (r.light f t st);
     }
 
-pub returns-in_err-here-clause-went : goal.returns-in_err-here-clause-went
-returns-in_err-here-clause-went c = went_on c.requires.working.run c.loop-level.invariant.passed.went c.in_err-here.ensures.went
+pub returns-in_err-here-clause-looks : goal.returns-in_err-here-clause-looks
+returns-in_err-here-clause-looks c =
+    let r = c.loop-level.invariant.passed in
+    looks_from c.from_residual.result c.from_residual.ensures.1 (looks_after c.requires.working.run r.went r.latch c.in_err-here.ensures.looks)
 
-pub returns-in_err-node-clause-went : goal.returns-in_err-node-clause-went
-returns-in_err-node-clause-went c =
+pub returns-in_err-node-clause-looks : goal.returns-in_err-node-clause-looks
+returns-in_err-node-clause-looks c =
     let run = c.requires.working.run in
-    went_on run (went_on run c.loop-level.invariant.passed.went c.in_ok-here.ensures.went) c.in_err-node.ensures.went
+    let r = looked_then run c.loop-level.invariant.passed (looked c.in_ok-here.ensures.looks) in
+    looks_from c.from_residual-in_err-node.result c.from_residual-in_err-node.ensures.1 (looks_after run r.went r.latch c.in_err-node.ensures.looks)

@@ -4,7 +4,7 @@ use Rattle.shm_tree.specs.Standing.{Stands}
 use Rattle.shm_tree.specs.Trees.{Tree}
 use Rattle.shm_tree.specs.Ways.{IsOther, IsSome, down}
 use Rattle.shm_tree.proofs.Answering.{node_still, reached_then}
-use Rattle.shm_tree.proofs.Building.{looked, looked_none, looked_then, went_on}
+use Rattle.shm_tree.proofs.Building.{looked, looked_none, looked_then, looks_after, looks_done, looks_from}
 use Rattle.shm_tree.proofs.Descents.{level_light, level_lower, level_stands, none_end, others_deep, way_low}
 use Rattle.shm_tree.proofs.Ways.{key_end, key_other, stands_node}
 use Rattle.shm_tree.proofs.Weights.{weight_nodes}
@@ -38,10 +38,10 @@ child-requires c =
     let t = c.requires.tree.0 in
     let node = (stands_node c.loop-node.pool c.loop-node.node _ (r.stands t.0 t.1) c.loop-node-test.true).0 in
     record {
-      working = a.working;
-      latch = a.latch ∙ (r.passed.latch ∙ c.requires.latch);
-      node = node_still c.loop-node.pool c.key.new.pool c.loop-node.node a.still node;
-      reached = reached_then c.loop-node.pool c.key.new.pool c.loop-node.node r.reached a.reaches;
+      working = a.looks.working;
+      latch = a.looks.latch ∙ (r.passed.latch ∙ c.requires.latch);
+      node = node_still c.loop-node.pool c.key.new.pool c.loop-node.node a.looks.still node;
+      reached = reached_then c.loop-node.pool c.key.new.pool c.loop-node.node r.reached a.looks.reaches;
     }
 
 pub loop-node-preserved : goal.loop-node-preserved
@@ -58,13 +58,13 @@ loop-node-preserved c =
     let other : (t : Tree) → Stands c.args.pool.now c.args.tree t → IsOther x (down x t d) =
     λ t st. key_other p c.loop-node.node x c.in_ok-here.here (down x t d) (r.stands t st) (some t st) a.is (λ e. omega arith) in
     record {
-      passed = looked_then run (looked_then run r.passed (looked a.went a.working a.latch a.still a.reaches)) (looked b.went b.working b.latch b.still b.reaches);
+      passed = looked_then run (looked_then run r.passed (looked a.looks)) (looked b.looks);
       steps = let s = r.steps in let u = a.steps in let v = b.steps in omega (arith, s, u, v);
       reached = b.reached;
-      stands = λ t st. level_stands p q c.child.new.pool c.loop-node.node c.in_ok-node.node x c.in_ok-here.here c.of.result a.still b.still a.is c.of.ensures b.names t d (r.stands t st) (some t st);
+      stands = λ t st. level_stands p q c.child.new.pool c.loop-node.node c.in_ok-node.node x c.in_ok-here.here c.of.result a.looks.still b.looks.still a.is c.of.ensures b.names t d (r.stands t st) (some t st);
       light =
           λ f t st.
-          (let a1 = level_light p q c.child.new.pool c.loop-node.node c.in_ok-node.node x c.in_ok-here.here c.of.result a.still b.still a.is c.of.ensures b.names f t d (r.stands t st) (some t st) in
+          (let a1 = level_light p q c.child.new.pool c.loop-node.node c.in_ok-node.node x c.in_ok-here.here c.of.result a.looks.still b.looks.still a.is c.of.ensures b.names f t d (r.stands t st) (some t st) in
           let a2 = r.light f t st in
           omega (arith, a1, a2));
       on =
@@ -84,7 +84,7 @@ loop-node-smaller c =
     let d = c.loop-node.depth in
     let t = c.requires.tree.0 in
     let st = r.stands t.0 t.1 in
-    level_lower p c.key.new.pool c.child.new.pool c.loop-node.node c.in_ok-node.node x c.in_ok-here.here c.of.result a.still b.still a.is c.of.ensures b.names t.0 d st (stands_node p c.loop-node.node (down x t.0 d) st c.loop-node-test.true).1
+    level_lower p c.key.new.pool c.child.new.pool c.loop-node.node c.in_ok-node.node x c.in_ok-here.here c.of.result a.looks.still b.looks.still a.is c.of.ensures b.names t.0 d st (stands_node p c.loop-node.node (down x t.0 d) st c.loop-node-test.true).1
 
 pub overflow_add-depth : goal.overflow_add-depth
 overflow_add-depth c =
@@ -103,12 +103,7 @@ returns c =
     let d = c.loop-node.depth in
     let t = c.requires.tree.0 in
     record {
-      went = r.passed.went;
-      working = r.passed.working;
-      latch = r.passed.latch;
-      still = r.passed.still;
-      reaches = r.passed.reaches;
-      died = tt;
+      looks = looks_done _ r.passed;
       steps = let s = r.steps in omega (arith, s);
       place = λ u su. record { stands = r.stands u su; end = none_end p c.loop-node.node x (down x u d) (r.stands u su) (omega arith); on = r.on u su };
       low = way_low c.args.pool.now c.args.tree x d t.0 c.requires.working t.1 (others_deep x d t.0 (r.on t.0 t.1));
@@ -125,34 +120,32 @@ returns-then-here-from c =
     let d = c.loop-node.depth in
     let t = c.requires.tree.0 in
     let run = c.requires.working.run in
-    let read = looked_then run r.passed (looked a.went a.working a.latch a.still a.reaches) in
+    let read = looked_then run r.passed (looked a.looks) in
     record {
-      went = read.went;
-      working = read.working;
-      latch = read.latch;
-      still = read.still;
-      reaches = read.reaches;
-      died = tt;
+      looks = looks_done _ read;
       steps = let s = r.steps in let u = a.steps in omega (arith, s, u);
       place =
           λ u su. record {
-            stands = a.still.trees c.loop-node.node (down x u d) (r.stands u su);
+            stands = a.looks.still.trees c.loop-node.node (down x u d) (r.stands u su);
             end = key_end p c.loop-node.node x c.in_ok-here.here (down x u d) (r.stands u su) a.is (omega arith);
             on = r.on u su;
           };
       low = way_low c.args.pool.now c.args.tree x d t.0 c.requires.working t.1 (others_deep x d t.0 (r.on t.0 t.1));
-      reached = reached_then p c.key.new.pool c.loop-node.node r.reached a.reaches;
+      reached = reached_then p c.key.new.pool c.loop-node.node r.reached a.looks.reaches;
       light =
           λ f u su.
-          (let a1 = weight_nodes f p c.key.new.pool a.still.nodes c.loop-node.node (down x u d) (r.stands u su) in
+          (let a1 = weight_nodes f p c.key.new.pool a.looks.still.nodes c.loop-node.node (down x u d) (r.stands u su) in
           let a2 = r.light f u su in
           omega (arith, a1, a2));
     }
 
-pub returns-in_err-here-clause-went : goal.returns-in_err-here-clause-went
-returns-in_err-here-clause-went c = went_on c.requires.working.run c.loop-node.invariant.passed.went c.in_err-here.ensures.went
+pub returns-in_err-here-clause-looks : goal.returns-in_err-here-clause-looks
+returns-in_err-here-clause-looks c =
+    let r = c.loop-node.invariant.passed in
+    looks_from c.from_residual.result c.from_residual.ensures.1 (looks_after c.requires.working.run r.went r.latch c.in_err-here.ensures.looks)
 
-pub returns-in_err-node-clause-went : goal.returns-in_err-node-clause-went
-returns-in_err-node-clause-went c =
+pub returns-in_err-node-clause-looks : goal.returns-in_err-node-clause-looks
+returns-in_err-node-clause-looks c =
     let run = c.requires.working.run in
-    went_on run (went_on run c.loop-node.invariant.passed.went c.in_ok-here.ensures.went) c.in_err-node.ensures.went
+    let r = looked_then run c.loop-node.invariant.passed (looked c.in_ok-here.ensures.looks) in
+    looks_from c.from_residual-in_err-node.result c.from_residual-in_err-node.ensures.1 (looks_after run r.went r.latch c.in_err-node.ensures.looks)

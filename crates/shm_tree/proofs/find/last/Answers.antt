@@ -4,7 +4,7 @@ use Rattle.shm_tree.specs.Standing.{Stands}
 use Rattle.shm_tree.specs.Trees.{Tree}
 use Rattle.shm_tree.specs.Ways.{IsSome, down, toward}
 use Rattle.shm_tree.proofs.Answering.{reached_then}
-use Rattle.shm_tree.proofs.Building.{looked, looked_then, went_on}
+use Rattle.shm_tree.proofs.Building.{looked, looked_then, looks_after, looks_done, looks_from}
 use Rattle.shm_tree.proofs.Descents.{way_low}
 use Rattle.shm_tree.proofs.Levels.{behind}
 use Rattle.shm_tree.proofs.Onward.{left_child, right_child, some_end}
@@ -26,13 +26,13 @@ loop-next-init c =
     let n = c.in_ok-next.next in
     let none : d - d ≡ 0 = omega arith in
     record {
-      passed = looked u.went u.working u.latch u.still u.reaches;
-      reached = reached_then p q b c.requires.reached u.reaches;
+      passed = looked u.looks;
+      reached = reached_then p q b c.requires.reached u.looks.reaches;
       next_reached = u.reached;
       steps = (let s = u.steps in omega (arith, s));
       below = omega arith;
-      stands = λ x t st se en. subst (λ (i : ℕ). Stands q b (down x t i)) (sym none) (u.still.trees b t st);
-      next = λ x t st se en. subst (λ (i : ℕ). Stands q n (down x t (suc i))) (sym none) (right_child p q b n x t u.still u.names en c.requires.some st);
+      stands = λ x t st se en. subst (λ (i : ℕ). Stands q b (down x t i)) (sym none) (u.looks.still.trees b t st);
+      next = λ x t st se en. subst (λ (i : ℕ). Stands q n (down x t (suc i))) (sym none) (right_child p q b n x t u.looks.still u.names en c.requires.some st);
       deep = λ x t st se en i lt. (let is : i ≡ 0 = omega (arith, lt) in subst (λ (k : ℕ). IsSome (down x t k)) (sym is) (stands_node p b t st c.requires.some).1);
     }
 
@@ -63,13 +63,13 @@ loop-next-preserved c =
     let is : (c.loop-next.lowest.depth + 1) - d ≡ suc j = omega arith in
     let some = c.loop-next-test.true in
     record {
-      passed = looked_then run r.passed (looked u.went u.working u.latch u.still u.reaches);
-      reached = reached_then q v b r.next_reached u.reaches;
+      passed = looked_then run r.passed (looked u.looks);
+      reached = reached_then q v b r.next_reached u.looks.reaches;
       next_reached = u.reached;
       steps = (let s = r.steps in let v = u.steps in omega (arith, s, v, below));
       below = omega arith;
-      stands = λ x t st se en. subst (λ (i : ℕ). Stands v b (down x t i)) (sym is) (u.still.trees b (down x t (suc j)) (r.next x t st se en));
-      next = λ x t st se en. subst (λ (i : ℕ). Stands v n (down x t (suc i))) (sym is) (left_child q v b n x (down x t (suc j)) u.still u.names (behind x t j se en) some (r.next x t st se en));
+      stands = λ x t st se en. subst (λ (i : ℕ). Stands v b (down x t i)) (sym is) (u.looks.still.trees b (down x t (suc j)) (r.next x t st se en));
+      next = λ x t st se en. subst (λ (i : ℕ). Stands v n (down x t (suc i))) (sym is) (left_child q v b n x (down x t (suc j)) u.looks.still u.names (behind x t j se en) some (r.next x t st se en));
       deep =
           λ x t st se en i lt. elim (cases_eq i (suc j)) [
             | inl e ↦ subst (λ (k : ℕ). IsSome (down x t k)) (sym e) (stands_node q b (down x t (suc j)) (r.next x t st se en) some).1
@@ -90,7 +90,7 @@ loop-next-smaller c =
     let x = some_end t.0 in
     let here = r.next x.0 t.0 t.1 t.2 x.1 in
     let w : Tree = down x.0 t.0 (suc j) in
-    let there : Stands v n (toward x.0 w) = left_child q v b n x.0 w u.still u.names (behind x.0 t.0 j t.2 x.1) c.loop-next-test.true here in
+    let there : Stands v n (toward x.0 w) = left_child q v b n x.0 w u.looks.still u.names (behind x.0 t.0 j t.2 x.1) c.loop-next-test.true here in
     omega (arith, height_at_is v n (toward x.0 w) there, height_at_is q b w here, toward_lower x.0 w (stands_node q b w here c.loop-next-test.true).1)
 
 pub overflow_add-lowest : goal.overflow_add-lowest
@@ -109,17 +109,17 @@ returns c =
     let r = c.loop-next.invariant in
     let q = c.loop-next.pool in
     record {
-      went = r.passed.went;
-      working = r.passed.working;
-      latch = r.passed.latch;
-      still = r.passed.still;
-      reaches = r.passed.reaches;
-      died = tt;
+      looks = looks_done _ r.passed;
       steps = r.steps;
       below = r.below;
       last = λ x t st se en. record { stands = r.stands x t st se en; deep = r.deep x t st se en; end = stands_none q c.loop-next.next _ (r.next x t st se en) (omega arith) };
       reached = r.reached;
     }
 
-pub returns-in_err-next-2-clause-went : goal.returns-in_err-next-2-clause-went
-returns-in_err-next-2-clause-went c = went_on c.requires.working.run c.loop-next.invariant.passed.went c.in_err-next-2.ensures.went
+pub returns-in_err-next-clause-looks : goal.returns-in_err-next-clause-looks
+returns-in_err-next-clause-looks c = looks_from c.from_residual.result c.from_residual.ensures.1 c.in_err-next.ensures.looks
+
+pub returns-in_err-next-2-clause-looks : goal.returns-in_err-next-2-clause-looks
+returns-in_err-next-2-clause-looks c =
+    let r = c.loop-next.invariant.passed in
+    looks_from c.from_residual-in_err-next-2.result c.from_residual-in_err-next-2.ensures.1 (looks_after c.requires.working.run r.went r.latch c.in_err-next-2.ensures.looks)

@@ -1,5 +1,5 @@
 use Rattle.std.proofs.Common.{◌∙◌, sym, arith, ◌≤◌}
-use Rattle.shm_tree.proofs.Building.{looked, looked_then, went_on}
+use Rattle.shm_tree.proofs.Building.{looked, looked_then, looks_after, looks_done, looks_from}
 use Rattle.shm_tree.specs.Standing.{Stands}
 use Rattle.shm_tree.specs.Trees.{Tree, height}
 use Rattle.shm_tree.proofs.Descents.{others_deep}
@@ -14,7 +14,7 @@ pub number-requires : goal.number-requires
 number-requires c =
     let f = c.in_ok-place.ensures in
     let t = c.requires.tree.0 in
-    record { working = f.working; node = (stands_node c.find.new.pool c.in_ok-place.place.node _ (f.place t.0 t.1).stands (omega arith)).0; reached = f.reached }
+    record { working = f.looks.working; node = (stands_node c.find.new.pool c.in_ok-place.place.node _ (f.place t.0 t.1).stands (omega arith)).0; reached = f.reached }
 
 -- the place is at most as deep as the tree is high
 depth_high : (c : In_ok-place) (t : Tree) → Stands c.args.pool.now c.args.tree t → c.in_ok-place.place.depth ≤ height t
@@ -28,12 +28,7 @@ returns-then-place-eq0 c =
     let f = c.in_ok-place.ensures in
     let x = c.args.wanted in
     record {
-      went = f.went;
-      working = f.working;
-      latch = f.latch;
-      still = f.still;
-      reaches = f.reaches;
-      died = tt;
+      looks = looks_done _ (looked f.looks);
       steps = λ t st. (let d = depth_high (goal.at.returns-then-place-eq0 c).In_ok-place t st in let s = f.steps in omega (arith, d, s));
       is = λ t st. (let w = f.place t st in end_none c.find.new.pool c.in_ok-place.place.node x _ w.stands (omega arith) ∙ sym (down_found x t c.in_ok-place.place.depth w.on));
     }
@@ -44,17 +39,17 @@ returns-in_ok-number c =
     let n = c.in_ok-number.ensures in
     let run = c.requires.working.run in
     let x = c.args.wanted in
-    let read = looked_then run (looked f.went f.working f.latch f.still f.reaches) (looked n.went n.working n.latch n.still n.reaches) in
+    let read = looked_then run (looked f.looks) (looked n.looks) in
     record {
-      went = read.went;
-      working = read.working;
-      latch = read.latch;
-      still = read.still;
-      reaches = read.reaches;
-      died = tt;
+      looks = looks_done _ read;
       steps = λ t st. (let d = depth_high (goal.at.returns-in_ok-number c).In_ok-place t st in let s = f.steps in let u = n.steps in omega (arith, d, s, u));
       is = λ t st. (let w = f.place t st in end_some c.find.new.pool c.in_ok-place.place.node x c.in_ok-number.number _ w.stands w.end (omega arith) n.is ∙ sym (down_found x t c.in_ok-place.place.depth w.on));
     }
 
-pub returns-in_err-number-clause-went : goal.returns-in_err-number-clause-went
-returns-in_err-number-clause-went c = went_on c.requires.working.run c.in_ok-place.ensures.went c.in_err-number.ensures.went
+pub returns-in_err-place-clause-looks : goal.returns-in_err-place-clause-looks
+returns-in_err-place-clause-looks c = looks_from c.from_residual.result c.from_residual.ensures.1 c.in_err-place.ensures.looks
+
+pub returns-in_err-number-clause-looks : goal.returns-in_err-number-clause-looks
+returns-in_err-number-clause-looks c =
+    let f = c.in_ok-place.ensures.looks in
+    looks_from c.from_residual-in_err-number.result c.from_residual-in_err-number.ensures.1 (looks_after c.requires.working.run f.went f.latch c.in_err-number.ensures.looks)

@@ -9,7 +9,7 @@ use Rattle.shm_tree.specs.Trees.{Tree}
 use Rattle.shm_tree.specs.Keeping.{child_of}
 use Rattle.shm_tree.specs.declared.node.Pair.{Pair}
 use Rattle.shm_tree.specs.declared.node.Side.TheVariants.{Left, Right}
-use Rattle.shm_tree.proofs.Building.{looked_none, ok_kept}
+use Rattle.shm_tree.proofs.Building.{looked_none, looks_done, ok_kept}
 use Rattle.shm_tree.proofs.Inserting.{no_trees, node_trees}
 use Rattle.shm_tree.proofs.Rotations.{node_of}
 use Rattle.shm_tree.proofs.Counts.{taken_most}
@@ -20,12 +20,7 @@ returns-then-node-eq0 c =
     let p = c.args.pool.now in
     let n = looked_none p c.args.life.now.left c.requires.working in
     record {
-      went = n.went;
-      working = c.requires.working;
-      latch = refl;
-      still = n.still;
-      reaches = λ b h. h;
-      died = tt;
+      looks = looks_done _ n;
       steps = omega arith;
       near = λ t s. (no_trees p c.args.node t (omega arith) s).0;
       far = λ t s. (no_trees p c.args.node t (omega arith) s).1;
@@ -46,12 +41,7 @@ returns-else-node-eq0 c =
     let p = c.args.pool.now in
     let u = c.children.ensures in
     record {
-      went = u.went;
-      working = u.working;
-      latch = u.latch;
-      still = u.still;
-      reaches = u.reaches;
-      died = u.died;
+      looks = u.looks;
       steps = taken_most 6 c.args.life.now.left c.children.new.life.left c.children.result u.steps;
       near = ok_kept {T = Pair} {P = λ w. w.near ≡ child_of p c.args.node Left} {Q = λ w. (t : Tree) → Stands p c.args.node t → Stands p w.near (left_of t)} _ (λ w e t s. subst (λ k. Stands p k (left_of t)) (sym e) (node_trees p c.args.node t (omega arith) s).0) u.near;
       far = ok_kept {T = Pair} {P = λ w. w.far ≡ child_of p c.args.node Right} {Q = λ w. (t : Tree) → Stands p c.args.node t → Stands p w.far (right_of t)} _ (λ w e t s. subst (λ k. Stands p k (right_of t)) (sym e) (node_trees p c.args.node t (omega arith) s).1) u.far;

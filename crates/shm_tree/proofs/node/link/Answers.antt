@@ -13,35 +13,36 @@ use Rattle.shm_tree.proofs.Answering.{alive_died, alive_map, cause_after, cause_
 use Rattle.shm_tree.proofs.Counts.{both_taken, node_taken, one_taken}
 use Rattle.shm_tree.proofs.Links.{born_grown, born_refers, born_still, heights_fit, linked_of, still_born, still_grown, still_then, went_then}
 use Rattle.shm_tree.proofs.Unnamed.{tree_other}
+use Rattle.shm_tree.proofs.CutOffs.{died_then, look_died}
 use Rattle.shm_tree.proofs.node.link.Goals.{In_ok-near, In_ok-far, In_ok-made, In_ok-refer}
 use Rattle.shm_tree.proofs.node.link.Goals as goal
 
 -- ---- before the node is made
 
 pub height-requires-2-clause-tree : goal.height-requires-2-clause-tree
-height-requires-2-clause-tree c = tree_still c.args.pool.now c.height.new.pool c.args.trees.far c.in_ok-near.ensures.still c.requires.far
+height-requires-2-clause-tree c = tree_still c.args.pool.now c.height.new.pool c.args.trees.far c.in_ok-near.ensures.looks.still c.requires.far
 
 pub height-requires-2-clause-reached : goal.height-requires-2-clause-reached
-height-requires-2-clause-reached c = reached_then c.args.pool.now c.height.new.pool c.args.trees.far c.requires.far_reached c.in_ok-near.ensures.reaches
+height-requires-2-clause-reached c = reached_then c.args.pool.now c.height.new.pool c.args.trees.far c.requires.far_reached c.in_ok-near.ensures.looks.reaches
 
 -- the heights are those of the trees as they stood before
 nears : (c : In_ok-near) → (t : Tree) → Stands c.args.pool.now c.args.trees.near t → c.in_ok-near.near ≡ height t
 nears c t y = c.in_ok-near.ensures.is t y
 
 fars : (c : In_ok-far) → (t : Tree) → Stands c.args.pool.now c.args.trees.far t → c.in_ok-far.far ≡ height t
-fars c t y = c.in_ok-far.ensures.is t (c.in_ok-near.ensures.still.trees c.args.trees.far t y)
+fars c t y = c.in_ok-far.ensures.is t (c.in_ok-near.ensures.looks.still.trees c.args.trees.far t y)
 
 still_far : (c : In_ok-far) → IsStill c.args.pool.now c.height-2.new.pool
-still_far c = still_then c.args.pool.now c.height.new.pool c.height-2.new.pool c.requires.working c.in_ok-near.ensures.working c.in_ok-near.ensures.went.start c.in_ok-near.ensures.still c.in_ok-far.ensures.still
+still_far c = still_then c.args.pool.now c.height.new.pool c.height-2.new.pool c.requires.working c.in_ok-near.ensures.looks.working c.in_ok-near.ensures.looks.went.start c.in_ok-near.ensures.looks.still c.in_ok-far.ensures.looks.still
 
 went_far : (c : In_ok-far) → Went c.args.pool.now c.height-2.new.pool c.args.life.now.left c.height-2.new.life.left
-went_far c = went_then c.args.pool.now c.height.new.pool c.height-2.new.pool _ _ _ c.requires.working.run c.in_ok-near.ensures.went c.in_ok-far.ensures.went
+went_far c = went_then c.args.pool.now c.height.new.pool c.height-2.new.pool _ _ _ c.requires.working.run c.in_ok-near.ensures.looks.went c.in_ok-far.ensures.looks.went
 
 latch_far : (c : In_ok-far) → IsSameLatch c.args.pool.now c.height-2.new.pool
-latch_far c = c.in_ok-far.ensures.latch ∙ c.in_ok-near.ensures.latch
+latch_far c = c.in_ok-far.ensures.looks.latch ∙ c.in_ok-near.ensures.looks.latch
 
 reaches_far : (c : In_ok-far) → Reaches c.args.pool.now c.height-2.new.pool
-reaches_far c = reaches_then c.args.pool.now c.height.new.pool c.height-2.new.pool c.in_ok-near.ensures.reaches c.in_ok-far.ensures.reaches
+reaches_far c = reaches_then c.args.pool.now c.height.new.pool c.height-2.new.pool c.in_ok-near.ensures.looks.reaches c.in_ok-far.ensures.looks.reaches
 
 pub overflow_add-high : goal.overflow_add-high
 overflow_add-high c =
@@ -63,7 +64,7 @@ made c = subst (λ z. IsMade c.args.content (1 + z) c.in_ok-made.made c.height-2
 born : (c : In_ok-made) → IsBorn c.in_ok-made.made c.args.pool.now c.make.new.pool
 born c =
     let at = (goal.at.In_ok-made c).In_ok-far in
-    still_born c.args.pool.now c.height-2.new.pool c.make.new.pool c.requires.working c.in_ok-far.ensures.working (went_far at).start c.in_ok-made.made (still_far at) c.in_ok-made.ensures.made.born
+    still_born c.args.pool.now c.height-2.new.pool c.make.new.pool c.requires.working c.in_ok-far.ensures.looks.working (went_far at).start c.in_ok-made.made (still_far at) c.in_ok-made.ensures.made.born
 
 went_made : (c : In_ok-made) → Went c.args.pool.now c.make.new.pool c.args.life.now.left c.make.new.life.left
 went_made c = went_then c.args.pool.now c.height-2.new.pool c.make.new.pool _ _ _ c.requires.working.run (went_far (goal.at.In_ok-made c).In_ok-far) c.in_ok-made.ensures.went
@@ -151,10 +152,10 @@ pub returns-in_err-near : goal.returns-in_err-near
 returns-in_err-near c =
     let p = c.args.pool.now in
     let q = c.height.new.pool in
-    let died = c.in_err-near.ensures.died in
+    let died = c.in_err-near.ensures.looks.died in
     let handed = err_from_is_err_and c.from_residual.result c.from_residual.ensures.1 in
     rw (handed.1, handed.2) (record {
-      went = c.in_err-near.ensures.went;
+      went = c.in_err-near.ensures.looks.went;
       working = alive_died Made (IsWorking q) _ died.0;
       latch = alive_died Made (IsSameLatch p q) _ died.0;
       reaches = alive_died Made (Reaches p q) _ died.0;
@@ -162,17 +163,17 @@ returns-in_err-near c =
       grown = refused_died Made (HasGrown 1 p q) _ died.0;
       steps = alive_died Made _ _ died.0;
       cause = cause_died p q _ died.0;
-      died = λ e. died.1;
+      died = look_died p q _ _ died;
     })
 
 pub returns-in_err-far : goal.returns-in_err-far
 returns-in_err-far c =
     let p = c.args.pool.now in
     let q = c.height-2.new.pool in
-    let died = c.in_err-far.ensures.died in
+    let died = c.in_err-far.ensures.looks.died in
     let handed = err_from_is_err_and c.from_residual-in_err-far.result c.from_residual-in_err-far.ensures.1 in
     rw (handed.1, handed.2) (record {
-      went = went_then p c.height.new.pool q _ _ _ c.requires.working.run c.in_ok-near.ensures.went c.in_err-far.ensures.went;
+      went = went_then p c.height.new.pool q _ _ _ c.requires.working.run c.in_ok-near.ensures.looks.went c.in_err-far.ensures.looks.went;
       working = alive_died Made (IsWorking q) _ died.0;
       latch = alive_died Made (IsSameLatch p q) _ died.0;
       reaches = alive_died Made (Reaches p q) _ died.0;
@@ -180,7 +181,7 @@ returns-in_err-far c =
       grown = refused_died Made (HasGrown 1 p q) _ died.0;
       steps = alive_died Made _ _ died.0;
       cause = cause_died p q _ died.0;
-      died = λ e. died.1;
+      died = died_then p c.height.new.pool q _ _ c.in_ok-near.ensures.looks.latch (look_died c.height.new.pool q _ _ died);
     })
 
 pub returns-in_err-made : goal.returns-in_err-made
@@ -198,10 +199,10 @@ returns-in_err-made c =
       latch = alive_map Made Made (IsSameLatch m q) (IsSameLatch p q) _ (λ x. x ∙ latch_far at) h.latch;
       reaches = alive_map Made Made (Reaches m q) (Reaches p q) _ (reaches_then p m q (reaches_far at)) h.reaches;
       linked = tt;
-      grown = refused_map Made Made (IsStill m q) (HasGrown 1 p q) _ (λ s. still_grown 1 p q (still_then p m q c.requires.working c.in_ok-far.ensures.working went.start (still_far at) s)) h.still;
+      grown = refused_map Made Made (IsStill m q) (HasGrown 1 p q) _ (λ s. still_grown 1 p q (still_then p m q c.requires.working c.in_ok-far.ensures.looks.working went.start (still_far at) s)) h.still;
       steps = alive_map Made Made _ _ _ (node_taken p m q q c.args.life.now.left c.height.new.life.left c.height-2.new.life.left c.make.new.life.left 0 0 c.in_ok-near.ensures.steps c.in_ok-far.ensures.steps went.start) h.steps;
       cause = cause_after p m q c.requires.working.run went.run went.start went.did _ h.cause;
-      died = h.died;
+      died = died_then p m q _ _ (latch_far at) h.died;
     })
 
 pub returns-in_err-refer : goal.returns-in_err-refer
@@ -223,7 +224,7 @@ returns-in_err-refer c =
       grown = refused_map (Unit {0}) Made (IsStill m q) (HasGrown 1 p q) _ (λ s. born_grown a p q (born_still p m q c.requires.working c.in_ok-made.ensures.working went.start a (born at) s)) h.still;
       steps = alive_map (Unit {0}) Made _ _ _ (one_taken p c.height-2.new.pool m q c.args.life.now.left c.height.new.life.left c.height-2.new.life.left c.make.new.life.left c.refer.new.life.left 0 c.in_ok-near.ensures.steps c.in_ok-far.ensures.steps (went_far (goal.at.returns-in_err-refer c).In_ok-far).start went.start c.in_ok-made.ensures.steps) h.steps;
       cause = cause_after p m q c.requires.working.run went.run went.start went.did _ h.cause;
-      died = h.died;
+      died = died_then p m q _ _ (latch_made at) h.died;
     })
 
 pub returns-in_err-refer-2 : goal.returns-in_err-refer-2
@@ -245,7 +246,7 @@ returns-in_err-refer-2 c =
       grown = refused_map (Unit {0}) Made (IsStill m q) (HasGrown 1 p q) _ (λ s. born_grown a p q (born_still p m q c.requires.working c.in_ok-refer.ensures.working went.start a (born_one at) s)) h.still;
       steps = alive_map (Unit {0}) Made _ _ _ (both_taken p c.height-2.new.pool c.make.new.pool m c.args.life.now.left c.height.new.life.left c.height-2.new.life.left c.make.new.life.left c.refer.new.life.left c.refer-2.new.life.left c.in_ok-near.ensures.steps c.in_ok-far.ensures.steps (went_far (goal.at.returns-in_err-refer-2 c).In_ok-far).start (went_made (goal.at.returns-in_err-refer-2 c).In_ok-made).start went.start c.in_ok-made.ensures.steps c.in_ok-refer.ensures.steps) h.steps;
       cause = cause_after p m q c.requires.working.run went.run went.start went.did _ h.cause;
-      died = h.died;
+      died = died_then p m q _ _ (latch_one at) h.died;
     })
 
 -- ---- it refers to both
@@ -269,7 +270,7 @@ returns c =
       working = h.working;
       latch = h.latch ∙ latch_one at;
       reaches = reaches_then p b q (reaches_one at) h.reaches;
-      linked = linked_of p m a b q c.args.content s c.args.trees c.in_ok-near.near c.in_ok-far.far n c.requires.working c.in_ok-far.ensures.working c.in_ok-made.ensures.working c.in_ok-refer.ensures.working (went_far first).start (went_made on).start (went_one at).start
+      linked = linked_of p m a b q c.args.content s c.args.trees c.in_ok-near.near c.in_ok-far.far n c.requires.working c.in_ok-far.ensures.looks.working c.in_ok-made.ensures.working c.in_ok-refer.ensures.working (went_far first).start (went_made on).start (went_one at).start
           (still_far first) (made on) c.in_ok-refer.ensures.refers other (nears (goal.at.returns c).In_ok-near) (fars first);
       grown = tt;
       steps = both_taken p m a b c.args.life.now.left c.height.new.life.left c.height-2.new.life.left c.make.new.life.left c.refer.new.life.left c.refer-2.new.life.left c.in_ok-near.ensures.steps c.in_ok-far.ensures.steps (went_far first).start (went_made on).start (went_one at).start c.in_ok-made.ensures.steps c.in_ok-refer.ensures.steps h.steps;

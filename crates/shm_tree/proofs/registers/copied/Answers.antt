@@ -2,6 +2,7 @@ use Rattle.std.proofs.Common.{◌∙◌, ◌≤◌, ◌+◌, sym, arith}
 use Rattle.shm_tree.proofs.Building.{looked, rooms_some, rooms_still}
 use Rattle.shm_tree.proofs.Costing.{costs_copied}
 use Rattle.shm_tree.proofs.Forests.{calls_died, calls_from, copied_rooted, copied_stands, shared_grows}
+use Rattle.shm_tree.proofs.CutShort.{copied_off}
 use Rattle.shm_tree.proofs.Moving.{copied_some}
 use Rattle.shm_tree.specs.Bounds.{share_steps}
 use Rattle.shm_tree.specs.Costing.{copied_steps}
@@ -11,14 +12,14 @@ use Rattle.shm_tree.proofs.registers.copied.Goals as goal
 pub share-requires : goal.share-requires
 share-requires c =
     let t = c.in_ok-tree.ensures in
-    let same = rooms_still t.still in
-    record { working = t.working; room = rooms_some t.working (omega arith); some = λ e. c.requires.some (sym t.names ∙ e); reached = t.reached }
+    let same = rooms_still t.looks.still in
+    record { working = t.looks.working; room = rooms_some t.looks.working (omega arith); some = λ e. c.requires.some (sym t.names ∙ e); reached = t.reached }
 
 pub returns-in_err-tree-clause-calls : goal.returns-in_err-tree-clause-calls
-returns-in_err-tree-clause-calls c = let e = c.in_err-tree.ensures in calls_from c.from_residual.result c.from_residual.ensures.1 (calls_died _ e.went e.died)
+returns-in_err-tree-clause-calls c = let e = c.in_err-tree.ensures in calls_from c.from_residual.result c.from_residual.ensures.1 (calls_died _ e.looks.went (e.looks.died.0, e.looks.died.1))
 
 pub returns-in_err-tree-clause-refused : goal.returns-in_err-tree-clause-refused
-returns-in_err-tree-clause-refused c = handed_over _ c.from_residual.result c.from_residual.ensures.1 c.in_err-tree.ensures.died.0
+returns-in_err-tree-clause-refused c = handed_over _ c.from_residual.result c.from_residual.ensures.1 c.in_err-tree.ensures.looks.died.0
 
 pub returns : goal.returns
 returns c =
@@ -26,10 +27,11 @@ returns c =
     let s = c.share.ensures in
     let b = c.in_ok-tree.tree in
     record {
-      calls = shared_grows b _ c.requires.working (looked t.went t.working t.latch t.still t.reaches) s.went s.working s.latch s.shared s.still s.cause s.died;
-      rooted = copied_rooted c.share.new.pool b _ t.still s.block s.shared;
+      off = copied_off c.args.pool.now c.root_of.new.pool c.share.new.pool c.share.result t.looks.still.roots s.begun;
+      calls = shared_grows b _ c.requires.working (looked t.looks) s.went s.working s.latch s.shared s.still s.cause s.died;
+      rooted = copied_rooted c.share.new.pool b _ t.looks.still s.block s.shared;
       some = copied_some _ (λ e. c.requires.some (sym t.names ∙ e)) s.block;
-      is = copied_stands c.share.new.pool b _ _ t.still t.names s.block s.shared;
-      refused = (let one = t.steps in refused_both _ (λ still few. spends_more 0 (copied_steps c.args.pool.now.start.geometry) (none_least 0) (all_of (copied_steps c.args.pool.now.start.geometry)) (spends_then share_steps c.requires.working t.went s.went (spends_still 1 t.went t.still (omega (arith, one))) (spends_still (share_steps c.root_of.new.pool.start.geometry) s.went still few))) s.still (alive_refusals (c.root_of.new.life.left ≤ c.share.new.life.left + share_steps c.root_of.new.pool.start.geometry) _ s.steps));
-      costs = (let one = t.steps in costs_copied b _ c.requires.working (looked t.went t.working t.latch t.still t.reaches) (omega (arith, one)) s.went s.working s.shared s.steps);
+      is = copied_stands c.share.new.pool b _ _ t.looks.still t.names s.block s.shared;
+      refused = (let one = t.steps in refused_both _ (λ still few. spends_more 0 (copied_steps c.args.pool.now.start.geometry) (none_least 0) (all_of (copied_steps c.args.pool.now.start.geometry)) (spends_then share_steps c.requires.working t.looks.went s.went (spends_still 1 t.looks.went t.looks.still (omega (arith, one))) (spends_still (share_steps c.root_of.new.pool.start.geometry) s.went still few))) s.still (alive_refusals (c.root_of.new.life.left ≤ c.share.new.life.left + share_steps c.root_of.new.pool.start.geometry) _ s.steps));
+      costs = (let one = t.steps in costs_copied b _ c.requires.working (looked t.looks) (omega (arith, one)) s.went s.working s.shared s.steps);
     }

@@ -1,7 +1,12 @@
-use Rattle.std.proofs.Common.{◌≡◌, ◌∙◌, ◌≤◌, ◌+◌, ℕ, sym, subst, arith}
+use Rattle.std.proofs.Common.{◌≡◌, ◌∙◌, ◌<◌, ◌≤◌, ◌+◌, ℕ, sym, subst, arith}
+use Rattle.std.specs.Prelude.{Some}
 use Rattle.shm_words.specs.declared.geometry.Geometry.{Geometry}
 use Rattle.shm_tree.specs.Bounds.{insert_steps}
+use Rattle.shm_plain.specs.Pools.{memo_of}
+use Rattle.shm_tree.specs.declared.stop.Stop.{Stop}
+use Rattle.shm_tree.specs.declared.stop.Stop.TheVariants as stop
 use Rattle.shm_tree.specs.Forests.{block_in}
+use Rattle.shm_tree.specs.Working.{IsUnderWay}
 use Rattle.shm_tree.specs.Trees.{Tree, height}
 use Rattle.shm_tree.specs.Standing.{IsTree}
 use Rattle.shm_tree.proofs.Costing.{costs_built, costs_still, few_between}
@@ -11,6 +16,7 @@ use Rattle.shm_tree.proofs.Building.{rooms_still, went_on}
 use Rattle.shm_tree.proofs.Forests.{Quiet, calls_died, calls_from, planted_grows, planted_rooted, planted_stop, quiet, quiet_then, root_still}
 use Rattle.shm_tree.proofs.Moving.{is_over_is, is_over_not, alive_is, planted_tree, refused_is, refused_when, registered}
 use Rattle.shm_tree.proofs.Answering.{refused_died}
+use Rattle.shm_tree.proofs.CutShort.{cut_under, handed_err}
 use Rattle.shm_tree.proofs.Refusals.{handed_over, stopped_spends}
 use Rattle.shm_tree.proofs.registers.planted.Goals.{In_ok-tree}
 use Rattle.shm_tree.proofs.registers.planted.Goals as goal
@@ -20,15 +26,15 @@ looks : (c : In_ok-tree) → Quiet c.args.pool.now c.tree_in.new.pool c.args.lif
 looks c =
     let h = c.in_ok-hold.ensures in
     let t = c.in_ok-tree.ensures in
-    quiet_then c.requires.working (quiet h.went h.working h.still) (quiet t.went t.working t.still)
+    quiet_then c.requires.working (quiet h.went h.working h.still) (quiet t.looks.went t.looks.working t.looks.still)
 
 pub returns-in_err-hold-clause-calls : goal.returns-in_err-hold-clause-calls
-returns-in_err-hold-clause-calls c = let e = c.in_err-hold.ensures in calls_from c.from_residual.result c.from_residual.ensures.1 (calls_died _ e.went e.died)
+returns-in_err-hold-clause-calls c = let e = c.in_err-hold.ensures in calls_from c.from_residual.result c.from_residual.ensures.1 (calls_died _ e.went (e.died.0, e.died.1))
 
 pub returns-in_err-tree-clause-calls : goal.returns-in_err-tree-clause-calls
 returns-in_err-tree-clause-calls c =
     let e = c.in_err-tree.ensures in
-    calls_from c.from_residual-in_err-tree.result c.from_residual-in_err-tree.ensures.1 (calls_died _ (went_on c.requires.working.run c.in_ok-hold.ensures.went e.went) e.died)
+    calls_from c.from_residual-in_err-tree.result c.from_residual-in_err-tree.ensures.1 (calls_died _ (went_on c.requires.working.run c.in_ok-hold.ensures.went e.looks.went) (e.looks.died.0, e.looks.died.1))
 
 pub insert-requires-clause-room : goal.insert-requires-clause-room
 insert-requires-clause-room c = let l = rooms_still (looks (goal.at.insert-requires-clause-room c).In_ok-tree).still in omega arith
@@ -51,7 +57,7 @@ returns-in_err-release-in-Ok-clause-calls c =
     let run = c.requires.working.run in
     let b = c.in-Ok.ensures.builds c.requires.tree.0 (stands d) in
     let e = c.in_err-release-in-Ok.ensures in
-    calls_from c.from_residual-in_err-release-in-Ok.result c.from_residual-in_err-release-in-Ok.ensures.1 (calls_died _ (went_on run (went_on run (looks d).went b.went) e.went) e.died)
+    calls_from c.from_residual-in_err-release-in-Ok.result c.from_residual-in_err-release-in-Ok.ensures.1 (calls_died _ (went_on run (went_on run (looks d).went b.went) e.went) (e.died.0, e.died.1))
 
 pub returns-in_ok-release-in-Ok-clause-calls : goal.returns-in_ok-release-in-Ok-clause-calls
 returns-in_ok-release-in-Ok-clause-calls c =
@@ -76,7 +82,7 @@ release-requires-in-Err c =
     let d = (goal.at.release-requires-in-Err c).In_ok-tree in
     let b = c.in-Err.ensures.builds c.requires.tree.0 (stands d) in
     let ne = is_over_not c.in-Err.why (sym c.is_over.ensures ∙ c.if-is_over.false) in
-    record { working = alive_is Made c.in-Err.why ne b.working; latch = alive_is Made c.in-Err.why ne b.latch ∙ (c.in_ok-tree.ensures.latch ∙ c.in_ok-hold.ensures.latch) }
+    record { working = alive_is Made c.in-Err.why ne b.working; latch = alive_is Made c.in-Err.why ne b.latch ∙ (c.in_ok-tree.ensures.looks.latch ∙ c.in_ok-hold.ensures.latch) }
 
 pub returns-in_err-release-in-Err-clause-calls : goal.returns-in_err-release-in-Err-clause-calls
 returns-in_err-release-in-Err-clause-calls c =
@@ -84,7 +90,7 @@ returns-in_err-release-in-Err-clause-calls c =
     let run = c.requires.working.run in
     let b = c.in-Err.ensures.builds c.requires.tree.0 (stands d) in
     let e = c.in_err-release-in-Err.ensures in
-    calls_from c.from_residual-in_err-release-in-Err.result c.from_residual-in_err-release-in-Err.ensures.1 (calls_died _ (went_on run (went_on run (looks d).went b.went) e.went) e.died)
+    calls_from c.from_residual-in_err-release-in-Err.result c.from_residual-in_err-release-in-Err.ensures.1 (calls_died _ (went_on run (went_on run (looks d).went b.went) e.went) (e.died.0, e.died.1))
 
 pub returns-in_ok-release-in-Err-clause-calls : goal.returns-in_ok-release-in-Err-clause-calls
 returns-in_ok-release-in-Err-clause-calls c =
@@ -98,14 +104,14 @@ returns-then-is_over-clause-calls c =
     let d = (goal.at.returns-then-is_over-clause-calls c).In_ok-tree in
     let b = c.in-Err.ensures.builds c.requires.tree.0 (stands d) in
     let e = is_over_is c.in-Err.why (sym c.is_over.ensures ∙ c.if-is_over.true) in
-    calls_died c.in-Err.why (went_on c.requires.working.run (looks d).went b.went) (e, b.died e)
+    calls_died c.in-Err.why (went_on c.requires.working.run (looks d).went b.went) (e, (b.died e).0)
 
 pub release-requires-clause-working : goal.release-requires-clause-working
 release-requires-clause-working c = (c.in-Ok.ensures.builds c.requires.tree.0 (stands (goal.at.release-requires-clause-working c).In_ok-tree)).working
 
 pub release-requires-clause-latch : goal.release-requires-clause-latch
 release-requires-clause-latch c =
-    (c.in-Ok.ensures.builds c.requires.tree.0 (stands (goal.at.release-requires-clause-latch c).In_ok-tree)).latch ∙ (c.in_ok-tree.ensures.latch ∙ c.in_ok-hold.ensures.latch)
+    (c.in-Ok.ensures.builds c.requires.tree.0 (stands (goal.at.release-requires-clause-latch c).In_ok-tree)).latch ∙ (c.in_ok-tree.ensures.looks.latch ∙ c.in_ok-hold.ensures.latch)
 
 pub returns-in_ok-release-in-Ok-clause-some : goal.returns-in_ok-release-in-Ok-clause-some
 returns-in_ok-release-in-Ok-clause-some c = (c.in-Ok.ensures.built c.requires.tree.0 (stands (goal.at.returns-in_ok-release-in-Ok-clause-some c).In_ok-tree)).some
@@ -144,7 +150,7 @@ pub returns-in_err-hold-clause-refused : goal.returns-in_err-hold-clause-refused
 returns-in_err-hold-clause-refused c = handed_over _ c.from_residual.result c.from_residual.ensures.1 c.in_err-hold.ensures.died.0
 
 pub returns-in_err-tree-clause-refused : goal.returns-in_err-tree-clause-refused
-returns-in_err-tree-clause-refused c = handed_over _ c.from_residual-in_err-tree.result c.from_residual-in_err-tree.ensures.1 c.in_err-tree.ensures.died.0
+returns-in_err-tree-clause-refused c = handed_over _ c.from_residual-in_err-tree.result c.from_residual-in_err-tree.ensures.1 c.in_err-tree.ensures.looks.died.0
 
 pub returns-in_err-release-in-Ok-clause-refused : goal.returns-in_err-release-in-Ok-clause-refused
 returns-in_err-release-in-Ok-clause-refused c = handed_over _ c.from_residual-in_err-release-in-Ok.result c.from_residual-in_err-release-in-Ok.ensures.1 c.in_err-release-in-Ok.ensures.died.0
@@ -164,3 +170,26 @@ returns-in_ok-release-in-Err-clause-refused c =
     refused_when Made c.in-Err.why (λ alive t w.
     let b = c.in-Err.ensures.builds t (stands_of d t w) in
     stopped_spends (λ (g : Geometry). insert_steps (height t) g) c.requires.working (looks d) (looks_few d) (alive_is Made c.in-Err.why alive b.working) b.went (refused_is Made c.in-Err.why alive b.refused).made (alive_is Made c.in-Err.why alive b.spent) (quiet r.went r.working r.still) (omega (arith, s)))
+
+-- the latch is held before the tree is built
+held : (c : In_ok-tree) → (memo_of c.tree_in.new.pool 0).latch ≡ Some 0
+held c = c.in_ok-tree.ensures.looks.latch ∙ c.in_ok-hold.ensures.latch
+
+pub returns-in_err-release-in-Ok-clause-off : goal.returns-in_err-release-in-Ok-clause-off
+returns-in_err-release-in-Ok-clause-off c =
+    let d = (goal.at.returns-in_err-release-in-Ok-clause-off c).In_ok-tree in
+    let b = c.in-Ok.ensures.builds c.requires.tree.0 (stands d) in
+    handed_err (λ (e : Stop). e ≡ stop.Died → 0 < c.args.life.now.left → IsUnderWay c.release.new.pool) c.from_residual-in_err-release-in-Ok.result c.from_residual-in_err-release-in-Ok.ensures.1 (λ d1 some. cut_under c.insert.new.pool c.release.new.pool (b.latch ∙ held d) c.in_err-release-in-Ok.ensures.died.2)
+
+pub returns-in_err-release-in-Err-clause-off : goal.returns-in_err-release-in-Err-clause-off
+returns-in_err-release-in-Err-clause-off c =
+    let d = (goal.at.returns-in_err-release-in-Err-clause-off c).In_ok-tree in
+    let b = c.in-Err.ensures.builds c.requires.tree.0 (stands d) in
+    let ne = is_over_not c.in-Err.why (sym c.is_over.ensures ∙ c.if-is_over.false) in
+    handed_err (λ (e : Stop). e ≡ stop.Died → 0 < c.args.life.now.left → IsUnderWay c.release-in-Err.new.pool) c.from_residual-in_err-release-in-Err.result c.from_residual-in_err-release-in-Err.ensures.1 (λ d1 some. cut_under c.insert.new.pool c.release-in-Err.new.pool (alive_is Made c.in-Err.why ne b.latch ∙ held d) c.in_err-release-in-Err.ensures.died.2)
+
+pub returns-then-is_over-clause-off : goal.returns-then-is_over-clause-off
+returns-then-is_over-clause-off c =
+    let d = (goal.at.returns-then-is_over-clause-off c).In_ok-tree in
+    let b = c.in-Err.ensures.builds c.requires.tree.0 (stands d) in
+    λ e some. cut_under c.tree_in.new.pool c.insert.new.pool (held d) (b.died e).1

@@ -16,15 +16,15 @@ looks c =
     let h = c.in_ok-hold.ensures in
     let t = c.in_ok-tree.ensures in
     let n = c.in_ok-number.ensures in
-    quiet_then w (quiet_then w (quiet h.went h.working h.still) (quiet t.went t.working t.still)) (quiet n.went n.working n.still)
+    quiet_then w (quiet_then w (quiet h.went h.working h.still) (quiet t.looks.went t.looks.working t.looks.still)) (quiet n.looks.went n.looks.working n.looks.still)
 
 pub returns-in_err-tree-clause-went : goal.returns-in_err-tree-clause-went
-returns-in_err-tree-clause-went c = went_on c.requires.working.run c.in_ok-hold.ensures.went c.in_err-tree.ensures.went
+returns-in_err-tree-clause-went c = went_on c.requires.working.run c.in_ok-hold.ensures.went c.in_err-tree.ensures.looks.went
 
 pub returns-in_err-number-clause-went : goal.returns-in_err-number-clause-went
 returns-in_err-number-clause-went c =
     let run = c.requires.working.run in
-    went_on run (went_on run c.in_ok-hold.ensures.went c.in_ok-tree.ensures.went) c.in_err-number.ensures.went
+    went_on run (went_on run c.in_ok-hold.ensures.went c.in_ok-tree.ensures.looks.went) c.in_err-number.ensures.looks.went
 
 pub returns-in_err-release-clause-went : goal.returns-in_err-release-clause-went
 returns-in_err-release-clause-went c = went_on c.requires.working.run (looks (goal.at.returns-in_err-release-clause-went c).In_ok-number).went c.in_err-release.ensures.went
@@ -47,7 +47,7 @@ returns-clause-costs c =
     let r = c.in_ok-release.ensures in
     let b : ℕ = block_in c.args.pool.now c.args.root in
     let named : c.in_ok-tree.tree ≡ b = t.names ∙ (root_still c.args.root h.still).same in
-    let first = quiet_then w (quiet h.went h.working h.still) (quiet t.went t.working t.still) in
+    let first = quiet_then w (quiet h.went h.working h.still) (quiet t.looks.went t.looks.working t.looks.still) in
     let all = quiet_then w (looks d) (quiet r.went r.working r.still) in
     λ u st.
     let few = n.steps u (subst (λ (k : ℕ). Stands c.tree_in.new.pool k u) (sym named) (first.still.trees b u st)) in

@@ -1,8 +1,8 @@
-use Rattle.std.proofs.Common.{◌==◌, ◌∙◌, refl, sym, ap, arith}
+use Rattle.std.proofs.Common.{◌==◌, ◌∙◌, sym, ap, arith}
 use Rattle.std.specs.Prelude.{None, Some}
 use Rattle.std.proofs.lemmas.Bool.{cond-false, cond-true, eq-eqb, ne_eqb}
 use Rattle.shm_tree.specs.Removing.{content_in}
-use Rattle.shm_tree.proofs.Building.{looked_none}
+use Rattle.shm_tree.proofs.Building.{looked, looked_none, looks_done, looks_from}
 use Rattle.shm_tree.proofs.Removing.{content_read}
 use Rattle.shm_tree.proofs.Rotations.{node_of}
 use Rattle.shm_tree.proofs.remove.next_of.Goals as goal
@@ -11,12 +11,7 @@ pub returns-then-lowest-place : goal.returns-then-lowest-place
 returns-then-lowest-place c =
     let n = looked_none c.args.pool.now c.args.life.now.left c.requires.working in
     record {
-      went = n.went;
-      working = c.requires.working;
-      latch = refl;
-      still = n.still;
-      reaches = λ b h. h;
-      died = tt;
+      looks = looks_done _ n;
       steps = omega arith;
       next = λ t st. sym (cond-true (c.args.lowest.depth == c.args.place.depth) None (Some (content_in t)) (eq-eqb c.args.lowest.depth c.args.place.depth (omega arith)));
     }
@@ -28,15 +23,13 @@ pub returns-in_ok-content : goal.returns-in_ok-content
 returns-in_ok-content c =
     let u = c.in_ok-content.ensures in
     record {
-      went = u.went;
-      working = u.working;
-      latch = u.latch;
-      still = u.still;
-      reaches = u.reaches;
-      died = tt;
+      looks = looks_done _ (looked u.looks);
       steps = (let s = u.steps in omega (arith, s));
       next =
           λ t st.
           ap Some (content_read c.args.pool.now c.args.lowest.node c.in_ok-content.content t c.requires.some u.key u.number st)
           ∙ sym (cond-false (c.args.lowest.depth == c.args.place.depth) None (Some (content_in t)) (ne_eqb c.args.lowest.depth c.args.place.depth (λ e. omega arith)));
     }
+
+pub returns-in_err-content-clause-looks : goal.returns-in_err-content-clause-looks
+returns-in_err-content-clause-looks c = looks_from c.from_residual.result c.from_residual.ensures.1 c.in_err-content.ensures.looks

@@ -4,25 +4,26 @@ use Rattle.shm_count.specs.declared.answer.Made.{Made}
 use Rattle.shm_tree.specs.declared.node.Content.{Content}
 use Rattle.shm_tree.specs.declared.node.Side.{Side}
 use Rattle.shm_tree.specs.declared.remove.Removed.{Removed}
-use Rattle.shm_tree.specs.Bounds.{fall_steps, remnant_steps, remove_steps, with_child_steps}
+use Rattle.shm_tree.specs.Bounds.{fall_steps, remnant_steps, remove_steps, raise_steps}
 use Rattle.shm_tree.specs.Building.{IsCut, block_of}
-use Rattle.shm_tree.specs.Removing.{again, rest, side_tree}
+use Rattle.shm_tree.specs.Raising.{again}
+use Rattle.shm_tree.specs.Removing.{rest, side_tree}
 use Rattle.shm_tree.specs.Spending.{HasSpent}
 use Rattle.shm_tree.specs.Standing.{Stands}
 use Rattle.shm_tree.specs.Trees.{Tree, height}
 use Rattle.shm_tree.specs.Ways.{IsDeep, down}
-use Rattle.shm_tree.proofs.Building.{built_more, builds_cut, builds_died, builds_done, builds_from, cut_then, looked, looked_none, looked_then, made_more, rooms_still, root_reached, still_cut, went_on}
+use Rattle.shm_tree.proofs.Building.{builds_cut, builds_died, builds_done, builds_first, builds_from, built_more, cut_then, looked, looked_then, made_more, rooms_still, root_reached, still_cut, went_on}
 use Rattle.shm_tree.proofs.Descents.{others_deep}
 use Rattle.shm_tree.proofs.Fallings.{cut_stay, fallen_low, fallen_more, fallen_none}
 use Rattle.shm_tree.proofs.Fresh.{made_few}
 use Rattle.shm_tree.proofs.Growing.{down_tree}
 use Rattle.shm_tree.proofs.Levels.{IsWay, rest_last, rest_level, rest_top, told}
 use Rattle.shm_tree.proofs.LiveCounts.{spent_made}
-use Rattle.shm_tree.proofs.Removing.{cut_at_hand, cut_stands, kept_after, kept_blocks_up, kept_cut, kept_held, kept_more, kept_rooms, kept_up, lowest_way, side_stands, some_block, some_held, way_found}
+use Rattle.shm_tree.proofs.Removing.{cut_at_hand, cut_stands, kept_after, kept_cut, kept_held, kept_more, kept_rooms, kept_up, lowest_way, side_stands, some_block, way_found}
+use Rattle.shm_tree.proofs.Raising.{some_held}
 use Rattle.shm_tree.proofs.Resting.{rests_still, rests_then}
 use Rattle.shm_tree.proofs.Spendings.{first_most, level_most, spent_call, spent_then}
 use Rattle.shm_tree.proofs.Ways.{down_found, down_lower, end_none, stands_one}
-use Rattle.shm_tree.proofs.Weights.{blocks_nodes, blocks_then}
 use Rattle.shm_tree.proofs.remove.remove.Goals as goal
 
 pub find-requires : goal.find-requires
@@ -32,10 +33,8 @@ find-requires c =
 
 pub returns-in_err-place-clause-builds : goal.returns-in_err-place-clause-builds
 returns-in_err-place-clause-builds c =
-    let run = c.requires.working.run in
     let e = c.in_err-place.ensures in
-    let n = looked_none c.args.pool.now c.args.life.now.left c.requires.working in
-    λ t st. builds_from c.from_residual.result c.from_residual.ensures.1 (builds_died _ run n.went e.went e.died)
+    λ t st. builds_from c.from_residual.result c.from_residual.ensures.1 (builds_first e.looks)
 
 pub returns-then-place-eq0 : goal.returns-then-place-eq0
 returns-then-place-eq0 c =
@@ -47,16 +46,15 @@ returns-then-place-eq0 c =
           λ t st.
           (let s = f.steps in
           let low = down_lower x t a (others_deep x a t (f.place t st).on) in
-          builds_done None f.went f.working f.latch (spent_call (remove_steps (height t) c.args.pool.now.start.geometry) f.went (omega (arith, s, low))));
-      lives = λ t st. made_few (3 * height t) c.args.pool.now c.find.new.pool c.requires.working.run f.went.run f.went.start (made_more 0 (3 * height t) c.args.pool.now c.find.new.pool f.still.made (omega arith));
-      removed = λ t st. (let w = f.place t st in (down_found x t c.in_ok-place.place.depth w.on ∙ sym (end_none c.find.new.pool c.in_ok-place.place.node x _ w.stands (omega arith)), f.still));
-      blocks = blocks_nodes f.still.nodes;
+          builds_done None f.looks.went f.looks.working f.looks.latch (spent_call (remove_steps (height t) c.args.pool.now.start.geometry) f.looks.went (omega (arith, s, low))));
+      lives = λ t st. made_few (3 * height t) c.args.pool.now c.find.new.pool c.requires.working.run f.looks.went.run f.looks.went.start (made_more 0 (3 * height t) c.args.pool.now c.find.new.pool f.looks.still.made (omega arith));
+      removed = λ t st. (let w = f.place t st in (down_found x t c.in_ok-place.place.depth w.on ∙ sym (end_none c.find.new.pool c.in_ok-place.place.node x _ w.stands (omega arith)), f.looks.still));
       steps =
           λ t st calm trees.
           (let s = f.steps in
           let low = down_lower x t a (others_deep x a t (f.place t st).on) in
           omega (arith, s, low));
-      rests = rests_still f.still;
+      rests = rests_still f.looks.still;
     }
 
 pub last-requires : goal.last-requires
@@ -66,8 +64,8 @@ last-requires c =
     let t = c.requires.tree.tree.0 in
     let w = f.place t i.stands in
     record {
-      working = f.working;
-      latch = f.latch ∙ c.requires.latch;
+      working = f.looks.working;
+      latch = f.looks.latch ∙ c.requires.latch;
       some = λ e. omega arith;
       tree = (down c.args.wanted t c.in_ok-place.place.depth, w.stands, (down_tree c.args.wanted t c.in_ok-place.place.depth i.search i.balanced).0);
       reached = f.reached;
@@ -79,7 +77,7 @@ returns-in_err-lowest-clause-builds c =
     let run = c.requires.working.run in
     let f = c.in_ok-place.ensures in
     let e = c.in_err-lowest.ensures in
-    λ t st. builds_from c.from_residual-in_err-lowest.result c.from_residual-in_err-lowest.ensures.1 (builds_died _ run f.went e.went e.died)
+    λ t st. builds_from c.from_residual-in_err-lowest.result c.from_residual-in_err-lowest.ensures.1 (builds_died run f.looks.went f.looks.latch e.looks)
 
 pub next_of-requires : goal.next_of-requires
 next_of-requires c =
@@ -91,7 +89,7 @@ next_of-requires c =
     let g = c.requires.tree in
     let y = lowest_way x a e c.in_ok-place.place.node c.in_ok-lowest.lowest.node g l.below f.place l.last g.tree.0 g.tree.1.stands in
     record {
-      working = l.working;
+      working = l.looks.working;
       node = ((_, y.1), l.reached);
       some = some_block c.last.new.pool c.in_ok-lowest.lowest.node _ y.1 (y.0.deep e (omega arith));
     }
@@ -102,7 +100,7 @@ returns-in_err-next-clause-builds c =
     let f = c.in_ok-place.ensures in
     let l = c.in_ok-lowest.ensures in
     let e = c.in_err-next.ensures in
-    λ t st. builds_from c.from_residual-in_err-next.result c.from_residual-in_err-next.ensures.1 (builds_died _ run (went_on run f.went l.went) e.went e.died)
+    λ t st. builds_from c.from_residual-in_err-next.result c.from_residual-in_err-next.ensures.1 (builds_died run (went_on run f.looks.went l.looks.went) (l.looks.latch ∙ f.looks.latch) e.looks)
 
 pub remnant-requires : goal.remnant-requires
 remnant-requires c =
@@ -115,13 +113,13 @@ remnant-requires c =
     let e = c.in_ok-lowest.lowest.depth in
     let g = c.requires.tree in
     let y = lowest_way x a e c.in_ok-place.place.node c.in_ok-lowest.lowest.node g l.below f.place l.last g.tree.0 g.tree.1.stands in
-    let read = looked_then run (looked_then run (looked f.went f.working f.latch f.still f.reaches) (looked l.went l.working l.latch l.still l.reaches)) (looked n.went n.working n.latch n.still n.reaches) in
+    let read = looked_then run (looked_then run (looked f.looks) (looked l.looks)) (looked n.looks) in
     let same = rooms_still read.still in
     record {
-      working = n.working;
+      working = n.looks.working;
       latch = read.latch ∙ c.requires.latch;
       room = omega arith;
-      node = ((_, n.still.trees c.in_ok-lowest.lowest.node _ y.1), λ some. n.reaches c.in_ok-lowest.lowest.node (l.reached some));
+      node = ((_, n.looks.still.trees c.in_ok-lowest.lowest.node _ y.1), λ some. n.looks.reaches c.in_ok-lowest.lowest.node (l.reached some));
       some = some_block c.last.new.pool c.in_ok-lowest.lowest.node _ y.1 (y.0.deep e (omega arith));
     }
 
@@ -140,11 +138,11 @@ returns-in_err-made-clause-builds c =
     let s2 = l.steps in
     let s3 = n.steps in
     let below = l.below in
-    let read = looked_then run (looked_then run (looked f.went f.working f.latch f.still f.reaches) (looked l.went l.working l.latch l.still l.reaches)) (looked n.went n.working n.latch n.still n.reaches) in
+    let read = looked_then run (looked_then run (looked f.looks) (looked l.looks)) (looked n.looks) in
     λ t st.
     let way = (lowest_way x a e c.in_ok-place.place.node c.in_ok-lowest.lowest.node c.requires.tree l.below f.place l.last t st).0 in
     let lower = down_lower x t (suc e) way.deep in
-    let most = first_most (9 + remnant_steps g) (5 * height t + with_child_steps g) e (height t) (omega (arith, lower)) in
+    let most = first_most (9 + remnant_steps g) (5 * height t + raise_steps g) e (height t) (omega (arith, lower)) in
     builds_from c.from_residual-in_err-made.result c.from_residual-in_err-made.ensures.1
     (builds_cut (Option Made) 0 remnant_steps {T = Option Removed} {n = 0} {k = 3 * height t} {a = 5 * e + 9} _ (omega arith) (omega (arith, most)) c.requires.working read.went read.latch (still_cut read.still) (spent_call (5 * e + 9) read.went (omega (arith, s1, s2, s3, below))) r.went r.working r.latch r.refused r.spent r.cause r.died)
 
@@ -166,7 +164,7 @@ levels-init c =
     let r = c.remnant.new.pool in
     let s : Side = c.staying.result in
     let way : (t : Tree) → Stands p c.args.tree t → IsWay x a e t × Stands c.last.new.pool b (down x t e) = lowest_way x a e c.in_ok-place.place.node b g l.below f.place l.last in
-    let read = looked_then run (looked_then run (looked f.went f.working f.latch f.still f.reaches) (looked l.went l.working l.latch l.still l.reaches)) (looked n.went n.working n.latch n.still n.reaches) in
+    let read = looked_then run (looked_then run (looked f.looks) (looked l.looks)) (looked n.looks) in
     record {
       went = went_on run read.went m.builds.went;
       working = m.builds.working;
@@ -179,10 +177,9 @@ levels-init c =
           (let y = way t st in
           let u : Tree = down x t e in
           let some = some_block c.last.new.pool b u y.1 (y.0.deep e (omega arith)) in
-          let there : Stands r (block_of o) (side_tree s u) = m.stands (side_tree s u) (side_stands q b s u some (n.still.trees b u y.1)) in
+          let there : Stands r (block_of o) (side_tree s u) = m.stands (side_tree s u) (side_stands q b s u some (n.looks.still.trees b u y.1)) in
           let is : rest x a t e ≡ side_tree s u = rest_last x a e t y.0 ∙ ap (λ (z : Side). side_tree z u) (sym c.staying.ensures) in
           subst (Stands r (block_of o)) (sym is) there);
-      blocks = blocks_then r (still_cut read.still) (blocks_nodes read.still.nodes) m.blocks;
       rests = rests_then p q r read.working m.builds.working m.builds.went (rests_still read.still) m.rests;
       spent =
           (let s1 = f.steps in
@@ -214,7 +211,7 @@ returns-in_err-node-clause-builds c =
     let run = c.requires.working.run in
     let r = c.levels.invariant in
     let e = c.in_err-node.ensures in
-    λ t st. builds_from c.from_residual-in_err-node.result c.from_residual-in_err-node.ensures.1 (builds_died _ run r.went e.went e.died)
+    λ t st. builds_from c.from_residual-in_err-node.result c.from_residual-in_err-node.ensures.1 (builds_died run r.went r.latch e.looks)
 
 pub raise-requires : goal.raise-requires
 raise-requires c =
@@ -227,14 +224,14 @@ raise-requires c =
     let d = c.levels.depth - 1 in
     let here = a.stands t (cut_stands t g (kept_cut c.levels.made r.kept) st) in
     let room = kept_rooms (3 * (c.in_ok-lowest.lowest.depth - c.levels.depth)) c.args.pool.now c.levels.pool c.levels.made r.kept c.requires.room in
-    let same = rooms_still a.still in
+    let same = rooms_still a.looks.still in
     record {
-      working = a.working;
-      latch = a.latch ∙ (r.latch ∙ c.requires.latch);
+      working = a.looks.working;
+      latch = a.looks.latch ∙ (r.latch ∙ c.requires.latch);
       room = omega (arith, room, same);
       node = ((_, here), a.reached);
       some = some_block c.above.new.pool c.in_ok-node.node _ here ((r.way t st).deep d (omega (arith, low)));
-      below = some_held c.levels.made a.still (kept_held (3 * (c.in_ok-lowest.lowest.depth - c.levels.depth)) c.args.pool.now c.levels.pool c.levels.made _ r.kept (r.stands t st));
+      below = some_held c.levels.made a.looks.still (kept_held (3 * (c.in_ok-lowest.lowest.depth - c.levels.depth)) c.args.pool.now c.levels.pool c.levels.made _ r.kept (r.stands t st));
     }
 
 pub levels-preserved : goal.levels-preserved
@@ -261,27 +258,26 @@ levels-preserved c =
     let f = c.in_ok-place.ensures in
     let way : (t : Tree) → Stands p c.args.tree t → IsWay x a e t × Stands c.last.new.pool c.in_ok-lowest.lowest.node (down x t e) = lowest_way x a e c.in_ok-place.place.node c.in_ok-lowest.lowest.node g l.below f.place l.last in
     record {
-      went = went_on run (went_on run r.went h.went) b.builds.went;
+      went = went_on run (went_on run r.went h.looks.went) b.builds.went;
       working = b.builds.working;
-      latch = b.builds.latch ∙ (h.latch ∙ r.latch);
+      latch = b.builds.latch ∙ (h.looks.latch ∙ r.latch);
       low = omega (arith, low, same);
-      kept = built_more (3 * (e - c.levels.depth) + 3) (3 * (e - d)) (omega (arith, low, same)) (kept_up (3 * (e - c.levels.depth)) o run r.went.run r.went.start h.went.run h.went.start r.kept h.still b.rebuilt (kept_blocks_up (3 * (e - c.levels.depth)) o r.kept r.blocks h.still b.sharing));
+      kept = built_more (3 * (e - c.levels.depth) + 3) (3 * (e - d)) (omega (arith, low, same)) (kept_up (3 * (e - c.levels.depth)) o run r.went.run r.went.start h.looks.went.run h.looks.went.start r.kept h.looks.still b.rebuilt);
       way = r.way;
       stands =
           λ t st.
           (let y = r.way t st in
           let here : Stands w c.in_ok-node.node (down x t d) = h.stands t (cut_stands t g (kept_cut o r.kept) st) in
-          let under : Stands w (block_of o) (rest x a t (suc d)) = h.still.trees (block_of o) (rest x a t (suc d)) (subst (λ (i : ℕ). Stands q (block_of o) (rest x a t i)) same (r.stands t st)) in
+          let under : Stands w (block_of o) (rest x a t (suc d)) = h.looks.still.trees (block_of o) (rest x a t (suc d)) (subst (λ (i : ℕ). Stands q (block_of o) (rest x a t i)) same (r.stands t st)) in
           let made : Stands v m.block (again x c.lifted-told.result (down x t d) (rest x a t (suc d))) = b.stands (down x t d) (rest x a t (suc d)) here under in
           let is : c.lifted-told.result ≡ told x a e t y d =
           c.lifted-told.ensures ∙ ap (λ (z : Option Content). cond (d == a) z None) (n.next (down x t e) (way t st).1) in
           subst (Stands v m.block) (sym (rest_level x a e t y d (omega (arith, low, same)))) (subst (λ (z : Option Content). Stands v m.block (again x z (down x t d) (rest x a t (suc d)))) is made));
-      blocks = kept_blocks_up (3 * (e - c.levels.depth)) o r.kept r.blocks h.still b.sharing;
-      rests = rests_then p w v h.working b.builds.working b.builds.went (rests_then p q w r.working h.working h.went r.rests (rests_still h.still)) b.rests;
+      rests = rests_then p w v h.looks.working b.builds.working b.builds.went (rests_then p q w r.working h.looks.working h.looks.went r.rests (rests_still h.looks.still)) b.rests;
       spent =
           (let s = h.steps in
           fallen_more p v (e - c.levels.depth) d e (e - d) (omega (arith, low, same)) (omega (arith, low, same))
-          (spent_then with_child_steps c.requires.working (went_on run r.went h.went) b.builds.went (spent_then (λ u. 5 * d) c.requires.working r.went h.went r.spent (spent_call (5 * d) h.went (omega (arith, s)))) b.builds.spent));
+          (spent_then raise_steps c.requires.working (went_on run r.went h.looks.went) b.builds.went (spent_then (λ u. 5 * d) c.requires.working r.went h.looks.went r.spent (spent_call (5 * d) h.looks.went (omega (arith, s)))) b.builds.spent));
     }
 
 pub returns-in_err-over-clause-builds : goal.returns-in_err-over-clause-builds
@@ -298,12 +294,12 @@ returns-in_err-over-clause-builds c =
     let same : c.levels.depth ≡ suc d = omega arith in
     let s = h.steps in
     let g = c.args.pool.now.start.geometry in
-    let cut = cut_then run r.went.run r.went.start (kept_cut o r.kept) (still_cut h.still) in
+    let cut = cut_then run r.went.run r.went.start (kept_cut o r.kept) (still_cut h.looks.still) in
     λ t st.
     let lower = down_lower x t (suc end) (r.way t st).deep in
-    let levels = level_most (9 + remnant_steps g) (with_child_steps g) (end - c.levels.depth) d end (height t) (omega (arith, low, same)) (omega (arith, low, same)) (omega (arith, lower)) in
+    let levels = level_most (9 + remnant_steps g) (raise_steps g) (end - c.levels.depth) d end (height t) (omega (arith, low, same)) (omega (arith, low, same)) (omega (arith, lower)) in
     builds_from c.from_residual-in_err-over.result c.from_residual-in_err-over.ensures.1
-    (builds_cut Made 3 with_child_steps {T = Option Removed} {n = 3 * (end - c.levels.depth) + 0} {k = 3 * height t} {a = fall_steps (end - c.levels.depth) end g + 5 * d} _ (omega (arith, low, lower)) (omega (arith, levels)) c.requires.working (went_on run r.went h.went) (h.latch ∙ r.latch) cut (spent_then (λ u. 5 * d) c.requires.working r.went h.went r.spent (spent_call (5 * d) h.went (omega (arith, s)))) e.went e.working e.latch e.refused e.spent e.cause e.died)
+    (builds_cut Made 3 raise_steps {T = Option Removed} {n = 3 * (end - c.levels.depth) + 0} {k = 3 * height t} {a = fall_steps (end - c.levels.depth) end g + 5 * d} _ (omega (arith, low, lower)) (omega (arith, levels)) c.requires.working (went_on run r.went h.looks.went) (h.looks.latch ∙ r.latch) cut (spent_then (λ u. 5 * d) c.requires.working r.went h.looks.went r.spent (spent_call (5 * d) h.looks.went (omega (arith, s)))) e.went e.working e.latch e.refused e.spent e.cause e.died)
 
 pub returns : goal.returns
 returns c =
@@ -329,10 +325,9 @@ returns c =
             stands = subst (Stands q (block_of o)) (rest_top x a e t y) (subst (λ (i : ℕ). Stands q (block_of o) (rest x a t i)) none (r.stands t st));
             kept = kept_more c.args.pool.now q (3 * (e - c.levels.depth)) (3 * height t) o (omega (arith, lower, none)) r.kept;
           });
-      blocks = r.blocks;
       lives = λ t st. made_few (3 * height t) p q c.requires.working.run r.went.run r.went.start (cut t st).made;
       steps =
-          λ t st calm trees. elim (spent_made (remove_steps (height t) p.start.geometry) (3 * height t) c.requires.working.run r.went.run r.went.start (cut_stay p q c.requires.working r.working r.went calm trees (cut t st) r.blocks) (cut t st).made (spent t st)) [
+          λ t st calm trees. elim (spent_made (remove_steps (height t) p.start.geometry) (3 * height t) c.requires.working.run r.went.run r.went.start (cut_stay p q c.requires.working r.working r.went calm trees (cut t st)) (cut t st).made (spent t st)) [
             | inl e ↦ absurd (calm e)
             | inr few ↦ few
           ];

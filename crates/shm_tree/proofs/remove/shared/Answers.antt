@@ -7,7 +7,6 @@ use Rattle.shm_tree.proofs.Fallings.{rests_shared}
 use Rattle.shm_tree.proofs.Removing.{kept_none, kept_share, moved_none, moved_share}
 use Rattle.shm_tree.proofs.Resting.{rests_still}
 use Rattle.shm_tree.proofs.Spendings.{spent_call}
-use Rattle.shm_tree.proofs.Weights.{blocks_nodes}
 use Rattle.shm_tree.proofs.remove.shared.Goals as goal
 
 pub returns-then-tree-eq0 : goal.returns-then-tree-eq0
@@ -17,7 +16,6 @@ returns-then-tree-eq0 c =
       builds = builds_done None n.went c.requires.working refl (spent_call (share_steps c.args.pool.now.start.geometry) n.went (omega arith));
       kept = kept_none n.still;
       stands = moved_none c.args.pool.now c.args.tree (omega arith);
-      blocks = λ f j t low st. refl;
       rests = rests_still n.still;
     }
 
@@ -32,7 +30,6 @@ returns c =
       builds = builds_done (Some m) s.went s.working s.latch (spent_call (share_steps c.args.pool.now.start.geometry) s.went s.steps);
       kept = kept_share c.args.tree s.block (λ e. omega arith) s.shared;
       stands = moved_share m.root c.args.tree m.block s.block s.shared;
-      blocks = blocks_nodes s.shared.nodes;
       rests = rests_shared s.shared;
     }
 

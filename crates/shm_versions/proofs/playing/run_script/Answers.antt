@@ -16,7 +16,7 @@ pub returns : goal.returns
 returns c =
     let s = c.args.script.now in
     let run : Treed = record { closed = c.close.result; answers = c.play.new.answers; holding = c.held_after-holding.result } in
-    tree_run s run _ _ _ _ _ _
+    tree_run s run _ _ _ _ _ _ c.requires
     (ap (λ (t : Scripted). t.segments) c.script.view_is)
     (c.as_slice.ensures.value ∙ ap (λ (t : Scripted). t.lines) c.script.view_is)
     (c.of-life.ensures ∙ c.life_of.ensures)

@@ -61,6 +61,7 @@ returns c =
     let y = c.joined.new.life.left in
     record {
       start = start_is p.start c.in-Ok.geometry c.args.segments (start (goal.at.returns c).In-Some) c.in-Ok.ensures.sizes;
+      run = some_is IsRun o p is e.run;
       joined = some_is (λ (q : Pool). Did 0 (first_pool q.start) q []) o p is e.events;
       step = first_step p x y (some_is (λ (q : Pool). Ran 0 true true (first_pool q.start) q x y) o p is e.ran) (some_is (λ (q : Pool). y + 1 ≡ x) o p is e.spent);
       empty = opened_versions p;

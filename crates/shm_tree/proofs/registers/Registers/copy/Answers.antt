@@ -1,4 +1,4 @@
-use Rattle.std.proofs.Common.{◌≡◌, ◌∙◌, true, false, ◌+◌, ◌<◌, arith, subst, ℕ}
+use Rattle.std.proofs.Common.{◌≡◌, ◌∙◌, true, false, ◌+◌, ◌<◌, arith, sym, subst, ℕ, true≢false}
 use Rattle.std.specs.Prelude.{slice_index}
 use Rattle.shm_count.specs.declared.answer.Made.{Made}
 use Rattle.shm_words.specs.declared.geometry.Geometry.{Geometry}
@@ -8,6 +8,8 @@ use Rattle.shm_tree.specs.Forests.{block_in, version}
 use Rattle.shm_tree.specs.Standing.{IsTree}
 use Rattle.shm_tree.proofs.Building.{ok_any, went_on}
 use Rattle.shm_tree.proofs.Costing.{cleared_costs, copy_costs}
+use Rattle.shm_tree.specs.declared.line.TreeLine.TheVariants as lines
+use Rattle.shm_tree.proofs.CutShort.{first_off, off_from, root_same, share_off, spare_off}
 use Rattle.shm_tree.proofs.Forests.{registers_named, registers_then, registers_versions, calls_kept, untold}
 use Rattle.shm_tree.proofs.Moving.{made_alone, made_forest, made_kept, made_spare, made_tree, made_versions, moves_after, moves_from, moves_stop, nothing_spare, nothing_tree, put_done, copied_tree}
 use Rattle.shm_tree.proofs.Refusals.{all_of, first_of, first_of_three, handed, none_least, outer_two, refused_kept, spends_more, spends_of, spends_then}
@@ -73,6 +75,8 @@ returns c =
     let same = made_versions g q m x s.tidy p.calls p.rooted p.some in
     let low = x.low c.args.from c.requires.from in
     record {
+      off = spare_off (lines.Copy c.args.to c.args.from) c.args.self.now (record { pool = q; roots = g.roots; tidy = false }) c.put.new.self m.root c.args.life.now.left c.copied.new.life.left c.put.result p.rooted.low (made_spare g q m x s.tidy p.calls p.rooted p.some) o.begun o.kept;
+      idle = λ tidy to from. absurd (c.if-root-eq-NONE.false (root_same c.args.from (s.idle tidy).1 from));
       moves = moves_after _ c.requires.forest (went_on c.requires.forest.working.run s.moves.went p.calls.went) (registers_then s.same (made_kept g q m x s.tidy p.calls p.rooted p.some)) o.moves;
       done =
           put_done c.args.to m.root c.args.self.now (record { pool = q; roots = g.roots; tidy = false }) c.put.new.self (λ ts. version ts c.args.from) _ (λ ts v.
@@ -95,6 +99,8 @@ returns-then-root-eq-NONE c =
     let o = c.replace.ensures in
     let same : slice_index g.roots c.args.from ≡ 16 = omega arith in
     record {
+      off = first_off (lines.Copy c.args.to c.args.from) c.args.self.now c.replace.new.self g.pool c.args.life.now.left c.sweep.new.life.left c.replace.result (λ tidy. (s.idle tidy).2) o.begun;
+      idle = λ tidy to from. o.idle (root_same c.args.to (s.idle tidy).1 to);
       moves = moves_after _ c.requires.forest s.moves.went s.same o.moves;
       done =
           put_done c.args.to 16 c.args.self.now g c.replace.new.self (λ ts. version ts c.args.from) _ (λ ts v.
@@ -107,6 +113,23 @@ returns-then-root-eq-NONE c =
           refused_kept _ c.replace.result (λ r. spends_more 0 (copy_steps geo) (none_least 0) (outer_two (sweep_steps geo) (copied_steps geo) (drop_steps geo 0))
           (spends_then (λ (e : Geometry). drop_steps e 0) c.requires.forest.working s.moves.went o.moves.went (spends_of s.costs) r)) o.refused);
     }
+
+-- no word step was left
+pub returns-in_err-sweep-clause-off : goal.returns-in_err-sweep-clause-off
+returns-in_err-sweep-clause-off c = off_from (lines.Copy c.args.to c.args.from) c.args.self.now c.sweep.new.self c.args.life.now.left c.from_residual.result c.from_residual.ensures.1 (λ d tidy some calm. absurd (true≢false (sym (c.in_err-sweep.ensures.idle tidy).0)))
+
+pub returns-in_err-sweep-clause-idle : goal.returns-in_err-sweep-clause-idle
+returns-in_err-sweep-clause-idle c = λ tidy to from. absurd (true≢false (sym (c.in_err-sweep.ensures.idle tidy).0))
+
+pub returns-in_err-made-clause-off : goal.returns-in_err-made-clause-off
+returns-in_err-made-clause-off c =
+    let f = c.args.self.now in
+    let g = c.sweep.new.self in
+    let q = c.copied.new.pool in
+    off_from (lines.Copy c.args.to c.args.from) f (record { pool = q; roots = g.roots; tidy = false }) c.args.life.now.left c.from_residual-in_err-made.result c.from_residual-in_err-made.ensures.1 (share_off (lines.Copy c.args.to c.args.from) f g q false c.args.life.now.left _ (λ tidy. (c.in_ok-sweep.ensures.idle tidy).1) (λ ts v. tt) c.in_err-made.ensures.off)
+
+pub returns-in_err-made-clause-idle : goal.returns-in_err-made-clause-idle
+returns-in_err-made-clause-idle c = λ tidy to from. absurd (c.if-root-eq-NONE.false (root_same c.args.from (c.in_ok-sweep.ensures.idle tidy).1 from))
 
 -- where it was refused
 pub returns-in_err-sweep-clause-refused : goal.returns-in_err-sweep-clause-refused

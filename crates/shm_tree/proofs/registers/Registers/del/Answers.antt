@@ -1,4 +1,4 @@
-use Rattle.std.proofs.Common.{rules, ◌≡◌, ℕ, true, false, subst}
+use Rattle.std.proofs.Common.{rules, ◌≡◌, ℕ, true, false, sym, subst, Err, true≢false}
 use Rattle.std.specs.Prelude.{Option, Some, None}
 use Rattle.shm_tree.specs.declared.remove.Removed.{Removed}
 use Rattle.shm_tree.specs.Forests.{IsAbsent, IsCleared, IsLopped, IsPruned, KeepsRegisters, root_at, version}
@@ -13,6 +13,7 @@ use Rattle.shm_tree.specs.Costing.{Costs, Spends, StopsLine, del_steps, pruned_s
 use Rattle.shm_tree.specs.Forests.{HasVersions}
 use Rattle.shm_tree.specs.Trees.{Tree, height, removed}
 use Rattle.shm_tree.proofs.Costing.{part_costs, put_costs, unput_costs}
+use Rattle.shm_tree.proofs.CutShort.{off_from, same_off, spare_off, under_off}
 use Rattle.shm_tree.proofs.Forests.{calls_kept, registers_named, registers_then, registers_versions, untold}
 use Rattle.shm_tree.proofs.Moving.{calls_ok, deleted_all, deleted_some, made_alone, made_forest, made_kept, made_spare, made_tree, moves_after, moves_done, moves_from, moves_stop, moves_to, same_forest, same_kept, same_versions}
 use Rattle.shm_tree.proofs.Refusals.{added_none, all_of, first_of, first_of_three, handed, none_added, none_least, spends_more, spends_of, spends_then}
@@ -224,3 +225,35 @@ put-requires-clause-alone c =
     let s = c.in_ok-sweep.ensures in
     let d = (goal.at.put-requires-clause-alone c).In-Some-Some in
     made_alone c.sweep.new.self c.pruned.new.pool c.in-Some-Some.made s.moves.forest s.tidy (calls_ok c.in-Some-Some.made c.in_ok-pruned.ensures.calls) (left d).rooted (left d).some
+
+-- no word step was left
+pub returns-in_err-sweep-clause-off : goal.returns-in_err-sweep-clause-off
+returns-in_err-sweep-clause-off c = off_from (lines.Del c.args.to c.args.from c.args.key) c.args.self.now c.sweep.new.self c.args.life.now.left c.from_residual.result c.from_residual.ensures.1 (λ d tidy some calm. absurd (true≢false (sym (c.in_err-sweep.ensures.idle tidy).0)))
+
+pub returns-in_err-pruned-clause-off : goal.returns-in_err-pruned-clause-off
+returns-in_err-pruned-clause-off c =
+    let f = c.args.self.now in
+    let h : Registers = record { pool = c.pruned.new.pool; roots = c.sweep.new.self.roots; tidy = false } in
+    off_from (lines.Del c.args.to c.args.from c.args.key) f h c.args.life.now.left c.from_residual-in_err-pruned.result c.from_residual-in_err-pruned.ensures.1 (under_off (lines.Del c.args.to c.args.from c.args.key) f h _ (λ tidy. (c.in_ok-sweep.ensures.idle tidy).2) c.in_err-pruned.ensures.off)
+
+pub returns-in_err-replace-in-Some-None-clause-off : goal.returns-in_err-replace-in-Some-None-clause-off
+returns-in_err-replace-in-Some-None-clause-off c =
+    let f = c.args.self.now in
+    let g = c.sweep.new.self in
+    let s = c.in_ok-sweep.ensures in
+    let none = gone (goal.at.returns-in_err-replace-in-Some-None-clause-off c).In-Some-None in
+    let e = c.in_err-replace-in-Some-None.ensures in
+    off_from (lines.Del c.args.to c.args.from c.args.key) f c.replace.new.self c.args.life.now.left c.from_residual-in_err-replace-in-Some-None.result c.from_residual-in_err-replace-in-Some-None.ensures.1
+    (same_off (lines.Del c.args.to c.args.from c.args.key) f g c.replace.new.self c.pruned.new.pool c.args.life.now.left c.pruned.new.life.left _ (λ tidy. (s.idle tidy).1) none.roots (λ ts v. none.had (version ts c.args.from) ((registers_versions s.same ts v).each c.args.from c.requires.from)) e.begun e.kept)
+
+pub returns-in_err-put-in-Some-Some-clause-off : goal.returns-in_err-put-in-Some-Some-clause-off
+returns-in_err-put-in-Some-Some-clause-off c =
+    let f = c.args.self.now in
+    let g = c.sweep.new.self in
+    let q = c.pruned.new.pool in
+    let m = c.in-Some-Some.made in
+    let s = c.in_ok-sweep.ensures in
+    let some = left (goal.at.returns-in_err-put-in-Some-Some-clause-off c).In-Some-Some in
+    let e = c.in_err-put-in-Some-Some.ensures in
+    off_from (lines.Del c.args.to c.args.from c.args.key) f c.put.new.self c.args.life.now.left c.from_residual-in_err-put-in-Some-Some.result c.from_residual-in_err-put-in-Some-Some.ensures.1
+    (spare_off {T = Unit {0}} (lines.Del c.args.to c.args.from c.args.key) f (record { pool = q; roots = g.roots; tidy = false }) c.put.new.self m.root c.args.life.now.left c.pruned.new.life.left (Err _) some.rooted.low (made_spare g q m s.moves.forest s.tidy (calls_ok m c.in_ok-pruned.ensures.calls) some.rooted some.some) e.begun e.kept)

@@ -1,4 +1,6 @@
 use Rattle.std.proofs.Common.{refl}
+use Rattle.shm_tree.specs.declared.line.TreeLine.TheVariants as lines
+use Rattle.shm_tree.proofs.CutShort.{read_ended, read_off}
 use Rattle.shm_tree.specs.Forests.{version}
 use Rattle.shm_tree.proofs.Costing.{got_costs}
 use Rattle.shm_tree.proofs.Moving.{got_versions, read_died, read_moves}
@@ -15,9 +17,11 @@ returns c =
     let f = c.args.self.now in
     let q = c.read.new.pool in
     let r = c.read.ensures in
+    let died = read_ended _ c.read.new.life.left c.read.result r.died in
     record {
-      moves = read_moves f q _ c.requires.forest r.went r.working r.latch r.still r.died;
-      died = read_died c.read.new.life.left _ r.died;
+      off = read_off (lines.Get c.args.at c.args.key) f (record { pool = q; roots = f.roots; tidy = f.tidy }) c.args.life.now.left c.read.new.life.left c.read.result r.died;
+      moves = read_moves f q _ c.requires.forest r.went r.working r.latch r.still died;
+      died = read_died c.read.new.life.left _ died;
       is = got_versions f q f.tidy c.args.at c.args.key _ c.requires.at r.is r.still;
       costs = got_costs _ _ f q c.args.at _ c.requires.at r.costs;
       told = refl;

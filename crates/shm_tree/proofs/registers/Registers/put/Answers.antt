@@ -1,4 +1,7 @@
-use Rattle.std.proofs.Common.{◌∙◌, refl, true, inl, inr}
+use Rattle.std.proofs.Common.{◌≡◌, ◌∙◌, refl, true, inl, inr}
+use Rattle.shm_tree.specs.declared.stop.Stop.{Stop}
+use Rattle.shm_tree.specs.Working.{DiedBegun}
+use Rattle.shm_tree.proofs.CutShort.{handed_err}
 use Rattle.shm_tree.proofs.Forests.{told, told_versions}
 use Rattle.shm_tree.proofs.Moving.{moves_done, moves_from}
 use Rattle.shm_tree.proofs.Refusals.{handed}
@@ -13,11 +16,19 @@ returns-in_err-replace-clause-moves c = moves_from c.from_residual.result c.from
 pub returns-in_err-replace-clause-refused : goal.returns-in_err-replace-clause-refused
 returns-in_err-replace-clause-refused c = handed (Unit {0}) _ _ c.from_residual.result c.from_residual.ensures.1 (λ r. r) c.in_err-replace.ensures.refused
 
+pub returns-in_err-replace-clause-begun : goal.returns-in_err-replace-clause-begun
+returns-in_err-replace-clause-begun c = handed_err (λ (e : Stop). DiedBegun e c.args.self.now.pool c.replace.new.self.pool c.args.life.now.left) c.from_residual.result c.from_residual.ensures.1 c.in_err-replace.ensures.begun
+
+pub returns-in_err-replace-clause-kept : goal.returns-in_err-replace-clause-kept
+returns-in_err-replace-clause-kept c = handed_err (λ (e : Stop). c.replace.new.self.roots ≡ c.args.self.now.roots) c.from_residual.result c.from_residual.ensures.1 c.in_err-replace.ensures.kept
+
 pub returns : goal.returns
 returns c =
     let g = c.replace.new.self in
     let r = c.in_ok-replace.ensures in
     record {
+      begun = tt;
+      kept = tt;
       moves =
           moves_done _ r.moves.went (told g true r.moves.forest (λ e k lt free.
           (let h = r.left k lt free in

@@ -1,4 +1,7 @@
-use Rattle.std.proofs.Common.{◌∙◌, refl}
+use Rattle.std.proofs.Common.{◌≡◌, ◌∙◌, refl, sym, true≢false}
+use Rattle.shm_tree.specs.declared.stop.Stop.{Stop}
+use Rattle.shm_tree.specs.Working.{DiedBegun}
+use Rattle.shm_tree.proofs.CutShort.{handed_err}
 use Rattle.shm_tree.proofs.Moving.{moves_done, moves_from, moves_still, replaced_forest, replaced_left, replaced_put}
 use Rattle.shm_tree.proofs.Refusals.{handed}
 use Rattle.shm_tree.proofs.registers.Registers.replace.Goals as goal
@@ -14,6 +17,15 @@ returns-in_err-emptied-clause-moves c =
 pub returns-in_err-emptied-clause-refused : goal.returns-in_err-emptied-clause-refused
 returns-in_err-emptied-clause-refused c = handed (Unit {0}) _ _ c.from_residual.result c.from_residual.ensures.1 (λ r. r) c.in_err-emptied.ensures.refused
 
+pub returns-in_err-emptied-clause-begun : goal.returns-in_err-emptied-clause-begun
+returns-in_err-emptied-clause-begun c = handed_err (λ (e : Stop). DiedBegun e c.args.self.now.pool c.emptied.new.pool c.args.life.now.left) c.from_residual.result c.from_residual.ensures.1 c.in_err-emptied.ensures.begun
+
+pub returns-in_err-emptied-clause-kept : goal.returns-in_err-emptied-clause-kept
+returns-in_err-emptied-clause-kept c = handed_err (λ (e : Stop). c.args.self.now.roots ≡ c.args.self.now.roots) c.from_residual.result c.from_residual.ensures.1 refl
+
+pub returns-in_err-emptied-clause-idle : goal.returns-in_err-emptied-clause-idle
+returns-in_err-emptied-clause-idle c = λ e. absurd (true≢false (sym (c.in_err-emptied.ensures.idle e)))
+
 pub returns : goal.returns
 returns c =
     let f = c.args.self.now in
@@ -22,6 +34,9 @@ returns c =
     let h = c.in_ok-emptied.ensures in
     let l = h.calls.latch ∙ x.latch in
     record {
+      begun = tt;
+      kept = tt;
+      idle = λ e. refl;
       moves = moves_done _ h.calls.went (replaced_forest f q c.args.at c.args.root x c.requires.at c.requires.root h.calls.working l h.calls.kept h.others h.empty c.requires.tree.0 c.requires.tree.1);
       put = replaced_put f q c.args.at c.args.root x c.requires.at c.requires.root h.calls.working l h.calls.kept h.others h.empty;
       left = replaced_left f q c.args.at c.args.root x c.requires.at c.requires.root h.calls.working l h.calls.kept h.others h.empty;

@@ -1,8 +1,9 @@
-use Rattle.std.proofs.Common.{◌+◌, ◌∙◌, sym}
+use Rattle.std.proofs.Common.{◌+◌, ◌∙◌, sym, inl, inr, true≢false}
 use Rattle.shm_tree.specs.declared.line.TreeAnswer.{TreeAnswer}
 use Rattle.shm_tree.specs.Costing.{call_steps, made_most, sweep_steps}
 use Rattle.shm_tree.proofs.Answering.{alive_died, refused_died}
 use Rattle.shm_tree.proofs.Eras.{spent_stays}
+use Rattle.shm_tree.proofs.Forests.{stopped_on}
 use Rattle.shm_tree.proofs.Moving.{alive_is, alive_when, is_over_is, is_over_not, refused_is, refused_when, undone_moves}
 use Rattle.shm_tree.proofs.Refusals.{added_none, all_of, spends_more, spends_then}
 use Rattle.shm_tree.proofs.registers.Registers.run.Goals as goal
@@ -42,3 +43,20 @@ pub returns-in-Ok-clause-swept : goal.returns-in-Ok-clause-swept
 returns-in-Ok-clause-swept c =
     let a = c.in-Ok.ensures in
     λ old calm. a.told (old (λ e. calm (spent_stays c.args.self.now.pool c.answer.new.self.pool c.requires.forest.working a.moves.forest.working a.moves.went e)))
+
+-- no word step was left for it
+pub returns-then-is_over-clause-off : goal.returns-then-is_over-clause-off
+returns-then-is_over-clause-off c = λ d tidy some calm. inl (c.in-Err.ensures.off d tidy some calm)
+
+pub returns-then-is_over-clause-idle : goal.returns-then-is_over-clause-idle
+returns-then-is_over-clause-idle c = λ tidy ts v none. absurd (true≢false (sym (c.in-Err.ensures.idle tidy ts v none)))
+
+-- or for what follows a refusal
+pub returns-else-is_over-clause-off : goal.returns-else-is_over-clause-off
+returns-else-is_over-clause-off c =
+    let ne = is_over_not c.in-Err.why (sym c.is_over.ensures ∙ c.if-is_over.false) in
+    let m = c.in-Err.ensures.moves in
+    λ d tidy some calm. inr (record { why = c.in-Err.why; other = ne; stopped = stopped_on c.in-Err.why m.cause m.went.run m.went.start c.undone.ensures.went.did })
+
+pub returns-else-is_over-clause-idle : goal.returns-else-is_over-clause-idle
+returns-else-is_over-clause-idle c = λ tidy ts v none. absurd (true≢false (sym (c.in-Err.ensures.idle tidy ts v none)))

@@ -1,4 +1,4 @@
-use Rattle.std.proofs.Common.{false}
+use Rattle.std.proofs.Common.{false, sym, true≢false}
 use Rattle.shm_count.specs.declared.answer.Made.{Made}
 use Rattle.shm_tree.specs.Forests.{version}
 use Rattle.shm_tree.specs.Trees.{inserted}
@@ -8,8 +8,10 @@ use Rattle.shm_words.specs.declared.geometry.Geometry.{Geometry}
 use Rattle.shm_tree.specs.Trees.{Tree, height}
 use Rattle.shm_tree.specs.Bounds.{drop_steps}
 use Rattle.shm_tree.specs.declared.line.TreeLine.TheVariants as lines
+use Rattle.shm_tree.specs.declared.registers.Registers.{Registers}
 use Rattle.shm_tree.specs.Costing.{StopsLine, planted_steps, sweep_steps}
 use Rattle.shm_tree.proofs.Costing.{part_costs, set_costs, set_few}
+use Rattle.shm_tree.proofs.CutShort.{off_from, spare_off, under_off}
 use Rattle.shm_tree.proofs.Forests.{registers_named, registers_then, registers_versions, calls_kept, untold}
 use Rattle.shm_tree.proofs.Moving.{made_alone, made_forest, made_kept, made_spare, made_tree, made_versions, moves_after, moves_from, moves_stop, put_done}
 use Rattle.shm_tree.proofs.Refusals.{added_none, all_of, first_of, first_of_three, handed, none_added, none_least, refused_kept, spends_more, spends_of, spends_then}
@@ -68,6 +70,7 @@ returns c =
     let o = c.put.ensures in
     let same = made_versions g q m x s.tidy p.calls p.rooted p.some in
     record {
+      off = spare_off (lines.Set c.args.to c.args.from c.args.key c.args.number) c.args.self.now (record { pool = q; roots = g.roots; tidy = false }) c.put.new.self m.root c.args.life.now.left c.planted.new.life.left c.put.result p.rooted.low (made_spare g q m x s.tidy p.calls p.rooted p.some) o.begun o.kept;
       moves = moves_after _ c.requires.forest (went_on c.requires.forest.working.run s.moves.went p.calls.went) (registers_then s.same (made_kept g q m x s.tidy p.calls p.rooted p.some)) o.moves;
       done =
           put_done c.args.to m.root c.args.self.now (record { pool = q; roots = g.roots; tidy = false }) c.put.new.self (λ ts. inserted c.args.key c.args.number (version ts c.args.from)) _ (λ ts v.
@@ -87,6 +90,16 @@ returns c =
           spends_more (i + 3) (sweep_steps geo + planted_steps i geo + drop_steps geo 0) (added_none (i + 3)) (all_of (sweep_steps geo + planted_steps i geo + drop_steps geo 0))
           (spends_then (λ (e : Geometry). drop_steps e 0) c.requires.forest.working (went_on c.requires.forest.working.run s.moves.went p.calls.went) o.moves.went (spends_of part) r))) o.refused;
     }
+
+-- no word step was left
+pub returns-in_err-sweep-clause-off : goal.returns-in_err-sweep-clause-off
+returns-in_err-sweep-clause-off c = off_from (lines.Set c.args.to c.args.from c.args.key c.args.number) c.args.self.now c.sweep.new.self c.args.life.now.left c.from_residual.result c.from_residual.ensures.1 (λ d tidy some calm. absurd (true≢false (sym (c.in_err-sweep.ensures.idle tidy).0)))
+
+pub returns-in_err-made-clause-off : goal.returns-in_err-made-clause-off
+returns-in_err-made-clause-off c =
+    let f = c.args.self.now in
+    let h : Registers = record { pool = c.planted.new.pool; roots = c.sweep.new.self.roots; tidy = false } in
+    off_from (lines.Set c.args.to c.args.from c.args.key c.args.number) f h c.args.life.now.left c.from_residual-in_err-made.result c.from_residual-in_err-made.ensures.1 (under_off (lines.Set c.args.to c.args.from c.args.key c.args.number) f h _ (λ tidy. (c.in_ok-sweep.ensures.idle tidy).2) c.in_err-made.ensures.off)
 
 -- where it was refused
 pub returns-in_err-sweep-clause-refused : goal.returns-in_err-sweep-clause-refused

@@ -16,6 +16,7 @@ returns c =
     let f = c.args.self.now in
     let s = c.in_ok-swept.ensures in
     record {
+      idle = λ e. absurd (true≢false (sym e ∙ c.if-self.false));
       moves = moves_done _ s.calls.went (forest_over f c.swept.new.pool true c.requires.forest s.calls.working (s.calls.latch ∙ c.requires.forest.latch) s.calls.kept (λ e. s.empty));
       same = registers_over f c.swept.new.pool true s.calls.kept;
       roots = refl;

@@ -4,7 +4,7 @@ use Rattle.shm_tree.specs.Bounds.{drop_steps}
 use Rattle.shm_tree.proofs.Costing.{swept_all, swept_more, swept_none}
 use Rattle.shm_tree.proofs.Forests.{calls_from, sweeping_stop}
 use Rattle.shm_tree.proofs.Refusals.{handed, none_least, one_root, spends_more, spends_of, spends_then}
-use Rattle.shm_tree.proofs.registers.swept.Goals as goal
+use Rattle.shm_tree.proofs.sweeping.swept.Goals as goal
 
 pub loop-root-init : goal.loop-root-init
 loop-root-init c = swept_none c.args.roots c.args.pool.now c.args.life.now.left c.requires.working
