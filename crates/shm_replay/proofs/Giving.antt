@@ -35,6 +35,13 @@ module _ (t : Traced) where
   idle_row p c zero e = refl
   idle_row p c (suc n) e = ap (λ o. given t (worked o (life_in p c (script_in t.scripts c)) c p) (replicate n c)) (idle_next (next_of t p c) e) ∙ idle_row p c n e
 
+  -- so they may follow, however many
+  pub row_idle : (p q : Pool) (c n k : ℕ) → q ≡ in_a_row t p c n → is_busy t q c ≡ false → q ≡ in_a_row t p c (n + k)
+  row_idle p q c n zero e idle = e ∙ ap (in_a_row t p c) (sym (add-zero n))
+  row_idle p q c n (suc k) e idle =
+      row_more p q q c (n + k) (row_idle p q c n k e idle) (sym (idle_row q c 1 idle))
+      ∙ ap (in_a_row t p c) (let f : n + k + 1 ≡ n + suc k = omega arith in f)
+
   -- one more item
   pub items_more : (p : Pool) (is : List Item) (i : Item) (cs : List ℕ) (n : ℕ) → AreOfItems t p is cs → IsGiven t (given t p cs) i n → AreOfItems t p (is ++ i ∷ []) (cs ++ replicate n i.client)
   items_more p [] i cs n h g =

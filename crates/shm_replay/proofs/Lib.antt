@@ -5,6 +5,7 @@ mod Visiting
 mod Reviving
 mod Giving
 pub mod Seating
+mod Lone
 mod Telling
 mod Aside
 mod Firsts

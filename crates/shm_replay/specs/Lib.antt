@@ -4,3 +4,4 @@ pub mod Closings
 pub mod Seats
 pub mod Gathered
 pub mod Replays
+pub mod AtWork

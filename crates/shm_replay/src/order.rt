@@ -1,8 +1,9 @@
 //! The turns that a trace gives to the agents of its scripts.
 
-ghost use Rattle.std.specs.Prelude.{◌≡◌, ◌≢◌, ◌+◌, ◌<◌, ◌⊎◌, ℕ, false, true, List, length};
+ghost use Rattle.std.specs.Prelude.{◌≡◌, ◌≢◌, ◌+◌, ◌<◌, ◌≤◌, ◌⊎◌, ℕ, false, true, None, Some, List, length, slice_index_or, IfSome, MatchOption};
 ghost use Rattle.shm_graph.specs.Runs.{account_at};
 ghost use Rattle.shm_agents.specs.Agents.{is_client};
+ghost use Rattle.shm_replay.specs.AtWork.{has_work};
 ghost use Rattle.shm_replay.specs.Orders.{AreOfItems, IsGiven, IsUntilAnswered, from_on, rounds_of};
 ghost use Rattle.shm_replay.specs.Seats.{AreSeated, IsSeat, turns_in, turns_left};
 ghost use Rattle.shm_replay.specs.Turns.{given, in_a_row, is_busy};
@@ -13,6 +14,9 @@ use shm_script::{Item, Trace};
 
 /// How many turns an item without a number of turns gives at most.
 const MANY: u32 = 100_000;
+
+/// After how many rounds it is looked whether the agents of one identity alone have anything to do.
+const ROUNDS: u32 = 64;
 
 /// Gives a turn to the agents of an identity: a word step or a death, unless none of them has anything left to do.
 #[inline(always)]
@@ -34,7 +38,7 @@ fn give_turn(agents: &mut Agents, trace: &Trace, pool: &mut PlainPool)
     }
 }
 
-/// Gives so many turns to the agents of an identity.
+/// Gives so many turns to the agents of an identity. Those that find nothing left to do change nothing, and are left out.
 fn give_row(agents: &mut Agents, trace: &Trace, pool: &mut PlainPool, turns: u32)
     requires seat { IsSeat trace.now pool.old agents.old.me.who agents.old }
     ensures seat { IsSeat trace.now pool.new agents.old.me.who agents.new }
@@ -43,6 +47,9 @@ fn give_row(agents: &mut Agents, trace: &Trace, pool: &mut PlainPool, turns: u32
     ensures start { pool.new.start ≡ pool.old.start }
 {
     for _turn in 0..turns {
+        if agents.standing() != Standing::AtWork {
+            return;
+        }
         give_turn(agents, trace, pool);
     }
 }
@@ -140,7 +147,91 @@ fn give_round(agents: &mut [Option<Agents>], trace: &Trace, pool: &mut PlainPool
     some
 }
 
-/// Gives rounds of turns until no agent has anything left to do.
+/// Gives 64 rounds of turns, or fewer where nobody has anything left to do. It answers whether somebody had in each of them.
+#[inline(always)]
+fn give_some_rounds(agents: &mut [Option<Agents>], trace: &Trace, pool: &mut PlainPool) -> bool
+    requires seated { AreSeated trace.now pool.old agents.old }
+    ensures seated { AreSeated trace.now pool.new agents.new }
+    ensures given { (n : ℕ) × (pool.new ≡ given trace.now pool.old (rounds_of trace.now.clients n)) }
+    ensures some { result ≡ true → turns_left trace.now.scripts agents.new < turns_left trace.now.scripts agents.old }
+    ensures done { result ≡ false → (c : ℕ) → is_busy trace.now pool.new c ≡ false }
+    ensures start { pool.new.start ≡ pool.old.start }
+{
+    for _round in 0..ROUNDS {
+        if !give_round(agents, trace, pool) {
+            return false;
+        }
+    }
+    true
+}
+
+/// Whether one of the agents of an identity acts, or comes next.
+fn has_work(agents: &Option<Agents>) -> bool
+    ensures { result ≡ has_work agents.now }
+{
+    match agents {
+        None => false,
+        Some(own) => own.standing() == Standing::AtWork,
+    }
+}
+
+/// The first identity from this one on whose agents have something to do.
+fn first_at_work(agents: &[Option<Agents>], from: usize) -> Option<usize>
+    ensures { MatchOption result ((c : ℕ) → from ≤ c → has_work (slice_index_or agents.now c None) ≡ false) (λ who. (who < length agents.now) × ((c : ℕ) → from ≤ c → c < who → has_work (slice_index_or agents.now c None) ≡ false)) }
+{
+    for who in from..agents.len() {
+        if has_work(&agents[who]) {
+            return Some(who);
+        }
+    }
+    None
+}
+
+/// The identity whose agents have something to do, where there is no other one.
+fn lone(agents: &[Option<Agents>]) -> Option<usize>
+    ensures { IfSome result (λ who. (who < length agents.now) × ((c : ℕ) → c ≢ who → has_work (slice_index_or agents.now c None) ≡ false)) }
+{
+    let who = first_at_work(agents, 0)?;
+    match first_at_work(agents, who + 1) {
+        None => Some(who),
+        Some(_) => None,
+    }
+}
+
+/// Gives turns to the agents of an identity until they have nothing left to do, where nobody else has: each of them is a round.
+#[inline(never)]
+fn give_rest(agents: &mut Agents, trace: &Trace, pool: &mut PlainPool)
+    requires seat { IsSeat trace.now pool.old agents.old.me.who agents.old }
+    requires who { agents.old.me.who < trace.now.clients }
+    requires lone { (d : ℕ) → d ≢ agents.old.me.who → is_busy trace.now pool.old d ≡ false }
+    ensures seat { IsSeat trace.now pool.new agents.old.me.who agents.new }
+    ensures given { (n : ℕ) × (pool.new ≡ given trace.now pool.old (rounds_of trace.now.clients n)) }
+    ensures done { (c : ℕ) → is_busy trace.now pool.new c ≡ false }
+    ensures others { (d : ℕ) → d ≢ agents.old.me.who → account_at pool.new.accounts d ≡ account_at pool.old.accounts d }
+    ensures start { pool.new.start ≡ pool.old.start }
+{
+    while agents.standing() == Standing::AtWork {
+        give_turn(agents, trace, pool);
+    }
+}
+
+/// Gives rounds of turns until no agent has anything left to do, where only those of the identity `who` have.
+fn finish(agents: &mut [Option<Agents>], trace: &Trace, who: usize, pool: &mut PlainPool)
+    requires seated { AreSeated trace.now pool.old agents.old }
+    requires who { who < length agents.old }
+    requires lone { (c : ℕ) → c ≢ who → has_work (slice_index_or agents.old c None) ≡ false }
+    ensures seated { AreSeated trace.now pool.new agents.new }
+    ensures given { (n : ℕ) × (pool.new ≡ given trace.now pool.old (rounds_of trace.now.clients n)) }
+    ensures done { (c : ℕ) → is_busy trace.now pool.new c ≡ false }
+    ensures start { pool.new.start ≡ pool.old.start }
+{
+    trace.in_grammar();
+    if let Some(own) = &mut agents[who] {
+        give_rest(own, trace, pool);
+    }
+}
+
+/// Gives rounds of turns until no agent has anything left to do. Once only those of one identity have, the others are passed over.
 #[inline(never)]
 pub(crate) fn give_rounds(agents: &mut [Option<Agents>], trace: &Trace, pool: &mut PlainPool)
     requires seated { AreSeated trace.now pool.old agents.old }
@@ -149,5 +240,10 @@ pub(crate) fn give_rounds(agents: &mut [Option<Agents>], trace: &Trace, pool: &m
     ensures done { (c : ℕ) → is_busy trace.now pool.new c ≡ false }
     ensures start { pool.new.start ≡ pool.old.start }
 {
-    while give_round(agents, trace, pool) {}
+    while give_some_rounds(agents, trace, pool) {
+        if let Some(who) = lone(agents) {
+            finish(agents, trace, who, pool);
+            return;
+        }
+    }
 }

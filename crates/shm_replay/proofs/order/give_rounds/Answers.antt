@@ -1,20 +1,31 @@
-use Rattle.std.proofs.Common.{suc, ◌∙◌}
-use Rattle.shm_replay.proofs.Giving.{rounds_more}
+use Rattle.std.proofs.Common.{◌+◌, ◌∙◌}
+use Rattle.shm_replay.proofs.Lone.{rounds_on}
 use Rattle.shm_replay.proofs.order.give_rounds.Goals as goal
 
-pub loop-preserved : goal.loop-preserved
-loop-preserved c =
-    let h = c.loop.invariant in
-    let g = c.give_round.ensures in
+pub loop-agents-preserved : goal.loop-agents-preserved
+loop-agents-preserved c =
+    let h = c.loop-agents.invariant in
+    let g = c.give_some_rounds.ensures in
     let (n, is) = h.turns in
+    let (m, more) = g.given in
     record {
       seated = g.seated;
-      turns = (suc n, rounds_more c.args.trace.now c.args.pool.now c.loop.pool c.give_round.new.pool n is g.given);
+      turns = (n + m, rounds_on c.args.trace.now c.args.pool.now c.loop-agents.pool c.give_some_rounds.new.pool n m is more);
       start = g.start ∙ h.start;
     }
 
 pub returns-clause-given : goal.returns-clause-given
 returns-clause-given c =
-    let h = c.loop.invariant in
-    let (n, is) = h.turns in
-    (suc n, rounds_more c.args.trace.now c.args.pool.now c.loop.pool c.give_round.new.pool n is c.give_round.ensures.given)
+    let (n, is) = c.loop-agents.invariant.turns in
+    let (m, more) = c.give_some_rounds.ensures.given in
+    (n + m, rounds_on c.args.trace.now c.args.pool.now c.loop-agents.pool c.give_some_rounds.new.pool n m is more)
+
+pub returns-in-Some-clause-given : goal.returns-in-Some-clause-given
+returns-in-Some-clause-given c =
+    let t = c.args.trace.now in
+    let p = c.args.pool.now in
+    let q = c.give_some_rounds.new.pool in
+    let (n, is) = c.loop-agents.invariant.turns in
+    let (m, more) = c.give_some_rounds.ensures.given in
+    let (k, rest) = c.finish.ensures.given in
+    (n + m + k, rounds_on t p q c.finish.new.pool (n + m) k (rounds_on t p c.loop-agents.pool q n m is more) rest)

@@ -4,12 +4,12 @@ use Rattle.shm_replay.specs.Seats.{AreSeated, turns_left}
 use Rattle.shm_replay.specs.Turns.{given}
 use Rattle.shm_replay.proofs.order.give_rounds.Given as goal
 
-abbrev pub invariant-loop : goal.invariant-loop
-invariant-loop l = record {
+abbrev pub invariant-loop-agents : goal.invariant-loop-agents
+invariant-loop-agents l = record {
   seated : AreSeated l.trace l.pool l.agents;
   turns : (n : ℕ) × (l.pool ≡ given l.trace l.fn.pool (rounds_of l.trace.clients n));
   start : l.pool.start ≡ l.fn.pool.start;
 }
 
-abbrev pub decreases-loop : goal.decreases-loop
-decreases-loop l = turns_left l.trace.scripts l.agents
+abbrev pub decreases-loop-agents : goal.decreases-loop-agents
+decreases-loop-agents l = turns_left l.trace.scripts l.agents

@@ -1,8 +1,10 @@
-use Rattle.std.proofs.Common.{◌≡◌, ℕ, sym, ap, ◌∙◌, subst}
+use Rattle.std.proofs.Common.{◌≡◌, ◌≢◌, ℕ, ◌+◌, ◌-◌, false, sym, ap, ◌∙◌, subst, arith, inl, inr, rules}
 use Rattle.shm_graph.specs.declared.ask.Me.{Me}
 use Rattle.shm_replay.specs.Seats.{IsSeat}
-use Rattle.shm_replay.specs.Turns.{in_a_row}
-use Rattle.shm_replay.proofs.Giving.{row_more}
+use Rattle.shm_agents.specs.declared.agents.Standing.TheVariants.{AtWork}
+use Rattle.shm_replay.specs.Turns.{in_a_row, is_busy}
+use Rattle.shm_replay.proofs.Giving.{row_idle, row_more}
+use Rattle.shm_replay.proofs.Seating.{seat_busy, standing_cases}
 use Rattle.shm_replay.proofs.order.give_row.Goals as goal
 
 pub give_turn-requires : goal.give_turn-requires
@@ -24,3 +26,14 @@ loop-turn-preserved c =
       others = λ d o. g.others d (λ f. o (f ∙ e)) ∙ h.others d o;
       start = g.start ∙ h.start;
     }
+
+pub returns-then-ne-clause-given : goal.returns-then-ne-clause-given
+returns-then-ne-clause-given c =
+    let l = c.loop-turn in
+    let h = l.invariant in
+    let t = c.args.trace.now in
+    let who : ℕ = c.args.agents.now.me.who in
+    let rest : l.agents.standing ≢ AtWork = search rules in
+    let idle : is_busy t l.pool who ≡ false = seat_busy t l.pool who l.agents h.seat ∙ elim (standing_cases l.agents.standing) [ inl e ↦ absurd (rest e) | inr n ↦ n.0 ] in
+    subst (λ (n : ℕ). l.pool ≡ in_a_row t c.args.pool.now who n) (let e : l._turn + (c.args.turns - l._turn) ≡ c.args.turns = omega arith in e)
+    (row_idle t c.args.pool.now l.pool who l._turn (c.args.turns - l._turn) h.given idle)
