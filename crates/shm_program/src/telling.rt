@@ -2,12 +2,16 @@
 
 ghost use Rattle.std.specs.Prelude.{◌≡◌, ℕ, List, IfOk, None, Some, length};
 ghost use Rattle.shm_words.specs.Layout.{GeometryFits, total_of};
+ghost use Rattle.shm_graph.specs.declared.run.Move.{Move as AMove};
 ghost use Rattle.shm_graph.specs.declared.table.Entry.{Entry as AnEntry};
 ghost use Rattle.shm_graph.specs.Spots.{see};
 ghost use Rattle.shm_graph.specs.Tables.{IsTable};
+ghost use Rattle.shm_plain.specs.Closings.{IsClosedRun};
 ghost use Rattle.shm_report.specs.PoolWords.{IsCleanPool};
 ghost use Rattle.shm_tree.specs.ScriptTexts.{IsScript};
-ghost use Rattle.shm_program.specs.Replays.{IsPollTold, IsRescueTold, IsTeamTold, IsTold, written};
+ghost use Rattle.shm_program.specs.Replays.{IsPollTold, IsRescueTold, IsTeamTold, IsTold, polled_pool, written};
+ghost use Rattle.shm_program.specs.declared.outcome.Finished.TheVariants as finished;
+ghost use Rattle.shm_program.specs.declared.words.Form.TheVariants.{Report};
 ghost use Rattle.shm_program.specs.Trees.{IsTreeTold};
 ghost use Rattle.shm_program.specs.Words.{AreMedics, IsCount};
 
@@ -15,7 +19,7 @@ use crate::answer::Reply;
 use crate::gate::ByGate;
 use crate::outcome::Finished;
 use crate::words::Form;
-use shm_async::{run_async, run_limited};
+use shm_async::{Polled, run_async, run_limited};
 use shm_audit::write_image;
 use shm_morgue::run_morgue;
 use shm_replay::replay;
@@ -86,17 +90,10 @@ pub fn tell_rescue<R: Threads + Wait + Sync, G: Gate>(
     })
 }
 
-/// Runs a trace by clients that are polled, and answers with the report of the run.
-pub fn tell_polls<R: Wait + RandomSource + AllocGlobal>(
-    rt: &R,
-    alloc: Global,
-    trace: &Trace,
-    turns: u32,
-) -> Result<Reply, AllocError>
-    requires { IsCount turns }
-    ensures { IfOk result (λ r. (r.status ≡ 0) × IsPollTold turns None trace.now r.finished r.text.items) }
+/// The answer to a run by clients that were polled: its report.
+fn polled(alloc: Global, run: Polled) -> Result<Reply, AllocError>
+    ensures { IfOk result (λ r. (r.status ≡ 0) × (r.finished ≡ finished.Polled run) × ((turns : List AMove) → IsClosedRun (polled_pool run turns) → (table : ℕ → ℕ → List AnEntry) → IsTable run.closed.start.geometry (see run.closed.start.geometry run.closed.words) table → r.text.items ≡ written Report run.closed.start.geometry run.closed.words table run.logs.items)) }
 {
-    let run = run_async(rt, alloc, trace, turns)?;
     let closed = &run.closed;
     let text = written(
         alloc,
@@ -112,6 +109,20 @@ pub fn tell_polls<R: Wait + RandomSource + AllocGlobal>(
     })
 }
 
+/// Runs a trace by clients that are polled, and answers with the report of the run.
+pub fn tell_polls<R: Wait + RandomSource + AllocGlobal>(
+    rt: &R,
+    alloc: Global,
+    trace: &Trace,
+    turns: u32,
+) -> Result<Reply, AllocError>
+    requires { IsCount turns }
+    ensures { IfOk result (λ r. (r.status ≡ 0) × IsPollTold turns None trace.now r.finished r.text.items) }
+{
+    let run = run_async(rt, alloc, trace, turns)?;
+    polled(alloc, run)
+}
+
 /// The same with a limit: what isn't done after so many polls is given up, and recovered.
 pub fn tell_limited<R: Wait + RandomSource + AllocGlobal>(
     rt: &R,
@@ -125,19 +136,7 @@ pub fn tell_limited<R: Wait + RandomSource + AllocGlobal>(
     ensures { IfOk result (λ r. (r.status ≡ 0) × IsPollTold turns (Some limit) trace.now r.finished r.text.items) }
 {
     let run = run_limited(rt, alloc, trace, turns, limit)?;
-    let closed = &run.closed;
-    let text = written(
-        alloc,
-        Form::Report,
-        closed.geometry(),
-        closed.words(),
-        &run.logs,
-    )?;
-    Ok(Reply {
-        status: 0,
-        text,
-        finished: Finished::Polled(run),
-    })
+    polled(alloc, run)
 }
 
 /// Runs a script for versions of a map, and answers with what is to be written of the run.

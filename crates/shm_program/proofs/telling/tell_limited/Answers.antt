@@ -1,12 +1,9 @@
 use Rattle.std.proofs.Common.{refl}
-use Rattle.shm_program.specs.Replays.{polled_pool}
-use Rattle.shm_program.specs.declared.words.Form.TheVariants.{Report}
-use Rattle.shm_program.proofs.Tellings.{text_told}
+use Rattle.std.proofs.lemmas.Result.{IfOk-weaker}
 use Rattle.shm_program.proofs.telling.tell_limited.Goals as goal
 
 pub returns : goal.returns
 returns g c =
     let run = c.in_ok-run.run' in
     let (turns, r) = c.in_ok-run.ensures in
-    let text = text_told Report (polled_pool run turns) run.logs.items c.deref.result.now c.geometry.result c.words.result.now c.in_ok-text.text.items r.run.table c.geometry.ensures c.words.ensures.words c.deref.ensures.value r.run.closed r.run.is c.in_ok-text.ensures in
-    (refl, (record { run = run; kept = refl; turns = turns; limited = r }, text))
+    IfOk-weaker c.polled.result _ _ (λ v e. (e.0, (record { run = run; kept = e.1; turns = turns; limited = r }, e.2 turns r.run.closed r.run.table r.run.is))) c.polled.ensures
