@@ -1,6 +1,6 @@
 -- How far a call came that builds a tree, and what it leaves.
 use Rattle.std.proofs.Common.{◌≡◌, ◌≢◌, ◌==◌, ℕ, zero, suc, Bool, true, false, ◌+◌, ◌<◌, ◌≤◌, [], lit≤, refl, sym, ap, ◌∙◌, subst, arith, Result, Ok, Err, inl, inr}
-use Rattle.std.specs.Prelude.{IfErr, IfOk, IfSome, Option, None, Some}
+use Rattle.std.specs.Prelude.{IfOk, IfSome, Option, None, Some}
 use Rattle.std.specs.Result.{IsErrAnd}
 use Rattle.std.proofs.lemmas.Bool.{cases_eq, ne_eqb}
 use Rattle.shm_words.specs.declared.geometry.Geometry.{Geometry}
@@ -14,9 +14,10 @@ use Rattle.shm_tree.specs.declared.node.Side.{Side}
 use Rattle.shm_tree.specs.declared.node.Side.TheVariants.{Left, Right}
 use Rattle.shm_tree.specs.declared.stop.Stop.{Stop}
 use Rattle.shm_tree.specs.declared.stop.Stop.TheVariants as stop
-use Rattle.shm_tree.specs.Bounds.{drop_steps, link_steps}
+use Rattle.shm_tree.specs.Bounds.{drop_steps}
 use Rattle.shm_tree.specs.Building.{Builds, IsAtHand, IsBuilt, IsCheap, IsCut, IsHeld, IsRebuilt, block_of, named_by, rooms}
 use Rattle.shm_tree.specs.Causes.{StopCause}
+use Rattle.shm_tree.specs.Changing.{Changes}
 use Rattle.shm_tree.specs.Falling.{KeepsFalling}
 use Rattle.shm_tree.specs.Keeping.{HasGrown, HasMade, HasTree, IsBorn, IsDropped, IsLinked, IsStill, KeepsNodes, KeepsTrees}
 use Rattle.shm_tree.specs.Looking.{Looks}
@@ -167,17 +168,16 @@ pub builds_died : {S T : Type 0} {k c : ℕ} {p q r : Pool} {x y z : ℕ} {e : S
 builds_died hp went latch l = builds_first (looks_after hp went latch l)
 
 -- a call was refused, or found no word step
-pub builds_cut : (S : Type 0) (m : ℕ) (b : Geometry → ℕ) {T : Type 0} {n k a c : ℕ} {p q r : Pool} {x y z : ℕ} (e : Stop) → n + m ≤ k → a + b p.start.geometry ≤ c → IsWorking p → Went p q x y → IsSameLatch p q → IsCut n p q → HasSpent a p q x y → Went q r y z → IfAlive {T = S} (Err e) (IsWorking r) → IfAlive {T = S} (Err e) (IsSameLatch q r) → IfRefused {T = S} (Err e) (IsCut m q r) → IfAlive {T = S} (Err e) (HasSpent (b q.start.geometry) q r y z)
-    → StopCause q r e → DiedIn e q r z → Builds {T = T} k c (Err e) p r x z
-builds_cut S m b {T = T} {n = n} {k = k} {a = a} {c = c} {p = p} {q = q} {r = r} {x = x} {y = y} {z = z} e le low wp went latch cut spent g w l h s cause over =
+pub builds_cut : (S : Type 0) (m : ℕ) (b : Geometry → ℕ) {T : Type 0} {n k a c : ℕ} {p q r : Pool} {x y z : ℕ} (e : Stop) → n + m ≤ k → a + b p.start.geometry ≤ c → IsWorking p → Went p q x y → IsSameLatch p q → IsCut n p q → HasSpent a p q x y → Builds {T = S} m (b q.start.geometry) (Err e) q r y z → Builds {T = T} k c (Err e) p r x z
+builds_cut S m b {T = T} {n = n} {k = k} {a = a} {c = c} {p = p} {q = q} {r = r} {x = x} {y = y} {z = z} e le low wp went latch cut spent h =
     record {
-      went = went_on wp.run went g;
-      working = alive_map S T (IsWorking r) (IsWorking r) e (λ v. v) w;
-      latch = alive_map S T (IsSameLatch q r) (IsSameLatch p r) e (λ v. v ∙ latch) l;
-      refused = refused_map S T (IsCut m q r) (IsCut k p r) e (λ v. cut_more k (cut_then wp.run went.run went.start cut v) le) h;
-      spent = alive_map S T (HasSpent (b q.start.geometry) q r y z) (HasSpent c p r x z) e (λ v. spent_more (a + b p.start.geometry) c low (spent_then b wp went g spent v)) s;
-      cause = cause_after p q r wp.run went.run went.start went.did e cause;
-      died = died_then p q r z e latch over;
+      went = went_on wp.run went h.went;
+      working = alive_map S T (IsWorking r) (IsWorking r) e (λ v. v) h.working;
+      latch = alive_map S T (IsSameLatch q r) (IsSameLatch p r) e (λ v. v ∙ latch) h.latch;
+      refused = refused_map S T (IsCut m q r) (IsCut k p r) e (λ v. cut_more k (cut_then wp.run went.run went.start cut v) le) h.refused;
+      spent = alive_map S T (HasSpent (b q.start.geometry) q r y z) (HasSpent c p r x z) e (λ v. spent_more (a + b p.start.geometry) c low (spent_then b wp went h.went spent v)) h.spent;
+      cause = cause_after p q r wp.run went.run went.start went.did e h.cause;
+      died = died_then p q r z e latch h.died;
     }
 
 -- at an exit of a call that was refused
@@ -187,15 +187,7 @@ alive_refused S T P Q (stop.Full s b) f h = f h
 alive_refused S T P Q (stop.CountFull b c) f h = f h
 alive_refused S T P Q (stop.EraSpent e) f h = f h
 
--- where it made nodes
-pub grown_cuts : (T : Type 0) (n : ℕ) (p q : Pool) (e : Stop) → IfRefused {T = T} (Err e) (HasGrown n p q) → IfRefused {T = T} (Err e) (IsCut n p q)
-grown_cuts T n p q e h = refused_map T T (HasGrown n p q) (IsCut n p q) e grown_cut h
-
--- a call that stopped and tore nothing down
-pub spent_calls : (T : Type 0) {p q : Pool} {x y : ℕ} (c : ℕ) (e : Stop) → Went p q x y → IfAlive {T = T} (Err e) (x ≤ y + c) → IfAlive {T = T} (Err e) (HasSpent c p q x y)
-spent_calls T {p = p} {q = q} {x = x} {y = y} c e w few = alive_map T T (x ≤ y + c) (HasSpent c p q x y) e (spent_call c w) few
-
--- also one that was refused
+-- a call that was refused and tore nothing down
 pub spent_refused : (T : Type 0) {p q : Pool} {x y : ℕ} (c : ℕ) (e : Stop) → Went p q x y → IfRefused {T = T} (Err e) (x ≤ y + c) → IfAlive {T = T} (Err e) (HasSpent c p q x y)
 spent_refused T {p = p} {q = q} {x = x} {y = y} c e w few = alive_refused T T (x ≤ y + c) (HasSpent c p q x y) e (spent_call c w) few
 
@@ -308,7 +300,8 @@ builds_drop k wp l went w latch few = builds_done _ (went_on wp.run l.went went)
 pub builds_stuck : {m : Made} {n a : ℕ} {p q r : Pool} {x y z : ℕ} (e : Stop) → IsWorking p → Builds n a (Ok m) p q x y → IsCut n p q → Went q r y z → IfAlive {T = Unit {0}} (Err e) (IsWorking r) → IfAlive {T = Unit {0}} (Err e) (IsSameLatch q r) → IfRefused {T = Unit {0}} (Err e) (IsStill q r)
     → IfRefused {T = Unit {0}} (Err e) (y ≤ z + drop_steps q.start.geometry 0) → StopCause q r e → DiedIn e q r z → Builds {T = Made} n (a + drop_steps p.start.geometry 0) (Err e) p r x z
 builds_stuck {n = n} {a = a} e wp l cut went w latch still few cause died =
-    builds_cut (Unit {0}) 0 (λ g. drop_steps g 0) {T = Made} {n = n} {k = n} {a = a} e (omega arith) (omega arith) wp l.went l.latch cut l.spent went w latch (still_cuts (Unit {0}) _ _ _ still) (spent_refused (Unit {0}) _ _ went few) cause died
+    builds_cut (Unit {0}) 0 (λ g. drop_steps g 0) {T = Made} {n = n} {k = n} {a = a} e (omega arith) (omega arith) wp l.went l.latch cut l.spent
+    (record { went = went; working = w; latch = latch; refused = still_cuts (Unit {0}) _ _ _ still; spent = spent_refused (Unit {0}) _ _ went few; cause = cause; died = died })
 
 pub alive_kept : {T : Type 0} {P Q : Type 0} (o : Result T Stop) → (P → Q) → IfAlive o P → IfAlive o Q
 alive_kept (Ok a) f h = f h
@@ -337,13 +330,25 @@ ok_any (Err e) h = tt
 -- a call that builds after calls that read, which took at most so many word steps
 pub builds_after : {T : Type 0} {c : ℕ} {p q r : Pool} {x y z : ℕ} (n k a : ℕ) (b : Geometry → ℕ) (o : Result T Stop) → n ≤ k → a + b p.start.geometry ≤ c → IsWorking p → Looked p q x y → x ≤ y + a → Builds {T = T} n (b q.start.geometry) o q r y z → Builds {T = T} k c o p r x z
 builds_after {c = c} {p = p} n k a b (Ok v) le low wp l few h = builds_done v (went_on wp.run l.went h.went) h.working (h.latch ∙ l.latch) (spent_more (a + b p.start.geometry) c low (spent_then b wp l.went h.went (spent_call a l.went few) h.spent))
-builds_after {T = T} n k a b (Err e) le low wp l few h = builds_cut T n b {T = T} {n = 0} {k = k} {a = a} e (omega arith) low wp l.went l.latch (still_cut l.still) (spent_call a l.went few) h.went h.working h.latch h.refused h.spent h.cause h.died
+builds_after {T = T} n k a b (Err e) le low wp l few h = builds_cut T n b {T = T} {n = 0} {k = k} {a = a} e (omega arith) low wp l.went l.latch (still_cut l.still) (spent_call a l.went few) h
 
--- a node that was linked, as a call that builds
-pub builds_link : (p q : Pool) {x y : ℕ} (o : Result Made Stop) → Went p q x y → IfAlive o (IsWorking q) → IfAlive o (IsSameLatch p q) → IfRefused o (HasGrown 1 p q) → IfAlive o (x ≤ y + link_steps p.start.geometry) → IfErr o (λ e. StopCause p q e) → IfErr o (λ e. DiedIn e p q y) → Builds 1 (link_steps p.start.geometry) o p q x y
-builds_link p q (Ok m) g w l h few cause over = builds_done m g w l (spent_call (link_steps p.start.geometry) g few)
-builds_link p q (Err e) g w l h few cause over =
-    record { went = g; working = w; latch = l; refused = grown_cuts Made 1 p q e h; spent = spent_calls Made (link_steps p.start.geometry) e g few; cause = cause; died = over }
+-- a call that changes something, as one that builds
+pub builds_call : {T : Type 0} {c : ℕ} {L : Pool → Pool → Type 0} {p q : Pool} {x y : ℕ} (n : ℕ) (o : Result T Stop) → Changes c L o p q x y → (L p q → IsCut n p q) → Builds n c o p q x y
+builds_call {c = c} n (Ok v) h cut = builds_done v h.went h.working h.latch (spent_call c h.went h.steps)
+builds_call {T = T} {c = c} {L = L} {p = p} {q = q} {x = x} {y = y} n (Err e) h cut =
+    record {
+      went = h.went;
+      working = h.working;
+      latch = h.latch;
+      refused = refused_map T T (L p q) (IsCut n p q) e cut h.refused;
+      spent = alive_map T T (x ≤ y + c) (HasSpent c p q x y) e (spent_call c h.went) h.steps;
+      cause = h.cause;
+      died = h.died;
+    }
+
+-- a node that was linked
+pub builds_link : {c : ℕ} {p q : Pool} {x y : ℕ} (o : Result Made Stop) → Changes c (HasGrown 1) o p q x y → Builds 1 c o p q x y
+builds_link o h = builds_call 1 o h grown_cut
 
 pub at_hand_still : {p q : Pool} {x y : ℕ} (b : ℕ) → Looked p q x y → IsAtHand p b → IsAtHand q b
 at_hand_still {p = p} {q = q} b l a = (tree_kept p q b l.still.trees a.0, λ some. l.reaches b (a.1 some))

@@ -10,12 +10,12 @@ use Rattle.shm_tree.specs.declared.stop.Stop.{Stop}
 use Rattle.shm_tree.specs.Bounds.{drop_steps, share_steps}
 use Rattle.shm_tree.specs.Building.{named_by}
 use Rattle.shm_tree.specs.declared.registers.Registers.{Registers}
+use Rattle.shm_tree.specs.Changing.{Changes}
 use Rattle.shm_tree.specs.Costing.{Costs, MakesFew, copied_steps, copy_steps, read_steps, sweep_steps}
 use Rattle.shm_tree.specs.Forests.{HasVersions, IsForest, IsFree, KeepsRoots, KeepsVersions, block_in, root_at, version}
 use Rattle.shm_tree.specs.Keeping.{HasMade, IsDropped, IsShared, IsStill, is_live}
 use Rattle.shm_tree.specs.Living.{AreLivesTrees, KeepsLives}
 use Rattle.shm_tree.specs.Removing.{IsKept, IsRemoved}
-use Rattle.shm_tree.specs.Spending.{HasSpent}
 use Rattle.shm_tree.specs.Standing.{IsTree, Stands}
 use Rattle.shm_tree.specs.Tearing.{HasTorn}
 use Rattle.shm_tree.specs.Trees.{Tree, height}
@@ -23,7 +23,7 @@ use Rattle.shm_tree.specs.Working.{IfAlive, IsSameLatch, IsSpent, IsWorking, Wen
 use Rattle.shm_tree.proofs.Building.{Looked, looked_none, made_more, went_on}
 use Rattle.shm_tree.proofs.Eras.{spent_stays}
 use Rattle.shm_tree.proofs.Fallings.{rests_shared}
-use Rattle.shm_tree.proofs.Forests.{Quiet, Sweeping, sweeping_more, sweeping_none}
+use Rattle.shm_tree.proofs.Forests.{Sweeping, sweeping_more, sweeping_none}
 use Rattle.shm_tree.proofs.Fresh.{made_few}
 use Rattle.shm_tree.proofs.Nodes.{made_then}
 use Rattle.shm_tree.proofs.Resting.{rests_dropped, rests_still, rests_then}
@@ -35,17 +35,11 @@ le_self n = omega arith
 le_plus : (a b : ℕ) → a ≤ a + b
 le_plus a b = omega arith
 
-zeros : (n : ℕ) → (0 + n) + 0 ≤ n
-zeros n = omega arith
-
 zero_more : (n : ℕ) → 0 + n ≤ n
 zero_more n = omega arith
 
 none_more : 0 + 0 ≤ 0
 none_more = omega arith
-
-six : (a : ℕ) → (3 + a) + 3 ≤ a + 6
-six a = omega arith
 
 -- ---- calls
 
@@ -72,19 +66,11 @@ costs_dropped p q x y k (Ok a) w d torn = record { made = d.made; spent = spent_
 costs_dropped p q x y k (Err e) w d torn = tt
 
 -- a tree got a further root
-pub costs_copied : {p q r : Pool} {x y z : ℕ} (b : ℕ) (o : Result Made Stop) → IsWorking p → Looked p q x y → x ≤ y + 1 → Went q r y z → IfAlive o (IsWorking r) → IfOk o (λ m. IsShared m.root b q r) → IfAlive o (y ≤ z + share_steps q.start.geometry) → IfOk o (λ m. Costs 0 (copied_steps p.start.geometry) p r x z)
-costs_copied {q = q} {r = r} {y = y} {z = z} b (Ok m) wp l one w wr h few =
-    let later : Costs 0 (share_steps q.start.geometry) q r y z = record { made = h.made; spent = spent_call (share_steps q.start.geometry) w few; rests = rests_shared h } in
-    costs_then share_steps wp l.working wr l.went w (costs_still 1 l.went l.still one) later
-costs_copied b (Err e) wp l one w wr h few = tt
-
--- a tree was built under the latch, between calls that read
-pub costs_built : {n : ℕ} {p q r s : Pool} {x y z w : ℕ} (b : Geometry → ℕ) → IsWorking p → Quiet p q x y → x ≤ y + 3 → IsWorking r → Went q r y z → HasMade n q r → HasSpent (b q.start.geometry) q r y z → KeepsLives q r → Quiet r s z w → z ≤ w + 3 → Costs n (b p.start.geometry + 6) p s x w
-costs_built {n = n} {p = p} {q = q} {r = r} {s = s} {x = x} {y = y} {z = z} {w = w} b wp a few wr v made spent rests c last =
-    let mid : Costs n (b q.start.geometry) q r y z = record { made = made; spent = spent; rests = rests } in
-    let first : Costs (0 + n) (3 + b p.start.geometry) p r x z = costs_then b wp a.working wr a.went v (costs_still 3 a.went a.still few) mid in
-    let all : Costs ((0 + n) + 0) ((3 + b p.start.geometry) + 3) p s x w = costs_then (λ (g : Geometry). 3) wp wr c.working (went_on wp.run a.went v) c.went first (costs_still 3 c.went c.still last) in
-    costs_more n (b p.start.geometry + 6) (zeros n) (six (b p.start.geometry)) all
+pub costs_copied : {p q r : Pool} {x y z : ℕ} (b : ℕ) (o : Result Made Stop) → IsWorking p → Looked p q x y → x ≤ y + 1 → Changes (share_steps q.start.geometry) IsStill o q r y z → IfOk o (λ m. IsShared m.root b q r) → IfOk o (λ m. Costs 0 (copied_steps p.start.geometry) p r x z)
+costs_copied {q = q} {r = r} {y = y} {z = z} b (Ok m) wp l one h sh =
+    let later : Costs 0 (share_steps q.start.geometry) q r y z = record { made = sh.made; spent = spent_call (share_steps q.start.geometry) h.went h.steps; rests = rests_shared sh } in
+    costs_then share_steps wp l.working h.working l.went h.went (costs_still 1 l.went l.still one) later
+costs_copied b (Err e) wp l one h sh = tt
 
 -- what a removal made
 pub removed_made : (k : ℕ) (t : Tree) (o : Option Removed) (p q : Pool) → IsRemoved k t o p q → HasMade (3 * height t) p q

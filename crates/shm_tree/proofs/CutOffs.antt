@@ -5,6 +5,7 @@ use Rattle.shm_plain.specs.Pools.{Pool, memo_of}
 use Rattle.shm_count.specs.Roots.{root_word}
 use Rattle.shm_tree.specs.declared.stop.Stop.{Stop}
 use Rattle.shm_tree.specs.declared.stop.Stop.TheVariants as stop
+use Rattle.shm_tree.specs.Changing.{Changes}
 use Rattle.shm_tree.specs.Falling.{AreFalling}
 use Rattle.shm_tree.specs.Looking.{Looks}
 use Rattle.shm_tree.specs.Working.{DiedBegun, DiedIn, IsCutOff, IsSameLatch, IsWorking}
@@ -48,3 +49,8 @@ look_then p m q y e same h = (h.0, h.1, cut_then p m q same h.2)
 
 pub looks_dead : {T : Type 0} {p q : Pool} {x y : ℕ} → IsWorking p → Ran 0 true false p q x y → (AreFalling p → AreFalling q) → Looks {T = T} (Err stop.Died) p q x y
 looks_dead {p = p} {q = q} wp ran falls = record { went = went_dead true p q _ _ wp ran falls; working = tt; latch = tt; still = tt; reaches = tt; died = (refl, ran.died refl, cut_ran ran) }
+
+-- ---- a call that changes something
+
+pub changes_dead : {T : Type 0} {c : ℕ} {L : Pool → Pool → Type 0} {p q : Pool} {x y : ℕ} → IsWorking p → Ran 0 true false p q x y → (AreFalling p → AreFalling q) → Changes {T = T} c L (Err stop.Died) p q x y
+changes_dead {p = p} {q = q} wp ran falls = record { went = went_dead true p q _ _ wp ran falls; working = tt; latch = tt; reaches = tt; refused = tt; steps = tt; cause = tt; died = died_ran _ ran }

@@ -26,7 +26,6 @@ use Rattle.shm_ref.specs.DropRoot.{DropLeaves}
 use Rattle.shm_ref.specs.Lefts.{RootEvents}
 use Rattle.shm_ref.proofs.RootKeeps.{drop_emptied, drop_queues, drop_roots}
 use Rattle.shm_ref.proofs.RefusedDrops.{spent_either, spent_emptied, spent_kept}
-use Rattle.shm_tree.specs.Causes.{DropRefused}
 use Rattle.shm_tree.specs.Keeping.{IsDropped, IsStill, KeepsNode, is_alloc, is_live, made_in}
 use Rattle.shm_tree.specs.Standing.{IsNode, Stands, word_of}
 use Rattle.shm_tree.specs.Tearing.{IsGone}
@@ -37,7 +36,7 @@ use Rattle.shm_tree.proofs.Firsts.{freed_dead, frees_any}
 use Rattle.shm_tree.proofs.Frames.{Unfreed, Unmade, Untouched, dead_kept, frees}
 use Rattle.shm_tree.proofs.Losses.{Loses}
 use Rattle.shm_tree.proofs.Nodes.{body_names, calm_first, calm_held, from_started, keeps_then, made_then, names, node_kept, root_is, root_names}
-use Rattle.shm_tree.proofs.Shares.{queues_quiet, untouched_reaches, untouched_roots, within_self}
+use Rattle.shm_tree.proofs.Shares.{queues_quiet, untouched_reaches, untouched_roots}
 use Rattle.shm_tree.proofs.Turns.{did_keeps}
 
 -- ---- lists of events
@@ -352,6 +351,3 @@ module _ (p q : Pool) (es : List Event) (on : IsOn p q es) (k : ℕ) where
           let z : freed es + length h.0 ≡ 0 = omega (arith, a, b) in
           let c : IsWithin (8 + redo_steps p.start.geometry.wide + tear_steps p.start.geometry.wide 0) tr = subst (λ n. IsWithin (8 + redo_steps p.start.geometry.wide + tear_steps p.start.geometry.wide n) tr) z most in
           omega (arith, c)
-
-  pub drop_cause : (e : EraSpent) → DropLeaves (dropping me k) r0 r tr es (Err e) → DropRefused p q e
-  drop_cause e h = (k, within_self (λ m n t xs. DropLeaves (dropping me k) m n t xs (Err e)) p q es on h)

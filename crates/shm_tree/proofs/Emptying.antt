@@ -1,25 +1,21 @@
 -- What the closing of a forest leaves where its references fall: no block is live.
-use Rattle.std.proofs.Common.{◌≡◌, ◌≢◌, ℕ, zero, suc, ◌+◌, ◌<◌, ◌≤◌, Bool, true, false, cond, List, [], ◌∷◌, length, refl, sym, ap, ◌∙◌, subst, arith, inl, inr}
+use Rattle.std.proofs.Common.{◌≡◌, ℕ, zero, suc, ◌<◌, ◌≤◌, Bool, true, false, cond, List, [], ◌∷◌, length, refl, sym, ap, ◌∙◌, subst, arith, inl, inr}
 use Rattle.std.specs.Prelude.{Ok}
 use Rattle.std.specs.List.{Contains}
 use Rattle.std.proofs.lemmas.Bool.{cases_Bool}
 use Rattle.std.proofs.lemmas.List.Elements.{All-contains, Contains-append_cases}
-use Rattle.shm_words.specs.declared.geometry.Geometry.{Geometry}
-use Rattle.shm_words.proofs.Placing.{in_place}
 use Rattle.shm_graph.specs.declared.run.Account.{Account}
 use Rattle.shm_graph.specs.declared.run.Start.{Start}
 use Rattle.shm_graph.specs.declared.spot.Spot.{Spot}
-use Rattle.shm_graph.specs.declared.spot.Spot.TheVariants.{Body, Home, Root, Slot}
+use Rattle.shm_graph.specs.declared.spot.Spot.TheVariants.{Body, Home, Root}
 use Rattle.shm_graph.specs.Agents.{acts}
-use Rattle.shm_graph.specs.Blocks.{classes, headers}
+use Rattle.shm_graph.specs.Blocks.{headers}
 use Rattle.shm_graph.specs.Events.{Event, Down, ChangeDown, Free}
-use Rattle.shm_graph.specs.Ops.{held_over_of}
 use Rattle.shm_graph.specs.Runs.{account_at, account_died, changed, memos_of}
-use Rattle.shm_graph.specs.Spots.{see, spot_at}
-use Rattle.shm_graph.specs.Views.{View, held_overs, targets, view}
+use Rattle.shm_graph.specs.Spots.{see}
+use Rattle.shm_graph.specs.Views.{View, targets, view}
 use Rattle.shm_graph.proofs.Runs.Lists.{memos_of-changed}
 use Rattle.shm_graph.proofs.Runs.Running.{view-at1}
-use Rattle.shm_graph.proofs.States.Holders.{held_live_not_zero}
 use Rattle.shm_plain.specs.Closings.{IsClosedRun}
 use Rattle.shm_plain.specs.Pools.{IsRun, Pool, after_fall, memo_of}
 use Rattle.shm_plain.proofs.Turning.{fall_run}
@@ -29,9 +25,9 @@ use Rattle.shm_tree.specs.Ending.{HasEnded, HasParted, IsRevived}
 use Rattle.shm_tree.specs.Falling.{AreFalling}
 use Rattle.shm_tree.specs.Keeping.{is_live}
 use Rattle.shm_tree.proofs.Drops.{each}
-use Rattle.shm_tree.proofs.Falls.{Keeps, body_inside, falling_kept}
-use Rattle.shm_tree.proofs.Named.{Bounds, named_where, only_references, spot_bounds}
-use Rattle.shm_tree.proofs.Nodes.{IsCalm, calm_first, calm_held, names, root_is, root_names}
+use Rattle.shm_tree.proofs.Falls.{Keeps, falling_kept}
+use Rattle.shm_tree.proofs.Named.{upward}
+use Rattle.shm_tree.proofs.Nodes.{IsCalm, names, root_is, root_names}
 
 -- ---- events that lose references
 
@@ -56,63 +52,12 @@ lost_keeps r n es h e c =
 
 -- ---- blocks that nothing names
 
-module _ (q : Pool) (cq : IsCalm q) (falling : AreFalling q) (counted : (b : ℕ) → is_live q b ≡ true → 0 < (headers (see q.start.geometry q.words) b).count) (roots : (k : ℕ) → names q (Root 0 k) ≡ 0) where
-  abbrev g : Geometry
-  g = q.start.geometry
-
-  abbrev w : Spot → ℕ
-  w = see g q.words
-
-  abbrev v : View
-  v = view (memos_of q.accounts)
-
-  low_zero : (c : ℕ) → c < g.clients → c ≡ 0
-  low_zero c l = let n = cq.one in omega (arith, n, l)
-
-  some_live : (b : ℕ) → is_live q b ≡ true → b ≢ 0
-  some_live b live = held_live_not_zero g w v (calm_held q cq) b live
-
-  where_named : (b : ℕ) → is_live q b ≡ true → (a : ℕ) × (names q (spot_at g (classes w) a) ≡ b) × Bounds g (spot_at g (classes w) a)
-  where_named b live =
-      let held = calm_held q cq in
-      let over : held_overs v 0 ≡ 0 = ap held_over_of cq.idle in
-      let counts = held.count.counts b live in
-      let one = only_references g (classes w) (targets g w v) (held_overs v) b cq.one over (some_live b live) in
-      let some = counted b live in
-      let x = named_where g (classes w) (targets g w v) b (omega (arith, counts, one, some)) in
-      (x.0, x.2, spot_bounds g (classes w) x.0 (in_place g x.0 held.fits x.1))
-
-  -- a live block above it
-  abbrev Above : ℕ → Type 0
-  Above b = (d : ℕ) × (is_live q d ≡ true) × (falling.rank b < falling.rank d) × (falling.rank d ≤ falling.most)
-
-  by_body : (d i b : ℕ) → b ≢ 0 → names q (Body d i) ≡ b → Above b
-  by_body d i b some e =
-      let x = body_inside q d i (λ none. some (sym e ∙ none)) in
-      let y = falling.falls d i (λ none. some (sym e ∙ none)) in
-      (d, x.0, subst (λ (z : ℕ). falling.rank z < falling.rank d) e y.0, y.1)
-
-  by_spot : (s : Spot) (b : ℕ) → Bounds g s → b ≢ 0 → names q s ≡ b → Above b
-  by_spot (Home c) b low some e = absurd (some (sym e ∙ (ap (λ (z : ℕ). names q (Home z)) (low_zero c low) ∙ falling.home)))
-  by_spot (Root c k) b low some e = absurd (some (sym e ∙ (ap (λ (z : ℕ). names q (Root z k)) (low_zero c low.0) ∙ roots k)))
-  by_spot (Slot s r k) b low some e =
-      let lane = (calm_held q cq).self_lanes 0 (calm_first q cq) in
-      absurd (some (sym e ∙ (ap (λ (z : ℕ). names q (Slot z r k)) (low_zero s low.0) ∙ (ap (λ (z : ℕ). names q (Slot 0 z k)) (low_zero r low.1) ∙ lane.2 k))))
-  by_spot (Body d i) b low some e = by_body d i b some e
-  by_spot _ b low some e = absurd (some (sym e))
-
-  above : (b : ℕ) → is_live q b ≡ true → Above b
-  above b live = let x = where_named b live in by_spot (spot_at g (classes w) x.0) b x.2 (some_live b live) x.1
-
-  climb : (n b : ℕ) → is_live q b ≡ true → falling.most ≤ falling.rank b + n → ⊥
-  climb zero b live le = let x = above b live in let up = x.2 in let top = x.3 in omega (arith, le, up, top)
-  climb (suc n) b live le = let x = above b live in let up = x.2 in climb n x.0 x.1 (omega (arith, le, up))
-
-  none_live : (b : ℕ) → is_live q b ≡ false
-  none_live b = elim (cases_Bool (is_live q b)) [
-    | inr e ↦ e
-    | inl live ↦ absurd (climb falling.most b live (omega arith))
-  ]
+none_live : (q : Pool) → IsCalm q → AreFalling q → ((b : ℕ) → is_live q b ≡ true → 0 < (headers (see q.start.geometry q.words) b).count) → ((k : ℕ) → names q (Root 0 k) ≡ 0) → (b : ℕ) → is_live q b ≡ false
+none_live q cq falling counted roots b =
+    elim (cases_Bool (is_live q b)) [
+      | inr e ↦ e
+      | inl live ↦ absurd (upward q cq falling counted (λ d. ⊥) (λ k d low some e. some (sym e ∙ roots k)) (λ d i x some e l h. h) b live)
+    ]
 
 -- ---- a death
 

@@ -11,7 +11,8 @@ use Rattle.shm_count.specs.declared.answer.Made.{Made}
 use Rattle.shm_tree.specs.declared.registers.Registers.{Registers}
 use Rattle.shm_tree.specs.declared.stop.Stop.{Stop}
 use Rattle.shm_tree.specs.declared.stop.Stop.TheVariants as stop
-use Rattle.shm_tree.specs.Building.{Builds, IsBuilt, IsCut, named_by}
+use Rattle.shm_tree.specs.Building.{IsBuilt, IsCut, named_by}
+use Rattle.shm_tree.specs.Changing.{Changes}
 use Rattle.shm_tree.specs.Causes.{StopCause}
 use Rattle.shm_tree.specs.Forests.{Calls, IsForest, IsFree, IsTidy, KeepsNamed, KeepsOthers, KeepsRegisters, KeepsRoot, KeepsRoots, KeepsVersions, Stopped, block_in, root_at, version}
 use Rattle.shm_tree.specs.Keeping.{IsDropped, IsShared, IsStill}
@@ -19,7 +20,7 @@ use Rattle.shm_tree.specs.Standing.{IsTree, Stands, weight}
 use Rattle.shm_tree.specs.Trees.{Tree}
 use Rattle.shm_tree.specs.Working.{DiedIn, IfAlive, IfRefused, IsEmptied, IsRooted, IsSameLatch, IsWorking, Went}
 use Rattle.shm_tree.proofs.Answering.{alive_map, cause_after}
-use Rattle.shm_tree.proofs.Building.{Looked, looked_none, alive_any, alive_kept, alive_refused, built_cut, none_stands, rooted_some, went_on}
+use Rattle.shm_tree.proofs.Building.{Looked, looked_none, alive_kept, alive_refused, none_stands, rooted_some, went_on}
 use Rattle.shm_tree.proofs.Links.{still_then}
 use Rattle.shm_tree.proofs.Turns.{did_then}
 use Rattle.shm_tree.proofs.Weights.{weight_nodes, weight_none, weight_root}
@@ -199,18 +200,7 @@ calls_died {T = T} {K = K} {p = p} {q = q} {x = x} {y = y} e w d =
 pub calls_kept : {T : Type 0} {K L : Pool → Pool → Type 0} {p q : Pool} {x y : ℕ} (o : Result T Stop) → (K p q → L p q) → Calls K o p q x y → Calls L o p q x y
 calls_kept o f c = record { went = c.went; working = c.working; latch = c.latch; kept = alive_kept o f c.kept; cause = c.cause; died = c.died }
 
--- a tree was built under the latch, and the latch is given back
-pub planted_grows : {n : ℕ} {m : Made} {p q r s : Pool} {x y z w : ℕ} → IsWorking p → (memo_of p 0).latch ≡ None → Quiet p q x y → Went q r y z → IsBuilt n m q r → Quiet r s z w → (memo_of s 0).latch ≡ None → Calls {T = Made} KeepsNamed (Ok m) p s x w
-planted_grows wp lp a g b c ls =
-    record {
-      went = went_on wp.run (went_on wp.run a.went g) c.went;
-      working = c.working;
-      latch = ls ∙ sym lp;
-      kept = named_then (named_still a.still) (named_then (named_cut (built_cut b)) (named_still c.still));
-      cause = tt;
-      died = tt;
-    }
-
+-- what was built under the latch, once that is given back
 pub planted_rooted : {n : ℕ} {m : Made} {p q r s : Pool} → IsStill p q → IsBuilt n m q r → IsStill r s → IsRooted m.root m.block p s
 planted_rooted {m = m} a b c =
     record {
@@ -223,20 +213,6 @@ planted_rooted {m = m} a b c =
 pub cut_still : {n : ℕ} {p q r s : Pool} → IsStill p q → IsCut n q r → IsStill r s → KeepsNamed p s
 cut_still a b c = named_then (named_still a) (named_then (named_cut b) (named_still c))
 
--- or the call was refused
-pub planted_stop : {T : Type 0} {n i : ℕ} {p q r s : Pool} {x y z w : ℕ} (e : Stop) → e ≢ stop.Died → IsWorking p → (memo_of p 0).latch ≡ None → Quiet p q x y → Builds {T = T} n i (Err e) q r y z → Quiet r s z w → (memo_of s 0).latch ≡ None → Calls {T = T} KeepsNamed (Err e) p s x w
-planted_stop {T = T} {n = n} {p = p} {q = q} {r = r} {s = s} e alive wp lp a b c ls =
-    let kept : IfAlive {T = T} (Err e) (KeepsNamed p s) = alive_refused T T (IsCut n q r) (KeepsNamed p s) e (λ u. cut_still a.still u c.still) b.refused in
-    let went = went_on wp.run a.went b.went in
-    record {
-      went = went_on wp.run went c.went;
-      working = alive_any {T = T} (Err e) c.working;
-      latch = alive_any {T = T} (Err e) (ls ∙ sym lp);
-      kept = kept;
-      cause = stopped_on e (stopped_after e wp.run a.went (stopped_here e b.went.run b.went.start b.cause)) went.run went.start c.went.did;
-      died = λ d. absurd (alive d);
-    }
-
 -- a further root was given to a tree
 named_shared : {k b : ℕ} {p q : Pool} → IsShared k b p q → KeepsNamed p q
 named_shared {p = p} {q = q} h j some =
@@ -245,16 +221,16 @@ named_shared {p = p} {q = q} h j some =
       | inr le ↦ root_past j le
     ]
 
-pub shared_grows : {p q r : Pool} {x y z : ℕ} (b : ℕ) (o : Result Made Stop) → IsWorking p → Looked p q x y → Went q r y z → IfAlive o (IsWorking r) → IfAlive o (IsSameLatch q r) → IfOk o (λ m. IsShared m.root b q r) → IfRefused o (IsStill q r) → IfErr o (λ e. StopCause q r e) → IfErr o (λ e. DiedIn e q r z) → Calls KeepsNamed o p r x z
-shared_grows b (Ok m) wp l g w la sh st ca di = record { went = went_on wp.run l.went g; working = w; latch = la ∙ l.latch; kept = named_then (named_still l.still) (named_shared sh); cause = tt; died = tt }
-shared_grows {p = p} {q = q} {r = r} b (Err e) wp l g w la sh st ca di =
+pub shared_grows : {c : ℕ} {p q r : Pool} {x y z : ℕ} (b : ℕ) (o : Result Made Stop) → IsWorking p → Looked p q x y → Changes c IsStill o q r y z → IfOk o (λ m. IsShared m.root b q r) → Calls KeepsNamed o p r x z
+shared_grows b (Ok m) wp l h sh = record { went = went_on wp.run l.went h.went; working = h.working; latch = h.latch ∙ l.latch; kept = named_then (named_still l.still) (named_shared sh); cause = tt; died = tt }
+shared_grows {p = p} {q = q} {r = r} b (Err e) wp l h sh =
     record {
-      went = went_on wp.run l.went g;
-      working = w;
-      latch = alive_map Made Made (IsSameLatch q r) (IsSameLatch p r) e (λ v. v ∙ l.latch) la;
-      kept = alive_refused Made Made (IsStill q r) (KeepsNamed p r) e (λ u. named_then (named_still l.still) (named_still u)) st;
-      cause = stopped_after e wp.run l.went (stopped_here e g.run g.start ca);
-      died = λ d. (di d).0;
+      went = went_on wp.run l.went h.went;
+      working = h.working;
+      latch = alive_map Made Made (IsSameLatch q r) (IsSameLatch p r) e (λ v. v ∙ l.latch) h.latch;
+      kept = alive_refused Made Made (IsStill q r) (KeepsNamed p r) e (λ u. named_then (named_still l.still) (named_still u)) h.refused;
+      cause = stopped_after e wp.run l.went (stopped_here e h.went.run h.went.start h.cause);
+      died = λ d. (h.died d).0;
     }
 
 pub shared_rooted : {m : Made} {p q r : Pool} (b : ℕ) → IsStill p q → m.block ≡ b → IsShared m.root b q r → IsRooted m.root m.block p r

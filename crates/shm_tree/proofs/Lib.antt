@@ -31,6 +31,7 @@ pub mod SureCalls
 pub mod Links
 pub mod Answering
 pub mod Building
+pub mod Changing
 pub mod Rotations
 pub mod Ways
 pub mod Descents
@@ -48,6 +49,7 @@ pub mod Lights
 pub mod Living
 pub mod Outcomes
 pub mod Refusals
+pub mod Releasing
 pub mod Bounding
 pub mod Opening
 pub mod Levels

@@ -23,7 +23,7 @@ use Rattle.shm_tree.specs.Trees.{Tree, Empty, Node, found, height, inserted, rem
 use Rattle.shm_tree.specs.Working.{AreSameRoots, IfAlive, IfRefused, IsEmptied, IsOver, IsRooted, IsSameLatch, IsWorking, Went}
 use Rattle.shm_tree.proofs.Answering.{alive_died, alive_map, cause_died, refused_died, refused_map}
 use Rattle.shm_tree.proofs.Building.{built_cut, went_on}
-use Rattle.shm_tree.proofs.Forests.{Quiet, block_low, block_none, forest_over, named_cut, named_same, named_still, named_then, planted_rooted, registers_named, registers_over, registers_then, root_still, stopped_after, stopped_here, stopped_on, told, untold, version_kept, versions_over}
+use Rattle.shm_tree.proofs.Forests.{block_low, block_none, forest_over, named_cut, named_same, named_still, planted_rooted, registers_named, registers_over, registers_then, root_still, stopped_after, stopped_here, stopped_on, told, untold, version_kept, versions_over}
 use Rattle.shm_tree.proofs.Insertions.{inserts_well}
 use Rattle.shm_tree.proofs.Removals.{removes_well}
 
@@ -242,9 +242,6 @@ pub read_died : {T : Type 0} (y : ℕ) (o : Result T Stop) → IfErr o (λ e. (e
 read_died y (Ok v) d = tt
 read_died y (Err e) d = d.0
 
-pub read_versions : {f : Registers} {q : Pool} (b : Bool) → IsStill f.pool q → KeepsVersions f (record { pool = q; roots = f.roots; tidy = b })
-read_versions {f = f} {q = q} b s = versions_over f q b (λ r lt. root_still (root_at f r) s)
-
 -- a tree that was copied
 pub copied_tree : {p q : Pool} (k b : ℕ) (t : Tree) → k < 16 → ((u : Tree) → Stands p (named_by p k) u → Stands q b u) → IsTree p (block_in p k) t → IsTree q b t
 copied_tree {p = p} k b t lt f s = record { stands = f t (subst (λ (d : ℕ). Stands p d t) (block_low p k lt) s.stands); search = s.search; balanced = s.balanced }
@@ -383,20 +380,9 @@ kept_named : (n : ℕ) (o : Option Made) (p q : Pool) → IsKept n o p q → Kee
 kept_named n None p q h = named_cut h.0
 kept_named n (Some m) p q h = named_cut (built_cut h)
 
-removed_named : (x : ℕ) (t : Tree) (o : Option Removed) (p q : Pool) → IsRemoved x t o p q → KeepsNamed p q
+pub removed_named : (x : ℕ) (t : Tree) (o : Option Removed) (p q : Pool) → IsRemoved x t o p q → KeepsNamed p q
 removed_named x t None p q h = named_still h.1
 removed_named x t (Some w) p q h = kept_named (3 * height t) w.tree p q h.kept
-
-pub pruned_calls : {p q r s : Pool} {x y z w : ℕ} (k : ℕ) (t : Tree) (o : Option Removed) → IsWorking p → (memo_of p 0).latch ≡ None → Quiet p q x y → Went q r y z → IsRemoved k t o q r → Quiet r s z w → (memo_of s 0).latch ≡ None → Calls {T = Option Removed} KeepsNamed (Ok o) p s x w
-pruned_calls {p = p} {q = q} {r = r} {s = s} k t o wp lp a g b c ls =
-    record {
-      went = went_on wp.run (went_on wp.run a.went g) c.went;
-      working = c.working;
-      latch = ls ∙ sym lp;
-      kept = named_then (named_still a.still) (named_then (removed_named k t o q r b) (named_still c.still));
-      cause = tt;
-      died = tt;
-    }
 
 none_empty : (p : Pool) (t : Tree) → Stands p 0 t → t ≡ Empty
 none_empty p Empty s = refl

@@ -1,7 +1,7 @@
--- Where a tree stands at each live block, each live block is a node of a tree that a root names.
-use Rattle.std.proofs.Common.{◌≡◌, ◌≢◌, ◌==◌, ◌||◌, ℕ, zero, suc, ◌+◌, ◌-◌, ◌^◌, ◌<◌, ◌≤◌, Bool, true, false, cond, List, [], sym, ap, ◌∙◌, subst, arith, inl, inr, true≢false, nat_lt}
+-- Each live block is a node of a tree that a root names, where references fall, or a tree stands at each live block.
+use Rattle.std.proofs.Common.{◌≡◌, ◌≢◌, ◌==◌, ◌||◌, ℕ, zero, suc, ◌+◌, ◌-◌, ◌<◌, ◌≤◌, Bool, true, false, cond, List, [], sym, ap, ◌∙◌, subst, arith, inl, inr, true≢false}
 use Rattle.std.specs.List.{Contains}
-use Rattle.std.proofs.lemmas.Bool.{and_parts, cases_Bool, cases_eq, cond-false, cond-true, eqb-true, eq-eqb, ltb-true, ne_eqb}
+use Rattle.std.proofs.lemmas.Bool.{and_parts, cases_Bool, cases_eq, eqb-true, eq-eqb, ltb-true, ne_eqb}
 use Rattle.shm_words.specs.declared.geometry.Geometry.{Geometry}
 use Rattle.shm_words.specs.declared.place.Place.{Place}
 use Rattle.shm_words.specs.declared.place.Place.TheVariants as place
@@ -12,7 +12,7 @@ use Rattle.shm_graph.specs.declared.spot.Spot.{Spot}
 use Rattle.shm_graph.specs.declared.spot.Spot.TheVariants.{Unused, Head, Tag, Body, Home, Root, Slot}
 use Rattle.shm_graph.specs.Blocks.{classes, headers}
 use Rattle.shm_graph.specs.Ops.{held_over_of, indegree}
-use Rattle.shm_graph.specs.References.{one_if, references_to, sum_below, words_of}
+use Rattle.shm_graph.specs.References.{one_if, references_to, sum_below}
 use Rattle.shm_graph.specs.Spots.{see, spot_at, spot_of}
 use Rattle.shm_graph.specs.Views.{View, held_overs, targets, view}
 use Rattle.shm_graph.specs.Runs.{memos_of}
@@ -22,17 +22,17 @@ use Rattle.shm_count.specs.declared.answer.Made.{Made}
 use Rattle.shm_tree.proofs.Eras.{spent_stays}
 use Rattle.shm_tree.proofs.Lights.{once, part_weighs, weighs_live}
 use Rattle.shm_tree.specs.Building.{IsBuilt, named_by}
+use Rattle.shm_tree.specs.Falling.{AreFalling}
 use Rattle.shm_tree.specs.Inserting.{is_part, outside}
 use Rattle.shm_tree.specs.Keeping.{is_live}
 use Rattle.shm_tree.specs.Living.{AreFewNew, AreLivesNodes, AreLivesTrees, AreRootsTrees, KeepsLives}
 use Rattle.shm_tree.specs.Standing.{Stands, weight, word_of}
-use Rattle.shm_tree.specs.Trees.{Tree, Empty, Node, height}
+use Rattle.shm_tree.specs.Trees.{Tree, Empty, Node}
 use Rattle.shm_tree.specs.Working.{IsSpent, IsWorking, Went}
 use Rattle.shm_tree.proofs.Lights.{either, or_first, or_true}
-use Rattle.shm_tree.proofs.Links.{stands_low}
 use Rattle.shm_tree.proofs.Living.{lives_few}
-use Rattle.shm_tree.proofs.Nodes.{IsCalm, body_names, calm_first, calm_held, home_names, names, root_is, root_names, working_calm}
-use Rattle.shm_tree.proofs.Ways.{stands_one}
+use Rattle.shm_tree.proofs.Falls.{body_inside, lives_fall}
+use Rattle.shm_tree.proofs.Nodes.{IsCalm, body_names, calm_first, calm_held, names, root_is, root_names, working_calm}
 
 -- ---- nodes of trees
 
@@ -106,9 +106,10 @@ pub spot_bounds : (g : Geometry) (class : ℕ → ℕ → ℕ) (a : ℕ) → is_
 unfolding spot_at
 spot_bounds g class a e = place_bounds g class a (place_at g a) e
 
--- ---- live blocks
+-- ---- from a live block up to a root
 
-module _ (q : Pool) (work : IsWorking q) where
+-- where references fall and each live block is counted, each is named by a root, or by a word of a live block that is so too
+module _ (q : Pool) (calm : IsCalm q) (falling : AreFalling q) (counted : (b : ℕ) → is_live q b ≡ true → 0 < (headers (see q.start.geometry q.words) b).count) (P : ℕ → Type 0) (by_root : (k b : ℕ) → k < 16 → b ≢ 0 → names q (Root 0 k) ≡ b → P b) (by_body : (d i b : ℕ) → b ≢ 0 → names q (Body d i) ≡ b → is_live q d ≡ true → P d → P b) where
   abbrev g : Geometry
   g = q.start.geometry
 
@@ -118,108 +119,97 @@ module _ (q : Pool) (work : IsWorking q) where
   abbrev v : View
   v = view (memos_of q.accounts)
 
+  low_zero : (c : ℕ) → c < g.clients → c ≡ 0
+  low_zero c l = let n = calm.one in omega (arith, n, l)
+
+  some_live : (b : ℕ) → is_live q b ≡ true → b ≢ 0
+  some_live b live = held_live_not_zero g w v (calm_held q calm) b live
+
+  where_named : (b : ℕ) → is_live q b ≡ true → (a : ℕ) × (names q (spot_at g (classes w) a) ≡ b) × Bounds g (spot_at g (classes w) a)
+  where_named b live =
+      let held = calm_held q calm in
+      let over : held_overs v 0 ≡ 0 = ap held_over_of calm.idle in
+      let counts = held.count.counts b live in
+      let one = only_references g (classes w) (targets g w v) (held_overs v) b calm.one over (some_live b live) in
+      let some = counted b live in
+      let x = named_where g (classes w) (targets g w v) b (omega (arith, counts, one, some)) in
+      (x.0, x.2, spot_bounds g (classes w) x.0 (in_place g x.0 held.fits x.1))
+
+  by_spot : (s : Spot) (b : ℕ) → Bounds g s → b ≢ 0 → ((e : ℕ) → is_live q e ≡ true → falling.rank b < falling.rank e → falling.rank e ≤ falling.most → P e) → names q s ≡ b → P b
+  by_spot (Home c) b low some rec e = absurd (some (sym e ∙ (ap (λ (z : ℕ). names q (Home z)) (low_zero c low) ∙ falling.home)))
+  by_spot (Root c k) b low some rec e = by_root k b low.1 some (ap (λ (z : ℕ). names q (Root z k)) (sym (low_zero c low.0)) ∙ e)
+  by_spot (Slot s r k) b low some rec e =
+      let lane = (calm_held q calm).self_lanes 0 (calm_first q calm) in
+      absurd (some (sym e ∙ (ap (λ (z : ℕ). names q (Slot z r k)) (low_zero s low.0) ∙ (ap (λ (z : ℕ). names q (Slot 0 z k)) (low_zero r low.1) ∙ lane.2 k))))
+  by_spot (Body d i) b low some rec e =
+      let x = body_inside q d i (λ none. some (sym e ∙ none)) in
+      let y = falling.falls d i (λ none. some (sym e ∙ none)) in
+      by_body d i b some e x.0 (rec d x.0 (subst (λ (z : ℕ). falling.rank z < falling.rank d) e y.0) y.1)
+  by_spot _ b low some rec e = absurd (some (sym e))
+
+  climb : (n b : ℕ) → is_live q b ≡ true → falling.most < falling.rank b + n → P b
+  climb zero b live le =
+      let x = where_named b live in
+      by_spot (spot_at g (classes w) x.0) b x.2 (some_live b live) (λ e l up top. absurd (omega (arith, le, up, top))) x.1
+  climb (suc n) b live le =
+      let x = where_named b live in
+      by_spot (spot_at g (classes w) x.0) b x.2 (some_live b live) (λ e l up top. climb n e l (omega (arith, le, up))) x.1
+
+  pub upward : (b : ℕ) → is_live q b ≡ true → P b
+  upward b live = climb (falling.most + 1) b live (omega arith)
+
+-- ---- nodes of trees that roots name
+
+pub part_stands : (q : Pool) (z b : ℕ) (t : Tree) → Stands q b t → is_part q z b t ≡ true → (k n : ℕ) × (l r : Tree) × Stands q z (Node k n l r)
+part_stands q z b Empty st e = absurd (true≢false (sym e))
+part_stands q z b (Node k n l r) st e =
+    elim (either (z == b) (is_part q z (word_of q (Body b 0)) l || is_part q z (word_of q (Body b 1)) r) e) [
+      | inl y ↦ (k, n, l, r, subst (λ (d : ℕ). Stands q d (Node k n l r)) (sym (eqb-true z b y)) st)
+      | inr y ↦ elim (either (is_part q z (word_of q (Body b 0)) l) (is_part q z (word_of q (Body b 1)) r) y) [
+        | inl x ↦ part_stands q z (word_of q (Body b 0)) l st.1 x
+        | inr x ↦ part_stands q z (word_of q (Body b 1)) r st.2 x
+      ]
+    ]
+
+module _ (q : Pool) (work : IsWorking q) (none : (memo_of q 0).dying ≡ []) (falling : AreFalling q) (roots : AreRootsTrees q) where
   calm : IsCalm q
   calm = working_calm q work
 
-  low_zero : (c : ℕ) → c < g.clients → c ≡ 0
-  low_zero c l = let n = work.one in omega (arith, n, l)
+  -- a live block that isn't counted would be a zero-count block
+  all_counted : (b : ℕ) → is_live q b ≡ true → 0 < (headers (see q.start.geometry q.words) b).count
+  all_counted b live =
+      elim (cases_eq (headers (see q.start.geometry q.words) b).count 0) [
+        | inr ne ↦ omega (arith, ne)
+        | inl zero_count ↦
+            (let held = calm_held q calm in
+            let low = held.era.client b live in
+            let alone = work.one in
+            let mine : (headers (see q.start.geometry q.words) b).client ≡ 0 = omega (arith, low, alone) in
+            let y : Contains [] b = subst (λ (xs : List ℕ). Contains xs b) none ((held.dying 0 (calm_first q calm)).all b (live, zero_count, mine)) in
+            let l = y.1 in
+            absurd (omega (arith, l)))
+      ]
 
-  module _ (none : (memo_of q 0).dying ≡ []) (trees : AreLivesTrees q) where
-    -- a live block that isn't counted would be a zero-count block
-    is_counted : (b : ℕ) → is_live q b ≡ true → (headers w b).count ≢ 0
-    is_counted b live zero_count =
-        let held = calm_held q calm in
-        let mine : (headers w b).client ≡ 0 = low_zero _ (held.era.client b live) in
-        let listed = (held.dying 0 (calm_first q calm)).all b (live, zero_count, mine) in
-        let y : Contains [] b = subst (λ (xs : List ℕ). Contains xs b) none listed in
-        let l = y.1 in
-        omega (arith, l)
+  -- a tree that a root names, of which it is a node
+  abbrev Found : ℕ → Type 0
+  Found b = (j : ℕ) × (j < 16) × (t : Tree) × Stands q (named_by q j) t × (is_part q b (named_by q j) t ≡ true)
 
-    some_live : (b : ℕ) → is_live q b ≡ true → b ≢ 0
-    some_live b live = held_live_not_zero g w v (calm_held q calm) b live
+  found_root : (k b : ℕ) → k < 16 → b ≢ 0 → names q (Root 0 k) ≡ b → Found b
+  found_root k b low some e =
+      let is : named_by q k ≡ b = root_is q calm k ∙ (sym (root_names q calm k) ∙ e) in
+      let t = roots k low in
+      (k, low, t.0, t.1, top_part q b (named_by q k) t.0 t.1 is some)
 
-    where_named : (b : ℕ) → is_live q b ≡ true → (a : ℕ) × (a < total_of g) × (names q (spot_at g (classes w) a) ≡ b)
-    where_named b live =
-        let held = calm_held q calm in
-        let over : held_overs v 0 ≡ 0 = ap held_over_of calm.idle in
-        let counts = held.count.counts b live in
-        let only = only_references g (classes w) (targets g w v) (held_overs v) b work.one over (some_live b live) in
-        let some = is_counted b live in
-        named_where g (classes w) (targets g w v) b (elim (cases_eq (headers w b).count 0) [ inl z ↦ absurd (some z) | inr ne ↦ omega (arith, counts, only, ne) ])
+  found_body : (d i b : ℕ) → b ≢ 0 → names q (Body d i) ≡ b → is_live q d ≡ true → Found d → Found b
+  found_body d i b some e live f =
+      let node = part_stands q d (named_by q f.0) f.2 f.3 f.4 in
+      let two : tag_refs q.start.geometry.wide (word_of q (Tag d)) ≡ 2 = node.4.0.refs in
+      let low = (body_inside q d i (λ z. some (sym e ∙ z))).1 in
+      let child : word_of q (Body d i) ≡ b = sym (body_names q calm d i live low) ∙ e in
+      (f.0, f.1, f.2, f.3, part_child q d b i (omega (arith, low, two)) child some (named_by q f.0) f.2 f.3 f.4)
 
-    -- a tree that a root names, of which it is a node
-    abbrev Found : ℕ → Type 0
-    Found b = (j : ℕ) × (j < 16) × (t : Tree) × Stands q (named_by q j) t × (is_part q b (named_by q j) t ≡ true)
-
-    child_height : (d i b : ℕ) (t u : Tree) → i < 2 → word_of q (Body d i) ≡ b → b ≢ 0 → d ≢ 0 → Stands q b t → Stands q d u → height t < height u
-    child_height d i b t Empty low child some above st su = absurd (above su)
-    child_height d i b t (Node k n l r) low child some above st su =
-        elim (cases_eq i 0) [
-          | inl first ↦
-              (let e : word_of q (Body d 0) ≡ b = ap (λ (z : ℕ). word_of q (Body d z)) (sym first) ∙ child in
-              let same : height l ≡ height t = ap height (stands_one q b l t (subst (λ (z : ℕ). Stands q z l) e su.1) st) in
-              omega (arith, same))
-          | inr ne ↦
-              (let second : 1 ≡ i = omega (arith, low, ne) in
-              let e : word_of q (Body d 1) ≡ b = ap (λ (z : ℕ). word_of q (Body d z)) second ∙ child in
-              let same : height r ≡ height t = ap height (stands_one q b r t (subst (λ (z : ℕ). Stands q z r) e su.2) st) in
-              omega (arith, same))
-        ]
-
-    refs_two : (d : ℕ) (u : Tree) → d ≢ 0 → Stands q d u → tag_refs g.wide (word_of q (Tag d)) ≡ 2
-    refs_two d Empty above su = absurd (above su)
-    refs_two d (Node k n l r) above su = su.0.refs
-
-    by_body : (d i b : ℕ) (t : Tree) → b ≢ 0 → Stands q b t → ((e : ℕ) (u : Tree) → is_live q e ≡ true → Stands q e u → height t < height u → Found e) → names q (Body d i) ≡ b → Found b
-    by_body d i b t some st rec e =
-        let u = trees d live_of in
-        let above = some_live d live_of in
-        let two = refs_two d u.0 above u.1 in
-        let low : i < tag_refs g.wide (word_of q (Tag d)) = refs_of_live in
-        let child : word_of q (Body d i) ≡ b = sym (body_names q calm d i live_of low) ∙ e in
-        let f = rec d u.0 live_of u.1 (child_height d i b t u.0 (omega (arith, low, two)) child some above st u.1) in
-        (f.0, f.1, f.2, f.3, part_child q d b i (omega (arith, low, two)) child some (named_by q f.0) f.2 f.3 f.4)
-      where
-        refs : ℕ
-        refs = (words_of g.wide w).refs d
-
-        inside : i < refs
-        inside = elim (cases_Bool (nat_lt i refs)) [
-          | inl y ↦ ltb-true i refs y
-          | inr y ↦ absurd (some (sym e ∙ cond-false (nat_lt i refs) _ 0 y))
-        ]
-
-        live_of : is_live q d ≡ true
-        live_of = elim (cases_Bool (is_live q d)) [
-          | inl y ↦ y
-          | inr y ↦ (let zero_refs : refs ≡ 0 = cond-false (is_live q d) (tag_refs g.wide (w (Tag d))) 0 y in let l = inside in absurd (omega (arith, l, zero_refs)))
-        ]
-
-        refs_of_live : i < tag_refs g.wide (word_of q (Tag d))
-        refs_of_live = let all : refs ≡ tag_refs g.wide (w (Tag d)) = cond-true (is_live q d) (tag_refs g.wide (w (Tag d))) 0 live_of in let l = inside in omega (arith, l, all)
-
-    by_spot : (s : Spot) (b : ℕ) (t : Tree) → Bounds g s → b ≢ 0 → Stands q b t → ((e : ℕ) (u : Tree) → is_live q e ≡ true → Stands q e u → height t < height u → Found e) → names q s ≡ b → Found b
-    by_spot (Home c) b t low some st rec e = absurd (some (sym e ∙ (ap (λ (z : ℕ). names q (Home z)) (low_zero c low) ∙ (home_names q calm ∙ work.home))))
-    by_spot (Root c k) b t low some st rec e =
-        let is : named_by q k ≡ b = root_is q calm k ∙ (sym (root_names q calm k) ∙ (ap (λ (z : ℕ). names q (Root z k)) (sym (low_zero c low.0)) ∙ e)) in
-        (k, low.1, t, subst (λ (z : ℕ). Stands q z t) (sym is) st, top_part q b (named_by q k) t (subst (λ (z : ℕ). Stands q z t) (sym is) st) is some)
-    by_spot (Slot s r k) b t low some st rec e =
-        let lane = (calm_held q calm).self_lanes 0 (calm_first q calm) in
-        absurd (some (sym e ∙ (ap (λ (z : ℕ). names q (Slot z r k)) (low_zero s low.0) ∙ (ap (λ (z : ℕ). names q (Slot 0 z k)) (low_zero r low.1) ∙ lane.2 k))))
-    by_spot (Body d i) b t low some st rec e = by_body d i b t some st rec e
-    by_spot _ b t low some st rec e = absurd (some (sym e))
-
-    climb : (n b : ℕ) (t : Tree) → is_live q b ≡ true → Stands q b t → 2 ^ 24 ≤ height t + n → Found b
-    climb zero b t live st le = absurd (let low = stands_low q work t b st in omega (arith, low, le))
-    climb (suc n) b t live st le =
-        let x = where_named b live in
-        by_spot (spot_at g (classes w) x.0) b t (spot_bounds g (classes w) x.0 (in_place g x.0 work.work.geometry x.1)) (some_live b live) st
-        (λ e u le' su lt. climb n e u le' su (omega (arith, le, lt))) x.2
-
-    pub lives_nodes : AreLivesNodes q
-    lives_nodes b live = let t = trees b live in climb (2 ^ 24) b t.0 live t.1 (omega arith)
-
--- ---- how many blocks came to be live
+  pub falling_nodes : AreLivesNodes q
+  falling_nodes b live = upward q calm falling all_counted Found found_root found_body b live
 
 -- what roots name are live blocks
 roots_trees : (p : Pool) → IsWorking p → AreLivesTrees p → AreRootsTrees p
@@ -230,6 +220,11 @@ roots_trees p work trees j low =
           (let calm = working_calm p work in
           trees (named_by p j) (target_counted p.start.geometry _ _ (calm_held p calm) (Root 0 j) (named_by p j) ne (root_names p calm j ∙ sym (root_is p calm j))).0)
     ]
+
+pub lives_nodes : (q : Pool) → IsWorking q → (memo_of q 0).dying ≡ [] → AreLivesTrees q → AreLivesNodes q
+lives_nodes q work none trees = falling_nodes q work none (lives_fall q work trees work.home) (roots_trees q work trees)
+
+-- ---- how many blocks came to be live
 
 pub lives_fresh : {n : ℕ} {m : Made} (p q : Pool) (i top : ℕ) (t u : Tree) → IsWorking p → IsWorking q → (IsSpent (memo_of q 0) → ⊥) → AreLivesTrees p → KeepsLives p q → IsBuilt n m p q → Stands p top t → Stands q m.block u → weight (outside p top t) q m.block u ≤ i → AreFewNew i p q
 lives_fresh p q i top t u wp wq calm trees rests built st su few =

@@ -30,8 +30,8 @@ zero_at zero r = refl
 zero_at (suc n) zero = refl
 zero_at (suc n) (suc r) = zero_at n r
 
-pub some_is : (P : Pool → Type 0) (o : Option Pool) (p : Pool) → o ≡ Some p → IfSome o P → P p
-some_is P o p e h = subst (λ (x : Option Pool). IfSome x P) e h
+pub some_is : {A : Type 0} (P : A → Type 0) (o : Option A) (a : A) → o ≡ Some a → IfSome o P → P a
+some_is {A} P o a e h = subst (λ (x : Option A). IfSome x P) e h
 
 -- the start of a pool of one client for single calls
 pub start_is : (s : Start) (g : Geometry) (n : ℕ) → s ≡ record { geometry = g; first_era = 1; tables = false } → (g.clients ≡ 1) × (g.segments ≡ n) × (g.wide ≡ false) → s ≡ record { geometry = record { clients = 1; segments = n; wide = false }; first_era = 1; tables = false }

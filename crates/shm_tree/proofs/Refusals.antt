@@ -7,12 +7,10 @@ use Rattle.shm_plain.specs.Pools.{Pool}
 use Rattle.shm_tree.specs.declared.stop.Stop.{Stop}
 use Rattle.shm_tree.specs.declared.stop.Stop.TheVariants as stop
 use Rattle.shm_tree.specs.Costing.{Costs, Spends}
-use Rattle.shm_tree.specs.Keeping.{HasMade, IsStill}
-use Rattle.shm_tree.specs.Spending.{HasSpent}
+use Rattle.shm_tree.specs.Keeping.{IsStill}
 use Rattle.shm_tree.specs.Working.{IfAlive, IfRefused, IsWorking, Went}
 use Rattle.shm_tree.proofs.Answering.{refused_died, refused_map}
-use Rattle.shm_tree.proofs.Building.{made_more, went_on}
-use Rattle.shm_tree.proofs.Forests.{Quiet}
+use Rattle.shm_tree.proofs.Building.{made_more}
 use Rattle.shm_tree.proofs.Nodes.{made_then}
 use Rattle.shm_tree.proofs.Spendings.{spent_call, spent_more, spent_then}
 
@@ -99,12 +97,3 @@ refused_three (Err stop.Died) f h k l = tt
 refused_three (Err (stop.Full s b)) f h k l = f h k l
 refused_three (Err (stop.CountFull b c)) f h k l = f h k l
 refused_three (Err (stop.EraSpent e)) f h k l = f h k l
-
--- ---- a tree was to be built under the latch, between calls that read
-
-pub stopped_spends : {n : ℕ} {p q r s : Pool} {x y z w : ℕ} (b : Geometry → ℕ) → IsWorking p → Quiet p q x y → x ≤ y + 3 → IsWorking r → Went q r y z → HasMade n q r → HasSpent (b q.start.geometry) q r y z → Quiet r s z w → z ≤ w + 3 → Spends n (b p.start.geometry + 6) p s x w
-stopped_spends {n = n} {p = p} {q = q} {r = r} {s = s} {x = x} {y = y} {z = z} {w = w} b wp a few wr v made spent c last =
-    let mid : Spends n (b q.start.geometry) q r y z = record { made = made; spent = spent } in
-    let first : Spends (0 + n) (3 + b p.start.geometry) p r x z = spends_then b wp a.went v (spends_still 3 a.went a.still few) mid in
-    let all : Spends ((0 + n) + 0) ((3 + b p.start.geometry) + 3) p s x w = spends_then (λ (g : Geometry). 3) wp (went_on wp.run a.went v) c.went first (spends_still 3 c.went c.still last) in
-    spends_more n (b p.start.geometry + 6) (omega arith) (omega arith) all

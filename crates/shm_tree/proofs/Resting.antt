@@ -13,10 +13,11 @@ use Rattle.shm_tree.specs.declared.node.Side.{Side}
 use Rattle.shm_tree.specs.declared.stop.Stop.{Stop}
 use Rattle.shm_tree.specs.Building.{Builds}
 use Rattle.shm_tree.specs.Living.{KeepsLives}
+use Rattle.shm_tree.specs.Changing.{Changes}
 use Rattle.shm_tree.specs.Keeping.{HasTree, IsDropped, IsLinked, IsStill, is_live, node_by}
 use Rattle.shm_tree.specs.Standing.{Stands, word_of}
 use Rattle.shm_tree.specs.Trees.{Tree, Empty, Node}
-use Rattle.shm_tree.specs.Working.{IfAlive, IsSpent, IsWorking, Went}
+use Rattle.shm_tree.specs.Working.{IsSpent, IsWorking, Went}
 use Rattle.shm_tree.proofs.Eras.{spent_stays}
 use Rattle.shm_tree.proofs.Nodes.{body_names, names, working_calm}
 use Rattle.shm_tree.proofs.Weights.{node_left}
@@ -87,6 +88,6 @@ rests_after (Ok m) p q r wq s b h = rests_then p q r wq b.working b.went (rests_
 rests_after (Err e) p q r wq s b h = tt
 
 -- a node that was linked, or not
-pub rests_link : {x y : ℕ} (c : Content) (s : Side) (trees : Pair) (o : Result Made Stop) (p q r : Pool) → IsWorking q → IsStill p q → Went q r x y → IfAlive o (IsWorking r) → IfOk o (λ m. IsLinked c s trees m q r) → HasTree q trees.near → HasTree q trees.far → IfOk o (λ m. KeepsLives p r)
-rests_link c s trees (Ok m) p q r wq st went working l near far = rests_then p q r wq working went (rests_still st) (rests_linked l near far)
-rests_link c s trees (Err e) p q r wq st went working l near far = tt
+pub rests_link : {k x y : ℕ} {L : Pool → Pool → Type 0} (c : Content) (s : Side) (trees : Pair) (o : Result Made Stop) (p q r : Pool) → IsWorking q → IsStill p q → Changes k L o q r x y → IfOk o (λ m. IsLinked c s trees m q r) → HasTree q trees.near → HasTree q trees.far → IfOk o (λ m. KeepsLives p r)
+rests_link c s trees (Ok m) p q r wq st h l near far = rests_then p q r wq h.working h.went (rests_still st) (rests_linked l near far)
+rests_link c s trees (Err e) p q r wq st h l near far = tt

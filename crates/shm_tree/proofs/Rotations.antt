@@ -68,10 +68,6 @@ child_kept p q b Right k n = (k b n.0 n.1 n.2 n.3).right
 
 -- ---- heights
 
-pub height_node : (s : Side) (c : Content) (x y : Tree) → 0 < height (node_by s c x y)
-height_node Left c x y = omega arith
-height_node Right c x y = omega arith
-
 -- no tree of some height stands at 0
 pub tall_some : (p : Pool) (b h : ℕ) → HasTree p b → ((t : Tree) → Stands p b t → h ≡ height t) → 0 < h → b ≢ 0
 tall_some p b h (Empty, s) is tall e = let z = is Empty s in absurd (omega arith)

@@ -1,16 +1,12 @@
 -- How many blocks a drop of a root tears down: of a tree that stood at the root at most the nodes that are gone.
-use Rattle.std.proofs.Common.{◌≡◌, ◌≢◌, ℕ, zero, suc, ◌+◌, ◌≤◌, add-one, Bool, true, false, List, [], ◌∷◌, ◌++◌, append-nil, length, refl, sym, ap, ◌∙◌, subst, arith, inl, inr, eqb}
+use Rattle.std.proofs.Common.{◌≡◌, ◌≢◌, ℕ, zero, suc, ◌+◌, ◌≤◌, add-one, Bool, List, [], ◌∷◌, ◌++◌, append-nil, length, refl, sym, ap, ◌∙◌, subst, arith, inl, inr}
 use Rattle.std.specs.Prelude.{Ok, Err}
-use Rattle.std.specs.Cmp.{nat_eq_equiv}
-use Rattle.std.specs.List.{All, Contains, list_any}
-use Rattle.std.proofs.lemmas.Bool.{cases_Bool, eqb-true}
+use Rattle.std.specs.List.{All, Contains}
 use Rattle.std.proofs.lemmas.List.Elements.{Contains-append_cases, Contains-append_left, Contains-append_right}
-use Rattle.std.proofs.lemmas.Map.Views.{Contains-from_any, list_any-from_Contains}
 use Rattle.shm_graph.specs.declared.memo.Memo.{Memo}
 use Rattle.shm_graph.specs.declared.spot.Spot.{Spot}
 use Rattle.shm_graph.specs.declared.spot.Spot.TheVariants.{Body, Root}
 use Rattle.shm_graph.specs.Events.{Event, Down, Free}
-use Rattle.shm_graph.proofs.States.Holders.{target_counted}
 use Rattle.shm_plain.specs.Calls.{Did}
 use Rattle.shm_plain.specs.Pools.{Pool, memo_of}
 use Rattle.shm_count.specs.declared.answer.EraSpent.{EraSpent}
@@ -23,15 +19,15 @@ use Rattle.shm_ref.specs.DropRoot.{DropLeaves}
 use Rattle.shm_ref.specs.Leaving.{frees-append}
 use Rattle.shm_ref.specs.Lefts.{RootEvents}
 use Rattle.shm_ref.proofs.RefusedDrops.{spent_emptied}
-use Rattle.shm_tree.specs.Keeping.{IsDropped, IsStill, is_live}
+use Rattle.shm_tree.specs.Keeping.{IsStill}
 use Rattle.shm_tree.specs.Standing.{IsNode, Stands, weight, word_of}
 use Rattle.shm_tree.specs.Tearing.{HasTorn, IsGone}
-use Rattle.shm_tree.specs.Trees.{Tree, Empty, Node, size}
+use Rattle.shm_tree.specs.Trees.{Tree, Empty, Node}
 use Rattle.shm_tree.specs.Working.{IsWorking}
 use Rattle.shm_tree.proofs.Alive.{IsOn, before}
 use Rattle.shm_tree.proofs.Drops.{torn_gone, torn_loses}
 use Rattle.shm_tree.proofs.Losses.{lost_named}
-use Rattle.shm_tree.proofs.Nodes.{IsCalm, body_names, body_past, calm_first, calm_held, names, working_calm}
+use Rattle.shm_tree.proofs.Nodes.{IsCalm, body_names, body_past, names}
 use Rattle.shm_tree.proofs.Turns.{did_then}
 
 -- ---- sums
@@ -202,66 +198,3 @@ torn_then k n p m q hp hm start h quiet s =
     still_gone : (b : ℕ) → IsGone m b → IsGone q b
     still_gone b (inl dead) = inl (s.lives b ∙ dead)
     still_gone b (inr d) = inr (subst (λ (ds : List ℕ). Contains ds b) (sym s.dying) d)
-
--- ---- what a drop of a root tears down of a tree
-
--- at most all its nodes
-all_weigh : (p : Pool) (b : ℕ) (t : Tree) → weight (λ x. 1) p b t ≡ size t
-all_weigh p b Empty = refl
-all_weigh p b (Node k m l r) = let x = all_weigh p (word_of p (Body b 0)) l in let y = all_weigh p (word_of p (Body b 1)) r in omega (arith, x, y)
-
-pub torn_most : (k n : ℕ) (p q : Pool) (t : Tree) → HasTorn k n p q → Stands p (root_word 0 (memo_of p 0) k) t → n ≤ size t
-torn_most k n p q t h y =
-    let w = h.nodes (λ x. 1) t y (λ b g. refl) in
-    let e = all_weigh p (root_word 0 (memo_of p 0) k) t in
-    omega (arith, w, e)
-
--- a block that a word names is live, and no zero-count block
-counted : (q : Pool) → IsCalm q → (b : ℕ) (s : Spot) → b ≢ 0 → names q s ≡ b → (is_live q b ≡ true) × (Contains (memo_of q 0).dying b → ⊥)
-counted q calm b s some e =
-    let h = calm_held q calm in
-    let c = target_counted q.start.geometry _ _ h s b some e in
-    (c.0, λ d. c.1 ((h.dying 0 (calm_first q calm)).listed b d).1)
-
--- 1 for a block that is gone, by whether it is live and a zero-count block
-abbrev gone_by : Bool → Bool → ℕ
-gone_by true false = 0
-gone_by true true = 1
-gone_by false d = 1
-
-abbrev gone_of : Pool → ℕ → ℕ
-gone_of q b = gone_by (is_live q b) (list_any (eqb b) (memo_of q 0).dying)
-
-gone_once : (q : Pool) (b : ℕ) → IsGone q b → gone_of q b ≡ 1
-gone_once q b (inl dead) = ap (λ l. gone_by l (list_any (eqb b) (memo_of q 0).dying)) dead
-gone_once q b (inr c) = ap (gone_by (is_live q b)) (list_any-from_Contains nat_eq_equiv b (memo_of q 0).dying c) ∙ by (is_live q b)
-  where
-    by : (l : Bool) → gone_by l true ≡ 1
-    by true = refl
-    by false = refl
-
-there_none : (q : Pool) (b : ℕ) → is_live q b ≡ true → (Contains (memo_of q 0).dying b → ⊥) → gone_of q b ≡ 0
-there_none q b live counted =
-    elim (cases_Bool (list_any (eqb b) (memo_of q 0).dying)) [
-      | inl e ↦ absurd (counted (Contains-from_any eqb-true b (memo_of q 0).dying e))
-      | inr e ↦ ap (λ l. gone_by l (list_any (eqb b) (memo_of q 0).dying)) live ∙ ap (gone_by true) e
-    ]
-
--- nothing of a tree that a word names, and that stands still
-none_weighs : (p q : Pool) (calm : IsCalm q) (k : ℕ) (t : Tree) (b : ℕ) (s : Spot) → IsDropped k p q → names q s ≡ b → Stands p b t → Stands q b t → weight (gone_of q) p b t ≡ 0
-none_weighs p q calm k Empty b s d is y z = refl
-none_weighs p q calm k (Node i m l r) b s d is y z =
-    let c = counted q calm b s z.0.some is in
-    let kept = d.nodes b i m _ c.0 c.1 y.0 in
-    let here = there_none q b c.0 c.1 in
-    let two = z.0.refs in
-    let left = none_weighs p q calm k l (word_of p (Body b 0)) (Body b 0) d (body_names q calm b 0 z.0.live (omega (arith, two)) ∙ kept.left) y.1 (subst (λ u. Stands q u l) kept.left z.1) in
-    let right = none_weighs p q calm k r (word_of p (Body b 1)) (Body b 1) d (body_names q calm b 1 z.0.live (omega (arith, two)) ∙ kept.right) y.2 (subst (λ u. Stands q u r) kept.right z.2) in
-    omega (arith, here, left, right)
-
--- so that no block is torn down where the tree of the root stands still, and a word names it
-pub torn_none : (k n : ℕ) (p q : Pool) (t : Tree) (s : Spot) → IsWorking q → HasTorn k n p q → IsDropped k p q → names q s ≡ root_word 0 (memo_of p 0) k → Stands p (root_word 0 (memo_of p 0) k) t → Stands q (root_word 0 (memo_of p 0) k) t → n ≡ 0
-torn_none k n p q t s hq h d is y z =
-    let w = h.nodes (gone_of q) t y (gone_once q) in
-    let e = none_weighs p q (working_calm q hq) k t (root_word 0 (memo_of p 0) k) s d is y z in
-    omega (arith, w, e)

@@ -10,6 +10,8 @@ pub mod Bounds
 pub mod Tearing
 pub mod Spending
 pub mod Causes
+pub mod Changing
+pub mod Releasing
 pub mod Building
 pub mod Ways
 pub mod Inserting

@@ -8,6 +8,7 @@ ghost use Rattle.shm_count.specs.Roots.{root_word};
 ghost use Rattle.shm_tree.specs.declared.stop.Stop.TheVariants as stop;
 ghost use Rattle.shm_tree.specs.Bounds.{drop_steps, make_steps, refer_steps, share_steps};
 ghost use Rattle.shm_tree.specs.Causes.{StopCause};
+ghost use Rattle.shm_tree.specs.Changing.{Changes};
 ghost use Rattle.shm_tree.specs.Falling.{IsUnnamed};
 ghost use Rattle.shm_tree.specs.Keeping.{HasNode, HasTree, IsDropped, IsMade, IsReferring, IsShared, IsStill, child_of};
 ghost use Rattle.shm_tree.specs.Looking.{Looks};
@@ -171,16 +172,9 @@ pub fn make(
 ) -> Result<Made, Stop>
     requires working { IsWorking pool.old }
     requires room { HasRoom pool.old }
-    ensures went { Went pool.old pool.new life.old.left life.new.left }
-    ensures working { IfAlive result (IsWorking pool.new) }
-    ensures latch { IfAlive result (IsSameLatch pool.old pool.new) }
-    ensures reaches { IfAlive result (Reaches pool.old pool.new) }
+    ensures changes { Changes (make_steps pool.old.start.geometry) IsStill result pool.old pool.new life.old.left life.new.left }
     ensures made { IfOk result (λ m. IsMade content height m pool.old pool.new) }
     ensures unnamed { IfOk result (λ m. IsUnnamed pool.new m.block) }
-    ensures still { IfRefused result (IsStill pool.old pool.new) }
-    ensures steps { IfAlive result (life.old.left ≤ life.new.left + make_steps pool.old.start.geometry) }
-    ensures cause { IfErr result (λ e. StopCause pool.old pool.new e) }
-    ensures died { IfErr result (λ e. DiedIn e pool.old pool.new life.new.left) }
 {
     match allocate(pool, 0, 2, &[content.key, content.number, height], life) {
         Ok(None) => Err(Stop::Died),
@@ -214,16 +208,9 @@ pub fn refer(
     requires unnamed { IsUnnamed pool.old node }
     requires reached { IsReached pool.old child }
     requires other { child ≢ node }
-    ensures went { Went pool.old pool.new life.old.left life.new.left }
-    ensures working { IfAlive result (IsWorking pool.new) }
-    ensures latch { IfAlive result (IsSameLatch pool.old pool.new) }
-    ensures reaches { IfAlive result (Reaches pool.old pool.new) }
+    ensures changes { Changes (refer_steps pool.old.start.geometry) IsStill result pool.old pool.new life.old.left life.new.left }
     ensures refers { IfOk result (λ u. IsReferring node side child pool.old pool.new) }
     ensures unnamed { IfOk result (λ u. IsUnnamed pool.new node) }
-    ensures still { IfRefused result (IsStill pool.old pool.new) }
-    ensures steps { IfAlive result (life.old.left ≤ life.new.left + refer_steps pool.old.start.geometry) }
-    ensures cause { IfErr result (λ e. StopCause pool.old pool.new e) }
-    ensures died { IfErr result (λ e. DiedIn e pool.old pool.new life.new.left) }
 {
     let setting = SetRef::new(pool.me(0), node, side.word(), child);
     match pool.run(0, setting, life) {
@@ -247,16 +234,9 @@ pub fn share(pool: &mut PlainPool, tree: u32, life: &mut Life) -> Result<Made, S
     requires room { HasRoom pool.old }
     requires some { tree ≢ 0 }
     requires reached { IsReached pool.old tree }
-    ensures went { Went pool.old pool.new life.old.left life.new.left }
-    ensures working { IfAlive result (IsWorking pool.new) }
-    ensures latch { IfAlive result (IsSameLatch pool.old pool.new) }
-    ensures reaches { IfAlive result (Reaches pool.old pool.new) }
+    ensures changes { Changes (share_steps pool.old.start.geometry) IsStill result pool.old pool.new life.old.left life.new.left }
     ensures block { IfOk result (λ m. m.block ≡ tree) }
     ensures shared { IfOk result (λ m. IsShared m.root tree pool.old pool.new) }
-    ensures still { IfRefused result (IsStill pool.old pool.new) }
-    ensures steps { IfAlive result (life.old.left ≤ life.new.left + share_steps pool.old.start.geometry) }
-    ensures cause { IfErr result (λ e. StopCause pool.old pool.new e) }
-    ensures died { IfErr result (λ e. DiedIn e pool.old pool.new life.new.left) }
     ensures begun { IfErr result (λ e. e ≡ stop.Died → IsInCall pool.new ⊎ AreSameRoots pool.old pool.new) }
 {
     let sharing = Share::new(pool.me(0), tree);

@@ -1,15 +1,15 @@
 //! Nodes: what they hold, and how one is made of two trees.
 
-ghost use Rattle.std.specs.Prelude.{◌≡◌, ◌+◌, ◌<◌, ◌≤◌, Some, if◌then◌else◌, nat_lt, IfErr, IfOk};
+ghost use Rattle.std.specs.Prelude.{◌≡◌, ◌+◌, ◌<◌, Some, if◌then◌else◌, nat_lt, IfOk};
 ghost use Rattle.shm_graph.specs.declared.spot.Spot.TheVariants.{Body};
 ghost use Rattle.shm_plain.specs.Pools.{memo_of};
 ghost use Rattle.shm_tree.specs.declared.node.Side.TheVariants.{Left, Right};
 ghost use Rattle.shm_tree.specs.Bounds.{link_steps};
-ghost use Rattle.shm_tree.specs.Causes.{StopCause};
+ghost use Rattle.shm_tree.specs.Changing.{Changes};
 ghost use Rattle.shm_tree.specs.Keeping.{HasGrown, HasNode, HasTree, IsLinked, child_of, other_side, side_word};
 ghost use Rattle.shm_tree.specs.Looking.{Looks};
 ghost use Rattle.shm_tree.specs.Standing.{word_of};
-ghost use Rattle.shm_tree.specs.Working.{DiedIn, HasRoom, IfAlive, IfRefused, IsReached, IsSameLatch, IsWorking, Reaches, Went};
+ghost use Rattle.shm_tree.specs.Working.{HasRoom, IsReached, IsWorking};
 
 use crate::calls::{child, height, key, make, number, refer};
 use crate::stop::Stop;
@@ -123,15 +123,8 @@ pub fn link(
     requires near_reached { IsReached pool.old trees.near }
     requires far { HasTree pool.old trees.far }
     requires far_reached { IsReached pool.old trees.far }
-    ensures went { Went pool.old pool.new life.old.left life.new.left }
-    ensures working { IfAlive result (IsWorking pool.new) }
-    ensures latch { IfAlive result (IsSameLatch pool.old pool.new) }
-    ensures reaches { IfAlive result (Reaches pool.old pool.new) }
+    ensures changes { Changes (link_steps pool.old.start.geometry) (HasGrown 1) result pool.old pool.new life.old.left life.new.left }
     ensures linked { IfOk result (λ m. IsLinked content side trees m pool.old pool.new) }
-    ensures grown { IfRefused result (HasGrown 1 pool.old pool.new) }
-    ensures steps { IfAlive result (life.old.left ≤ life.new.left + link_steps pool.old.start.geometry) }
-    ensures cause { IfErr result (λ e. StopCause pool.old pool.new e) }
-    ensures died { IfErr result (λ e. DiedIn e pool.old pool.new life.new.left) }
 {
     let near = height(pool, trees.near, life)?;
     let far = height(pool, trees.far, life)?;

@@ -12,6 +12,7 @@ ghost use Rattle.shm_tree.specs.CutShort.{DiesHalfDone, IsCutShort, IsWordless};
 ghost use Rattle.shm_tree.specs.Forests.{Calls, DoesLine, HasVersions, IsForest, IsFree, IsInRange, IsLeft, IsOwn, IsPruned, IsPut, IsReading, IsSpare, IsSwept, IsTidy, IsUnspent, KeepsNamed, KeepsRegisters, Moves, Stopped, block_in, root_at, version};
 ghost use Rattle.shm_tree.specs.Keeping.{IsStill};
 ghost use Rattle.shm_tree.specs.Looking.{Looks};
+ghost use Rattle.shm_tree.specs.Releasing.{Releases};
 ghost use Rattle.shm_tree.specs.Standing.{IsTree, Stands};
 ghost use Rattle.shm_tree.specs.Trees.{Empty, Tree as ATree, found, height, inserted, removed};
 ghost use Rattle.shm_tree.specs.Working.{AreSameRoots, DiedBegun, IfAlive, IfRefused, IsInCall, IsOver, IsReached, IsRooted, IsSameLatch, IsSpent, IsUnderWay, IsWorking, Went};
@@ -77,6 +78,32 @@ fn read(pool: &mut PlainPool, root: u8, key: u32, life: &mut Life) -> Result<Opt
     Ok(number)
 }
 
+/// Gives the latch back behind a call that ended, done or refused, and answers as it. Where that stopped for want of a word step there is none for
+/// this either.
+fn released<T: Drop>(
+    pool: &mut PlainPool,
+    answer: Result<T, Stop>,
+    life: &mut Life,
+) -> Result<T, Stop>
+    requires working { IfAlive answer (IsWorking pool.old) }
+    requires latch { IfAlive answer ((memo_of pool.old 0).latch ≡ Some 0) }
+    ensures { Releases answer result pool.old pool.new life.old.left life.new.left }
+{
+    match answer {
+        Ok(done) => {
+            release(pool, life)?;
+            Ok(done)
+        }
+        Err(why) => {
+            if why.is_over() {
+                return Err(why);
+            }
+            release(pool, life)?;
+            Err(why)
+        }
+    }
+}
+
 /// Makes a tree as that of a root, with the number at the key.
 fn planted(
     pool: &mut PlainPool,
@@ -101,19 +128,8 @@ fn planted(
 {
     hold(pool, life)?;
     let tree = tree_in(pool, root, life)?;
-    match insert(pool, tree, key, number, life) {
-        Ok(made) => {
-            release(pool, life)?;
-            Ok(made)
-        }
-        Err(why) => {
-            if why.is_over() {
-                return Err(why);
-            }
-            release(pool, life)?;
-            Err(why)
-        }
-    }
+    let made = insert(pool, tree, key, number, life);
+    released(pool, made, life)
 }
 
 /// A further root for the tree of a root.
@@ -154,19 +170,8 @@ fn pruned(
 {
     hold(pool, life)?;
     let tree = tree_in(pool, root, life)?;
-    match remove(pool, tree, key, life) {
-        Ok(removed) => {
-            release(pool, life)?;
-            Ok(removed)
-        }
-        Err(why) => {
-            if why.is_over() {
-                return Err(why);
-            }
-            release(pool, life)?;
-            Err(why)
-        }
-    }
+    let removed = remove(pool, tree, key, life);
+    released(pool, removed, life)
 }
 
 impl Registers {

@@ -152,18 +152,18 @@ returns-else-saturating_sub-gt1-2 c =
     let near = at_hand_still c.args.trees.near r c.requires.near in
     let far = at_hand_still c.args.trees.far r c.requires.far in
     record {
-      builds = (let d = u.steps in let e = v.steps in builds_after 1 3 4 link_steps _ (lit≤ tt) (omega arith) c.requires.working r (omega (arith, d, e)) (builds_link _ _ _ l.went l.working l.latch l.grown l.steps l.cause l.died));
+      builds = (let d = u.steps in let e = v.steps in builds_after 1 3 4 link_steps _ (lit≤ tt) (omega arith) c.requires.working r (omega (arith, d, e)) (builds_link _ l.changes));
       built = ok_kept {T = Made} {P = λ m. IsLinked c.args.middle c.args.side c.args.trees m c.height-2.new.pool c.link.new.pool} {Q = λ m. IsBuilt 3 m p c.link.new.pool} _ (λ m b. built_more 1 3 (lit≤ tt) (built_after run r.went.run r.went.start r.still (born_built (linked_some b near.0 far.0) b.born))) l.linked;
       stands =
           ok_kept {T = Made} {P = λ m. IsLinked c.args.middle c.args.side c.args.trees m c.height-2.new.pool c.link.new.pool} {Q = λ m. StandsOf (joined_by c.args.side c.args.middle) c.args.trees m.block p c.link.new.pool} _ (λ m b. joined_stands (node_by s c.args.middle) p _ _ s c.args.middle c.args.trees m.block r.still.trees
           (λ x y sx sy. let h = told at x y sx sy in joined_flat s c.args.middle x y (omega (arith, h.0, h.1)) (omega (arith, h.0, h.1))) b.stands) l.linked;
-      cheap = alive_kept _ (λ b. cheap_after c.args.trees c.args.trees run r.went.run r.went.start r.still refl refl b) (link_cheap c.args.middle s c.args.trees _ _ _ l.linked l.grown);
+      cheap = alive_kept _ (λ b. cheap_after c.args.trees c.args.trees run r.went.run r.went.start r.still refl refl b) (link_cheap c.args.middle s c.args.trees _ _ _ l.linked l.changes.refused);
       fresh = ok_kept {T = Made} {P = λ m. IsLinked c.args.middle s c.args.trees m c.height-2.new.pool c.link.new.pool} {Q = IsFresh p} _ (λ m b. sym (r.still.lives m.block) ∙ b.born.fresh) l.linked;
       weighs =
           ok_kept {T = Made} {P = λ m. IsLinked c.args.middle s c.args.trees m c.height-2.new.pool c.link.new.pool} {Q = λ m. WeighsJoined c.args.middle s c.args.trees m.block p c.link.new.pool} _ (λ m b. weighs_flat p c.height-2.new.pool c.link.new.pool s c.args.middle c.args.trees m r.still
           (λ x y sx sy. let h = told at x y sx sy in (omega (arith, h.0, h.1), omega (arith, h.0, h.1))) b) l.linked;
       top = ok_kept {T = Made} {P = λ m. IsLinked c.args.middle s c.args.trees m c.height-2.new.pool c.link.new.pool} {Q = λ m. IsOver c.args.trees s m.block p c.link.new.pool} _ (λ m b x y sx sy n. b.near) l.linked;
-      rests = rests_link c.args.middle s c.args.trees c.link.result p c.height-2.new.pool c.link.new.pool r.working r.still l.went l.working l.linked near.0 far.0;
+      rests = rests_link c.args.middle s c.args.trees c.link.result p c.height-2.new.pool c.link.new.pool r.working r.still l.changes l.linked near.0 far.0;
     }
 
 pub returns-in_err-near-clause-cheap : goal.returns-in_err-near-clause-cheap

@@ -7,7 +7,7 @@ use Rattle.shm_count.specs.declared.answer.Made.{Made}
 use Rattle.shm_tree.specs.declared.node.Side.{Side}
 use Rattle.shm_tree.specs.Keeping.{node_by, other_side}
 use Rattle.shm_tree.specs.Standing.{Stands, weight}
-use Rattle.shm_tree.proofs.Building.{apart, at_hand_linked, born_built, builds_cut, builds_drop, builds_from, builds_link, builds_on, builds_stuck, built_cut, built_over, cut_then, grown_cuts, linked_at_hand, linked_some, looked_none, rooms_rooted, rooms_some, spent_calls, still_cut, top_stands}
+use Rattle.shm_tree.proofs.Building.{apart, at_hand_linked, born_built, builds_cut, builds_drop, builds_from, builds_link, builds_on, builds_stuck, built_cut, built_over, cut_then, linked_at_hand, linked_some, looked_none, rooms_rooted, rooms_some, still_cut, top_stands}
 use Rattle.shm_tree.proofs.Rotations.{node_other}
 use Rattle.shm_tree.specs.Bounds.{link_steps, raised_steps}
 use Rattle.shm_tree.specs.Building.{Builds, IsBuilt}
@@ -35,12 +35,12 @@ raised-requires c =
     let l = c.in_ok-lower.ensures in
     let less = rooms_rooted l.linked.born.rooted in
     record {
-      working = l.working;
-      latch = l.latch ∙ c.requires.latch;
+      working = l.changes.working;
+      latch = l.changes.latch ∙ c.requires.latch;
       room = omega arith;
-      near = at_hand_linked c.args.far.trees.near l.linked l.reaches c.requires.far_near;
-      middle = at_hand_linked c.args.far.trees.far l.linked l.reaches c.requires.far_far;
-      far = linked_at_hand l.linked c.requires.near_near.0 c.requires.near_far.0 l.working;
+      near = at_hand_linked c.args.far.trees.near l.linked l.changes.reaches c.requires.far_near;
+      middle = at_hand_linked c.args.far.trees.far l.linked l.changes.reaches c.requires.far_far;
+      far = linked_at_hand l.linked c.requires.near_near.0 c.requires.near_far.0 l.changes.working;
     }
 
 pub drop_root-requires : goal.drop_root-requires
@@ -51,7 +51,7 @@ low c = born_built (linked_some c.in_ok-lower.ensures.linked c.requires.near_nea
 
 -- the nodes
 both : (c : In_ok-made) → Builds 3 (link_steps c.args.pool.now.start.geometry + raised_steps c.args.pool.now.start.geometry) (Ok c.in_ok-made.made) c.args.pool.now c.raised.new.pool c.args.life.now.left c.raised.new.life.left
-both c = let l = c.in_ok-lower.ensures in builds_on raised_steps c.requires.working (builds_link _ _ (Ok c.in_ok-lower.lower) l.went l.working l.latch l.grown l.steps l.cause l.died) c.in_ok-made.ensures.builds
+both c = let l = c.in_ok-lower.ensures in builds_on raised_steps c.requires.working (builds_link (Ok c.in_ok-lower.lower) l.changes) c.in_ok-made.ensures.builds
 
 pub returns-clause-builds : goal.returns-clause-builds
 returns-clause-builds c =
@@ -63,7 +63,7 @@ returns-clause-built c =
     let l = c.in_ok-lower.ensures in
     let m = c.in_ok-made.ensures.builds in
     let d = c.in_ok-drop_root.ensures in
-    built_over c.requires.working.run l.went.run l.went.start m.went.run m.went.start (low (goal.at.returns-clause-built c).In_ok-lower) c.in_ok-made.ensures.built d.emptied d.dropped d.working
+    built_over c.requires.working.run l.changes.went.run l.changes.went.start m.went.run m.went.start (low (goal.at.returns-clause-built c).In_ok-lower) c.in_ok-made.ensures.built d.emptied d.dropped d.working
 
 pub returns-clause-stands : goal.returns-clause-stands
 returns-clause-stands c =
@@ -85,20 +85,20 @@ pub returns-in_err-lower-clause-builds : goal.returns-in_err-lower-clause-builds
 returns-in_err-lower-clause-builds c =
     let e = c.in_err-lower.ensures in
     let n = looked_none c.args.pool.now c.args.life.now.left c.requires.working in
-    builds_from c.from_residual.result c.from_residual.ensures.1 (builds_cut Made 1 link_steps {T = Made} {n = 0} {k = 3} _ (lit≤ tt) (omega arith) c.requires.working n.went n.latch (still_cut n.still) (spent_call 0 n.went (omega arith)) e.went e.working e.latch (grown_cuts Made 1 _ _ _ e.grown) (spent_calls Made _ _ e.went e.steps) e.cause e.died)
+    builds_from c.from_residual.result c.from_residual.ensures.1 (builds_cut Made 1 link_steps {T = Made} {n = 0} {k = 3} _ (lit≤ tt) (omega arith) c.requires.working n.went n.latch (still_cut n.still) (spent_call 0 n.went (omega arith)) (builds_link _ e.changes))
 
 pub returns-in_err-made-clause-builds : goal.returns-in_err-made-clause-builds
 returns-in_err-made-clause-builds c =
     let l = c.in_ok-lower.ensures in
     let e = c.in_err-made.ensures.builds in
-    builds_from c.from_residual-in_err-made.result c.from_residual-in_err-made.ensures.1 (builds_cut Made 2 raised_steps {T = Made} {n = 1} {k = 3} _ (lit≤ tt) (omega arith) c.requires.working l.went l.latch (built_cut (low (goal.at.returns-in_err-made-clause-builds c).In_ok-lower)) (spent_call _ l.went l.steps) e.went e.working e.latch e.refused e.spent e.cause e.died)
+    builds_from c.from_residual-in_err-made.result c.from_residual-in_err-made.ensures.1 (builds_cut Made 2 raised_steps {T = Made} {n = 1} {k = 3} _ (lit≤ tt) (omega arith) c.requires.working l.changes.went l.changes.latch (built_cut (low (goal.at.returns-in_err-made-clause-builds c).In_ok-lower)) (spent_call _ l.changes.went l.changes.steps) e)
 
 pub returns-in_err-drop_root-clause-builds : goal.returns-in_err-drop_root-clause-builds
 returns-in_err-drop_root-clause-builds c =
     let at = (goal.at.returns-in_err-drop_root-clause-builds c).In_ok-made in
     let l = c.in_ok-lower.ensures in
     let e = c.in_err-drop_root.ensures in
-    let cut = cut_then c.requires.working.run l.went.run l.went.start (built_cut (low (goal.at.returns-in_err-drop_root-clause-builds c).In_ok-lower)) (built_cut c.in_ok-made.ensures.built) in
+    let cut = cut_then c.requires.working.run l.changes.went.run l.changes.went.start (built_cut (low (goal.at.returns-in_err-drop_root-clause-builds c).In_ok-lower)) (built_cut c.in_ok-made.ensures.built) in
     builds_from c.from_residual-in_err-drop_root.result c.from_residual-in_err-drop_root.ensures.1 (builds_stuck _ c.requires.working (both at) cut e.went e.working e.latch e.still e.refused_steps e.cause e.died)
 
 pub returns-clause-fresh : goal.returns-clause-fresh
@@ -145,5 +145,5 @@ returns-clause-rests c =
     let m = c.in_ok-made.ensures in
     let d = c.in_ok-drop_root.ensures in
     rests_then p c.raised.new.pool c.drop_root.new.pool m.builds.working d.working d.went
-    (rests_then p c.link.new.pool c.raised.new.pool l.working m.builds.working m.builds.went (rests_linked l.linked c.requires.near_near.0 c.requires.near_far.0) m.rests)
+    (rests_then p c.link.new.pool c.raised.new.pool l.changes.working m.builds.working m.builds.went (rests_linked l.linked c.requires.near_near.0 c.requires.near_far.0) m.rests)
     (rests_dropped c.in_ok-lower.lower.root c.raised.new.pool c.drop_root.new.pool d.working d.dropped)

@@ -5,7 +5,7 @@ use Rattle.shm_tree.proofs.Weights.{fresh_under, weigh_link, weight_nodes, weigh
 use Rattle.std.proofs.Common.{◌+◌, ◌∙◌, lit≤, arith}
 use Rattle.std.specs.Prelude.{Ok}
 use Rattle.shm_count.specs.declared.answer.Made.{Made}
-use Rattle.shm_tree.proofs.Building.{apart, at_hand_linked, born_built, builds_cut, builds_drop, builds_from, builds_link, builds_on, builds_stuck, built_cut, built_over, cut_then, grown_cuts, linked_at_hand, linked_some, looked_none, rooms_rooted, rooms_some, spent_calls, still_cut, top_stands}
+use Rattle.shm_tree.proofs.Building.{apart, at_hand_linked, born_built, builds_cut, builds_drop, builds_from, builds_link, builds_on, builds_stuck, built_cut, built_over, cut_then, linked_at_hand, linked_some, looked_none, rooms_rooted, rooms_some, still_cut, top_stands}
 use Rattle.shm_tree.specs.Bounds.{link_steps}
 use Rattle.shm_tree.specs.Building.{Builds, IsBuilt}
 use Rattle.shm_tree.proofs.Spendings.{spent_call}
@@ -30,13 +30,13 @@ link-requires-clause-far_reached c = c.requires.middle.1
 pub link-requires-2 : goal.link-requires-2
 link-requires-2 c =
     let l = c.in_ok-lower.ensures in
-    let low = linked_at_hand l.linked c.requires.near.0 c.requires.middle.0 l.working in
-    let far = at_hand_linked c.args.far l.linked l.reaches c.requires.far in
+    let low = linked_at_hand l.linked c.requires.near.0 c.requires.middle.0 l.changes.working in
+    let far = at_hand_linked c.args.far l.linked l.changes.reaches c.requires.far in
     let less = rooms_rooted l.linked.born.rooted in
     record {
-      working = l.working;
-      latch = l.latch ∙ c.requires.latch;
-      room = rooms_some l.working (omega arith);
+      working = l.changes.working;
+      latch = l.changes.latch ∙ c.requires.latch;
+      room = rooms_some l.changes.working (omega arith);
       near = low.0;
       near_reached = low.1;
       far = far.0;
@@ -44,7 +44,7 @@ link-requires-2 c =
     }
 
 pub drop_root-requires : goal.drop_root-requires
-drop_root-requires c = record { working = c.in_ok-made.ensures.working; root = c.in_ok-lower.ensures.linked.born.rooted.low }
+drop_root-requires c = record { working = c.in_ok-made.ensures.changes.working; root = c.in_ok-lower.ensures.linked.born.rooted.low }
 
 low : (c : In_ok-lower) → IsBuilt 1 c.in_ok-lower.lower c.args.pool.now c.link.new.pool
 low c = born_built (linked_some c.in_ok-lower.ensures.linked c.requires.near.0 c.requires.middle.0) c.in_ok-lower.ensures.linked.born
@@ -52,8 +52,8 @@ low c = born_built (linked_some c.in_ok-lower.ensures.linked c.requires.near.0 c
 high : (c : In_ok-made) → IsBuilt 1 c.in_ok-made.made c.link.new.pool c.link-2.new.pool
 high c =
     let l = c.in_ok-lower.ensures in
-    let far = at_hand_linked c.args.far l.linked l.reaches c.requires.far in
-    let node = linked_at_hand l.linked c.requires.near.0 c.requires.middle.0 l.working in
+    let far = at_hand_linked c.args.far l.linked l.changes.reaches c.requires.far in
+    let node = linked_at_hand l.linked c.requires.near.0 c.requires.middle.0 l.changes.working in
     born_built (linked_some c.in_ok-made.ensures.linked node.0 far.0) c.in_ok-made.ensures.linked.born
 
 -- both nodes
@@ -61,7 +61,7 @@ both : (c : In_ok-made) → Builds 2 (link_steps c.args.pool.now.start.geometry 
 both c =
     let l = c.in_ok-lower.ensures in
     let m = c.in_ok-made.ensures in
-    builds_on link_steps c.requires.working (builds_link _ _ (Ok c.in_ok-lower.lower) l.went l.working l.latch l.grown l.steps l.cause l.died) (builds_link _ _ (Ok c.in_ok-made.made) m.went m.working m.latch m.grown m.steps m.cause m.died)
+    builds_on link_steps c.requires.working (builds_link (Ok c.in_ok-lower.lower) l.changes) (builds_link (Ok c.in_ok-made.made) m.changes)
 
 pub returns-clause-builds : goal.returns-clause-builds
 returns-clause-builds c =
@@ -74,7 +74,7 @@ returns-clause-built c =
     let l = c.in_ok-lower.ensures in
     let m = c.in_ok-made.ensures in
     let d = c.in_ok-drop_root.ensures in
-    built_over c.requires.working.run l.went.run l.went.start m.went.run m.went.start (low (goal.at.returns-clause-built c).In_ok-lower) (high at) d.emptied d.dropped d.working
+    built_over c.requires.working.run l.changes.went.run l.changes.went.start m.changes.went.run m.changes.went.start (low (goal.at.returns-clause-built c).In_ok-lower) (high at) d.emptied d.dropped d.working
 
 pub returns-clause-stands : goal.returns-clause-stands
 returns-clause-stands c =
@@ -89,20 +89,20 @@ pub returns-in_err-lower-clause-builds : goal.returns-in_err-lower-clause-builds
 returns-in_err-lower-clause-builds c =
     let e = c.in_err-lower.ensures in
     let n = looked_none c.args.pool.now c.args.life.now.left c.requires.working in
-    builds_from c.from_residual.result c.from_residual.ensures.1 (builds_cut Made 1 link_steps {T = Made} {n = 0} {k = 2} _ (lit≤ tt) (omega arith) c.requires.working n.went n.latch (still_cut n.still) (spent_call 0 n.went (omega arith)) e.went e.working e.latch (grown_cuts Made 1 _ _ _ e.grown) (spent_calls Made _ _ e.went e.steps) e.cause e.died)
+    builds_from c.from_residual.result c.from_residual.ensures.1 (builds_cut Made 1 link_steps {T = Made} {n = 0} {k = 2} _ (lit≤ tt) (omega arith) c.requires.working n.went n.latch (still_cut n.still) (spent_call 0 n.went (omega arith)) (builds_link _ e.changes))
 
 pub returns-in_err-made-clause-builds : goal.returns-in_err-made-clause-builds
 returns-in_err-made-clause-builds c =
     let l = c.in_ok-lower.ensures in
     let e = c.in_err-made.ensures in
-    builds_from c.from_residual-in_err-made.result c.from_residual-in_err-made.ensures.1 (builds_cut Made 1 link_steps {T = Made} {n = 1} {k = 2} _ (lit≤ tt) (omega arith) c.requires.working l.went l.latch (built_cut (low (goal.at.returns-in_err-made-clause-builds c).In_ok-lower)) (spent_call _ l.went l.steps) e.went e.working e.latch (grown_cuts Made 1 _ _ _ e.grown) (spent_calls Made _ _ e.went e.steps) e.cause e.died)
+    builds_from c.from_residual-in_err-made.result c.from_residual-in_err-made.ensures.1 (builds_cut Made 1 link_steps {T = Made} {n = 1} {k = 2} _ (lit≤ tt) (omega arith) c.requires.working l.changes.went l.changes.latch (built_cut (low (goal.at.returns-in_err-made-clause-builds c).In_ok-lower)) (spent_call _ l.changes.went l.changes.steps) (builds_link _ e.changes))
 
 pub returns-in_err-drop_root-clause-builds : goal.returns-in_err-drop_root-clause-builds
 returns-in_err-drop_root-clause-builds c =
     let at = (goal.at.returns-in_err-drop_root-clause-builds c).In_ok-made in
     let l = c.in_ok-lower.ensures in
     let e = c.in_err-drop_root.ensures in
-    let cut = cut_then c.requires.working.run l.went.run l.went.start (built_cut (low (goal.at.returns-in_err-drop_root-clause-builds c).In_ok-lower)) (built_cut (high at)) in
+    let cut = cut_then c.requires.working.run l.changes.went.run l.changes.went.start (built_cut (low (goal.at.returns-in_err-drop_root-clause-builds c).In_ok-lower)) (built_cut (high at)) in
     builds_from c.from_residual-in_err-drop_root.result c.from_residual-in_err-drop_root.ensures.1 (builds_stuck _ c.requires.working (both at) cut e.went e.working e.latch e.still e.refused_steps e.cause e.died)
 
 pub returns-clause-fresh : goal.returns-clause-fresh
@@ -136,8 +136,8 @@ returns-clause-rests c =
     let l = c.in_ok-lower.ensures in
     let m = c.in_ok-made.ensures in
     let d = c.in_ok-drop_root.ensures in
-    let far = at_hand_linked c.args.far l.linked l.reaches c.requires.far in
-    let node = linked_at_hand l.linked c.requires.near.0 c.requires.middle.0 l.working in
-    rests_then p c.link-2.new.pool c.drop_root.new.pool m.working d.working d.went
-    (rests_then p c.link.new.pool c.link-2.new.pool l.working m.working m.went (rests_linked l.linked c.requires.near.0 c.requires.middle.0) (rests_linked m.linked node.0 far.0))
+    let far = at_hand_linked c.args.far l.linked l.changes.reaches c.requires.far in
+    let node = linked_at_hand l.linked c.requires.near.0 c.requires.middle.0 l.changes.working in
+    rests_then p c.link-2.new.pool c.drop_root.new.pool m.changes.working d.working d.went
+    (rests_then p c.link.new.pool c.link-2.new.pool l.changes.working m.changes.working m.changes.went (rests_linked l.linked c.requires.near.0 c.requires.middle.0) (rests_linked m.linked node.0 far.0))
     (rests_dropped c.in_ok-lower.lower.root c.link-2.new.pool c.drop_root.new.pool d.working d.dropped)

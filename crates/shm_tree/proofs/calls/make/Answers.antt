@@ -4,11 +4,11 @@ use Rattle.shm_graph.specs.Events.{Event}
 use Rattle.shm_alloc.specs.declared.alloc.AllocFault.TheVariants as fault
 use Rattle.shm_alloc.specs.Alloc.Events.{own_events}
 use Rattle.shm_count.specs.Roots.{member}
-use Rattle.shm_tree.proofs.Alive.{on_answer, went_alive, went_dead}
+use Rattle.shm_tree.proofs.Alive.{on_answer, went_alive}
 use Rattle.shm_tree.proofs.Makes.{full_over, make_cause, make_latch, make_made, make_reaches, make_room, make_within, make_works, refused_reaches, refused_still, spent_over}
 use Rattle.shm_tree.proofs.Harmless.{alloc_falls}
 use Rattle.shm_tree.proofs.Unnamed.{made_unnamed}
-use Rattle.shm_tree.proofs.CutOffs.{died_ran}
+use Rattle.shm_tree.proofs.CutOffs.{changes_dead}
 use Rattle.shm_tree.proofs.calls.make.Goals as goal
 
 pub unreachable-requires : goal.unreachable-requires
@@ -34,16 +34,9 @@ returns-in-Ok-None c =
     let x = c.in-Ok-None in
     let ran = rw x.field-0-is at x.ensures.ran in
     record {
-      went = went_dead true c.args.pool.now c.allocate.new.pool _ _ c.requires.working ran (alloc_falls _ false c.args.pool.now c.allocate.new.pool _ _ c.requires.working ran x.ensures.told);
-      working = tt;
-      latch = tt;
-      reaches = tt;
+      changes = changes_dead c.requires.working ran (alloc_falls _ false c.args.pool.now c.allocate.new.pool _ _ c.requires.working ran x.ensures.told);
       made = tt;
       unnamed = tt;
-      still = tt;
-      steps = tt;
-      cause = tt;
-      died = died_ran _ ran;
     }
 
 pub returns-in-Ok-Some-Ok : goal.returns-in-Ok-Some-Ok
@@ -64,16 +57,19 @@ returns-in-Ok-Some-Ok c =
     let d = c.args.content in
     let h = c.args.height in
     record {
-      went = went_alive true p q _ _ ran at (alloc_falls _ true p q _ _ c.requires.working ran x.ensures.told);
-      working = make_works p q es on d h m asked (Ok a) y (refl, tt);
-      latch = make_latch p q es on d h m asked (Ok a) y;
-      reaches = make_reaches p q es on d h m asked a y refl low names others;
+      changes =
+          record {
+            went = went_alive true p q _ _ ran at (alloc_falls _ true p q _ _ c.requires.working ran x.ensures.told);
+            working = make_works p q es on d h m asked (Ok a) y (refl, tt);
+            latch = make_latch p q es on d h m asked (Ok a) y;
+            reaches = make_reaches p q es on d h m asked a y refl low names others;
+            refused = tt;
+            steps = make_within p q es on d h m asked _ _ (Ok a) y (ran.spent refl refl);
+            cause = tt;
+            died = tt;
+          };
       made = make_made p q es on d h m asked a y refl low names others;
       unnamed = made_unnamed p q es on a (tt, tt) (make_made p q es on d h m asked a y refl low names others).born;
-      still = tt;
-      steps = make_within p q es on d h m asked _ _ (Ok a) y (ran.spent refl refl);
-      cause = tt;
-      died = tt;
     }
 
 pub returns-in-Ok-Some-Err-Full : goal.returns-in-Ok-Some-Err-Full
@@ -91,16 +87,19 @@ returns-in-Ok-Some-Err-Full c =
     let d = c.args.content in
     let h = c.args.height in
     record {
-      went = went_alive true p q _ _ ran at (alloc_falls _ true p q _ _ c.requires.working ran x.ensures.told);
-      working = make_works p q es on d h m asked (Err f) y tt;
-      latch = make_latch p q es on d h m asked (Err f) y;
-      reaches = refused_reaches p q es on d h m asked f y;
+      changes =
+          record {
+            went = went_alive true p q _ _ ran at (alloc_falls _ true p q _ _ c.requires.working ran x.ensures.told);
+            working = make_works p q es on d h m asked (Err f) y tt;
+            latch = make_latch p q es on d h m asked (Err f) y;
+            reaches = refused_reaches p q es on d h m asked f y;
+            refused = refused_still p q es on d h m asked f y refl;
+            steps = make_within p q es on d h m asked _ _ (Err f) y (ran.spent refl refl);
+            cause = make_cause p q es on d h m asked f y;
+            died = full_over x.segments x.blocks p q c.allocate.new.life.left;
+          };
       made = tt;
       unnamed = tt;
-      still = refused_still p q es on d h m asked f y refl;
-      steps = make_within p q es on d h m asked _ _ (Err f) y (ran.spent refl refl);
-      cause = make_cause p q es on d h m asked f y;
-      died = full_over x.segments x.blocks p q c.allocate.new.life.left;
     }
 
 pub returns-in-Ok-Some-Err-EraSpent : goal.returns-in-Ok-Some-Err-EraSpent
@@ -118,14 +117,17 @@ returns-in-Ok-Some-Err-EraSpent c =
     let d = c.args.content in
     let h = c.args.height in
     record {
-      went = went_alive true p q _ _ ran at (alloc_falls _ true p q _ _ c.requires.working ran x.ensures.told);
-      working = make_works p q es on d h m asked (Err f) y tt;
-      latch = make_latch p q es on d h m asked (Err f) y;
-      reaches = refused_reaches p q es on d h m asked f y;
+      changes =
+          record {
+            went = went_alive true p q _ _ ran at (alloc_falls _ true p q _ _ c.requires.working ran x.ensures.told);
+            working = make_works p q es on d h m asked (Err f) y tt;
+            latch = make_latch p q es on d h m asked (Err f) y;
+            reaches = refused_reaches p q es on d h m asked f y;
+            refused = refused_still p q es on d h m asked f y refl;
+            steps = make_within p q es on d h m asked _ _ (Err f) y (ran.spent refl refl);
+            cause = inl (make_cause p q es on d h m asked f y);
+            died = spent_over x.era p q c.allocate.new.life.left;
+          };
       made = tt;
       unnamed = tt;
-      still = refused_still p q es on d h m asked f y refl;
-      steps = make_within p q es on d h m asked _ _ (Err f) y (ran.spent refl refl);
-      cause = inl (make_cause p q es on d h m asked f y);
-      died = spent_over x.era p q c.allocate.new.life.left;
     }

@@ -19,14 +19,14 @@ use Rattle.plain_calls.proofs.Reaching.{reached_small, reached_whole}
 use Rattle.plain_calls.proofs.Running.{MachineLeft, plan_may}
 use Rattle.shm_tree.specs.Bounds.{refer_steps}
 use Rattle.shm_tree.specs.Keeping.{side_word}
-use Rattle.shm_tree.proofs.Alive.{went_alive, went_dead}
+use Rattle.shm_tree.proofs.Alive.{went_alive}
 use Rattle.shm_tree.proofs.Answering.{Answered, plan_answered}
 use Rattle.shm_tree.proofs.Refers.{full_within, set_cause, set_full, set_latch, set_reaches, set_refers, set_refused, set_spent, set_within, set_works, spent_within}
 use Rattle.shm_tree.proofs.SureCalls.{set_most}
 use Rattle.shm_graph.specs.Tells.{happens_along}
 use Rattle.shm_tree.specs.Falling.{AreFalling, IsUnnamed}
 use Rattle.shm_tree.proofs.Referring.{setting_falls, setting_unnamed}
-use Rattle.shm_tree.proofs.CutOffs.{died_ran}
+use Rattle.shm_tree.proofs.CutOffs.{changes_dead}
 use Rattle.shm_tree.proofs.calls.refer.Goals.{After-me, After-new-setting, After-run}
 use Rattle.shm_tree.proofs.calls.refer.Goals as goal
 
@@ -112,16 +112,9 @@ unreachable-requires-in-Some-Err-NotHeld c =
 pub returns-in-None : goal.returns-in-None
 returns-in-None c =
     record {
-      went = went_dead true c.args.pool.now c.run.new.self _ _ c.requires.working c.in-None.ensures.ran (falls (goal.at.returns-in-None c).After-run false c.in-None.ensures.ran);
-      working = tt;
-      latch = tt;
-      reaches = tt;
+      changes = changes_dead c.requires.working c.in-None.ensures.ran (falls (goal.at.returns-in-None c).After-run false c.in-None.ensures.ran);
       refers = tt;
       unnamed = tt;
-      still = tt;
-      steps = tt;
-      cause = tt;
-      died = died_ran _ c.in-None.ensures.ran;
     }
 
 pub returns-in-Some-Ok : goal.returns-in-Some-Ok
@@ -135,16 +128,19 @@ returns-in-Some-Ok c =
     let x = c.in-Some-Ok in
     let (es, on, h) = left (goal.at.returns-in-Some-Ok c).After-new-setting q _ x.field-0 (Ok tt) x.field-0-is x.ensures.ran (x.ensures.at_work tt) x.ensures.leaves in
     record {
-      went = went_alive true p q _ _ x.ensures.ran (x.ensures.at_work tt) (falls (goal.at.returns-in-Some-Ok c).After-run true x.ensures.ran);
-      working = set_works p q es on b s to i n d node c.requires.empty tt h;
-      latch = set_latch p q es on b s to i n d node c.requires.empty (Ok tt) h;
-      reaches = set_reaches p q es on b s to i n d node c.requires.empty tt h;
+      changes =
+          record {
+            went = went_alive true p q _ _ x.ensures.ran (x.ensures.at_work tt) (falls (goal.at.returns-in-Some-Ok c).After-run true x.ensures.ran);
+            working = set_works p q es on b s to i n d node c.requires.empty tt h;
+            latch = set_latch p q es on b s to i n d node c.requires.empty (Ok tt) h;
+            reaches = set_reaches p q es on b s to i n d node c.requires.empty tt h;
+            refused = tt;
+            steps = took_few (goal.at.returns-in-Some-Ok c).After-new-setting q _ x.ensures.took x.ensures.ran (set_within p q es on b s to i n d node c.requires.empty tt h);
+            cause = tt;
+            died = tt;
+          };
       refers = set_refers p q es on b s to i n d node c.requires.empty tt h;
       unnamed = unnamed (goal.at.returns-in-Some-Ok c).After-run x.ensures.ran;
-      still = tt;
-      steps = took_few (goal.at.returns-in-Some-Ok c).After-new-setting q _ x.ensures.took x.ensures.ran (set_within p q es on b s to i n d node c.requires.empty tt h);
-      cause = tt;
-      died = tt;
     }
 
 pub returns-in-Some-Err-EraSpent : goal.returns-in-Some-Err-EraSpent
@@ -160,16 +156,19 @@ returns-in-Some-Err-EraSpent c =
     let (es, on, h) = left (goal.at.returns-in-Some-Err-EraSpent c).After-new-setting q _ x.field-0 (Err f) (x.field-0-is ∙ ap Err x.field-0-0-is) x.ensures.ran (x.ensures.at_work tt) x.ensures.leaves in
     let none = set_spent p q es on b s to i n d node c.requires.empty x.era h in
     record {
-      went = went_alive true p q _ _ x.ensures.ran (x.ensures.at_work tt) (falls (goal.at.returns-in-Some-Err-EraSpent c).After-run true x.ensures.ran);
-      working = none.works;
-      latch = set_latch p q es on b s to i n d node c.requires.empty (Err f) h;
-      reaches = none.reaches;
+      changes =
+          record {
+            went = went_alive true p q _ _ x.ensures.ran (x.ensures.at_work tt) (falls (goal.at.returns-in-Some-Err-EraSpent c).After-run true x.ensures.ran);
+            working = none.works;
+            latch = set_latch p q es on b s to i n d node c.requires.empty (Err f) h;
+            reaches = none.reaches;
+            refused = none.still;
+            steps = took_few (goal.at.returns-in-Some-Err-EraSpent c).After-new-setting q _ x.ensures.took x.ensures.ran (spent_within p q es on b s to i n d node c.requires.empty x.era h);
+            cause = inr (inl (set_cause p q es on b s to i n d node c.requires.empty f h));
+            died = λ e. absurd cc;
+          };
       refers = tt;
       unnamed = tt;
-      still = none.still;
-      steps = took_few (goal.at.returns-in-Some-Err-EraSpent c).After-new-setting q _ x.ensures.took x.ensures.ran (spent_within p q es on b s to i n d node c.requires.empty x.era h);
-      cause = inr (inl (set_cause p q es on b s to i n d node c.requires.empty f h));
-      died = λ e. absurd cc;
     }
 
 pub returns-in-Some-Err-CountFull : goal.returns-in-Some-Err-CountFull
@@ -185,14 +184,17 @@ returns-in-Some-Err-CountFull c =
     let (es, on, h) = left (goal.at.returns-in-Some-Err-CountFull c).After-new-setting q _ x.field-0 (Err f) (x.field-0-is ∙ ap Err x.field-0-0-is) x.ensures.ran (x.ensures.at_work tt) x.ensures.leaves in
     let none = set_full p q es on b s to i n d node c.requires.empty x.block x.count h in
     record {
-      went = went_alive true p q _ _ x.ensures.ran (x.ensures.at_work tt) (falls (goal.at.returns-in-Some-Err-CountFull c).After-run true x.ensures.ran);
-      working = none.works;
-      latch = set_latch p q es on b s to i n d node c.requires.empty (Err f) h;
-      reaches = none.reaches;
+      changes =
+          record {
+            went = went_alive true p q _ _ x.ensures.ran (x.ensures.at_work tt) (falls (goal.at.returns-in-Some-Err-CountFull c).After-run true x.ensures.ran);
+            working = none.works;
+            latch = set_latch p q es on b s to i n d node c.requires.empty (Err f) h;
+            reaches = none.reaches;
+            refused = none.still;
+            steps = took_few (goal.at.returns-in-Some-Err-CountFull c).After-new-setting q _ x.ensures.took x.ensures.ran (full_within p q es on b s to i n d node c.requires.empty x.block x.count h);
+            cause = inl (set_cause p q es on b s to i n d node c.requires.empty f h);
+            died = λ e. absurd cc;
+          };
       refers = tt;
       unnamed = tt;
-      still = none.still;
-      steps = took_few (goal.at.returns-in-Some-Err-CountFull c).After-new-setting q _ x.ensures.took x.ensures.ran (full_within p q es on b s to i n d node c.requires.empty x.block x.count h);
-      cause = inl (set_cause p q es on b s to i n d node c.requires.empty f h);
-      died = λ e. absurd cc;
     }

@@ -12,7 +12,7 @@ use Rattle.shm_count.specs.UpRoot.Control.{rooting, rooting_parts}
 use Rattle.shm_count.specs.UpRoot.{rooting_plan}
 use Rattle.plain_calls.proofs.Reaching.{reached_small}
 use Rattle.plain_calls.proofs.Running.{plan_may, MachineLeft}
-use Rattle.shm_tree.proofs.Alive.{went_alive, went_dead}
+use Rattle.shm_tree.proofs.Alive.{went_alive}
 use Rattle.shm_tree.proofs.Answering.{Answered, plan_answered}
 use Rattle.shm_tree.proofs.Shares.{share_cause, share_latch, share_reaches, share_room, share_shared, share_still, share_works}
 use Rattle.shm_tree.proofs.CutShort.{unanswered}
@@ -20,7 +20,7 @@ use Rattle.shm_tree.proofs.SureCalls.{share_within}
 use Rattle.shm_tree.specs.Falling.{AreFalling}
 use Rattle.shm_tree.proofs.Anytime.{always_falls}
 use Rattle.shm_tree.proofs.Harmless.{share_keeps}
-use Rattle.shm_tree.proofs.CutOffs.{died_ran}
+use Rattle.shm_tree.proofs.CutOffs.{changes_dead}
 use Rattle.shm_count.specs.declared.answer.ShareFault.{ShareFault}
 use Rattle.shm_tree.proofs.calls.share.Goals.{After-run}
 use Rattle.shm_tree.proofs.calls.share.Goals as goal
@@ -55,16 +55,9 @@ unreachable-requires c =
 pub returns-in-None : goal.returns-in-None
 returns-in-None c =
     record {
-      went = went_dead true c.args.pool.now c.run.new.self _ _ c.requires.working c.in-None.ensures.ran (falls (goal.at.returns-in-None c).After-run false c.in-None.ensures.ran);
-      working = tt;
-      latch = tt;
-      reaches = tt;
+      changes = changes_dead c.requires.working c.in-None.ensures.ran (falls (goal.at.returns-in-None c).After-run false c.in-None.ensures.ran);
       block = tt;
       shared = tt;
-      still = tt;
-      steps = tt;
-      cause = tt;
-      died = died_ran _ c.in-None.ensures.ran;
       begun = λ e. unanswered c.args.pool.now c.run.new.self c.in-None.ensures.ran;
     }
 
@@ -77,16 +70,19 @@ returns-in-Some-Ok c =
     let k = x.root in
     let (es, on, h) = left (goal.at.returns-in-Some-Ok c).After-run x.field-0 (Ok k) x.field-0-is x.ensures.ran (x.ensures.at_work tt) x.ensures.leaves in
     record {
-      went = went_alive true p q _ _ x.ensures.ran (x.ensures.at_work tt) (falls (goal.at.returns-in-Some-Ok c).After-run true x.ensures.ran);
-      working = share_works p q es on b (Ok k) h;
-      latch = share_latch p q es on b (Ok k) h;
-      reaches = share_reaches p q es on b (Ok k) h;
+      changes =
+          record {
+            went = went_alive true p q _ _ x.ensures.ran (x.ensures.at_work tt) (falls (goal.at.returns-in-Some-Ok c).After-run true x.ensures.ran);
+            working = share_works p q es on b (Ok k) h;
+            latch = share_latch p q es on b (Ok k) h;
+            reaches = share_reaches p q es on b (Ok k) h;
+            refused = tt;
+            steps = share_within p q b _ _ es (Ok k) c.requires.working (refl, c.requires.working.client, c.requires.reached c.requires.some) (took (goal.at.returns-in-Some-Ok c).After-run x.ensures.took) x.ensures.ran h;
+            cause = tt;
+            died = tt;
+          };
       block = refl;
       shared = share_shared p q es on b k h;
-      still = tt;
-      steps = share_within p q b _ _ es (Ok k) c.requires.working (refl, c.requires.working.client, c.requires.reached c.requires.some) (took (goal.at.returns-in-Some-Ok c).After-run x.ensures.took) x.ensures.ran h;
-      cause = tt;
-      died = tt;
       begun = tt;
     }
 
@@ -99,16 +95,19 @@ returns-in-Some-Err-EraSpent c =
     let f = fault.EraSpent x.era in
     let (es, on, h) = left (goal.at.returns-in-Some-Err-EraSpent c).After-run x.field-0 (Err f) (x.field-0-is ∙ ap Err x.field-0-0-is) x.ensures.ran (x.ensures.at_work tt) x.ensures.leaves in
     record {
-      went = went_alive true p q _ _ x.ensures.ran (x.ensures.at_work tt) (falls (goal.at.returns-in-Some-Err-EraSpent c).After-run true x.ensures.ran);
-      working = share_works p q es on b (Err f) h;
-      latch = share_latch p q es on b (Err f) h;
-      reaches = share_reaches p q es on b (Err f) h;
+      changes =
+          record {
+            went = went_alive true p q _ _ x.ensures.ran (x.ensures.at_work tt) (falls (goal.at.returns-in-Some-Err-EraSpent c).After-run true x.ensures.ran);
+            working = share_works p q es on b (Err f) h;
+            latch = share_latch p q es on b (Err f) h;
+            reaches = share_reaches p q es on b (Err f) h;
+            refused = share_still p q es on b f h;
+            steps = share_within p q b _ _ es (Err f) c.requires.working (refl, c.requires.working.client, c.requires.reached c.requires.some) (took (goal.at.returns-in-Some-Err-EraSpent c).After-run x.ensures.took) x.ensures.ran h;
+            cause = inr (inr (inl (share_cause p q es on b f h)));
+            died = λ e. absurd cc;
+          };
       block = tt;
       shared = tt;
-      still = share_still p q es on b f h;
-      steps = share_within p q b _ _ es (Err f) c.requires.working (refl, c.requires.working.client, c.requires.reached c.requires.some) (took (goal.at.returns-in-Some-Err-EraSpent c).After-run x.ensures.took) x.ensures.ran h;
-      cause = inr (inr (inl (share_cause p q es on b f h)));
-      died = λ e. absurd cc;
       begun = λ e. absurd cc;
     }
 
@@ -121,15 +120,18 @@ returns-in-Some-Err-CountFull c =
     let f = fault.CountFull x.block x.count in
     let (es, on, h) = left (goal.at.returns-in-Some-Err-CountFull c).After-run x.field-0 (Err f) (x.field-0-is ∙ ap Err x.field-0-0-is) x.ensures.ran (x.ensures.at_work tt) x.ensures.leaves in
     record {
-      went = went_alive true p q _ _ x.ensures.ran (x.ensures.at_work tt) (falls (goal.at.returns-in-Some-Err-CountFull c).After-run true x.ensures.ran);
-      working = share_works p q es on b (Err f) h;
-      latch = share_latch p q es on b (Err f) h;
-      reaches = share_reaches p q es on b (Err f) h;
+      changes =
+          record {
+            went = went_alive true p q _ _ x.ensures.ran (x.ensures.at_work tt) (falls (goal.at.returns-in-Some-Err-CountFull c).After-run true x.ensures.ran);
+            working = share_works p q es on b (Err f) h;
+            latch = share_latch p q es on b (Err f) h;
+            reaches = share_reaches p q es on b (Err f) h;
+            refused = share_still p q es on b f h;
+            steps = share_within p q b _ _ es (Err f) c.requires.working (refl, c.requires.working.client, c.requires.reached c.requires.some) (took (goal.at.returns-in-Some-Err-CountFull c).After-run x.ensures.took) x.ensures.ran h;
+            cause = inr (share_cause p q es on b f h);
+            died = λ e. absurd cc;
+          };
       block = tt;
       shared = tt;
-      still = share_still p q es on b f h;
-      steps = share_within p q b _ _ es (Err f) c.requires.working (refl, c.requires.working.client, c.requires.reached c.requires.some) (took (goal.at.returns-in-Some-Err-CountFull c).After-run x.ensures.took) x.ensures.ran h;
-      cause = inr (share_cause p q es on b f h);
-      died = λ e. absurd cc;
       begun = λ e. absurd cc;
     }

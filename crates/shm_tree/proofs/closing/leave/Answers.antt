@@ -1,14 +1,13 @@
-use Rattle.std.proofs.Common.{◌≡◌, ◌^◌, ◌<◌, ◌≤◌, ap, ◌∙◌, subst, arith, Option}
-use Rattle.std.specs.Prelude.{IfSome, Result}
+use Rattle.std.proofs.Common.{◌≡◌, ◌^◌, ◌<◌, ◌≤◌, ap, ◌∙◌, arith}
 use Rattle.shm_calls.specs.CallsControl.{calls_of}
 use Rattle.shm_calls.specs.CallsFit.{CallsFits, CallsGives}
-use Rattle.shm_count.specs.declared.answer.EraSpent.{EraSpent}
 use Rattle.shm_recover.specs.declared.leave.LeaveState.{LeaveState}
 use Rattle.shm_recover.specs.Leave.Control.{leave_parts, leaving}
 use Rattle.shm_recover.specs.Leave.{leave_plan}
 use Rattle.shm_plain.proofs.Called.{Called}
 use Rattle.shm_tree.specs.Ending.{HasParted}
 use Rattle.shm_tree.proofs.Ending.{leave_answers, leave_control, leave_fits, leave_parted, leaver}
+use Rattle.shm_tree.proofs.Opening.{some_is}
 use Rattle.shm_tree.proofs.Roomy.{parted_ok, young_room}
 use Rattle.shm_tree.proofs.closing.leave.Goals.{After-new-leaving, After-call, After-unwrap}
 use Rattle.shm_tree.proofs.closing.leave.Goals as goal
@@ -34,7 +33,7 @@ unwrap-requires c =
 parted : (c : After-unwrap) → HasParted c.args.pool.now c.call.new.self c.unwrap.result
 parted c =
     let at = (goal.at.After-unwrap c).After-call in
-    subst (λ (o : Option (Result (Unit {0}) EraSpent)). IfSome o (HasParted c.args.pool.now c.call.new.self)) c.unwrap.ensures
+    some_is (HasParted c.args.pool.now c.call.new.self) c.call.result c.unwrap.result c.unwrap.ensures
     (leave_parted c.args.pool.now c.requires.working c.requires.latch c.requires.dying c.new-leaving.result (made (goal.at.After-call at).After-new-leaving) c.call.new.self c.of.result.left c.call.new.life.left c.call.result (say at))
 
 pub returns-clause-parted : goal.returns-clause-parted

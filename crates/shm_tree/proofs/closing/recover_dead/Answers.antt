@@ -1,14 +1,13 @@
-use Rattle.std.proofs.Common.{◌≡◌, ◌^◌, ◌<◌, ◌≤◌, ap, ◌∙◌, subst, arith, Option}
-use Rattle.std.specs.Prelude.{IfSome, Result}
+use Rattle.std.proofs.Common.{◌≡◌, ◌^◌, ◌<◌, ◌≤◌, ap, ◌∙◌, arith}
 use Rattle.shm_calls.specs.CallsControl.{calls_of}
 use Rattle.shm_calls.specs.CallsFit.{CallsFits, CallsGives}
-use Rattle.shm_count.specs.declared.answer.EraSpent.{EraSpent}
 use Rattle.shm_recover.specs.declared.recover.RecoverState.{RecoverState}
 use Rattle.shm_recover.specs.Recover.Control.{recover_parts, recovering}
 use Rattle.shm_recover.specs.Recover.{recover_plan}
 use Rattle.shm_plain.proofs.Called.{Called}
 use Rattle.shm_tree.specs.Ending.{IsRevived}
 use Rattle.shm_tree.proofs.Ending.{recover_answers, recover_control, recover_fits, recover_revived, recoverer}
+use Rattle.shm_tree.proofs.Opening.{some_is}
 use Rattle.shm_tree.proofs.Roomy.{revived_ok, young_room}
 use Rattle.shm_tree.proofs.closing.recover_dead.Goals.{After-new-recovery, After-call, After-unwrap}
 use Rattle.shm_tree.proofs.closing.recover_dead.Goals as goal
@@ -39,7 +38,7 @@ revived : (c : After-unwrap) → IsRevived c.args.pool.now c.call.new.self c.unw
 revived c =
     let at = (goal.at.After-unwrap c).After-call in
     let new = (goal.at.After-call at).After-new-recovery in
-    subst (λ (o : Option (Result (Unit {0}) EraSpent)). IfSome o (IsRevived c.args.pool.now c.call.new.self)) c.unwrap.ensures
+    some_is (IsRevived c.args.pool.now c.call.new.self) c.call.result c.unwrap.result c.unwrap.ensures
     (recover_revived c.args.pool.now c.me.ensures.run (who new) c.requires.fell c.new-recovery.result (made new) c.call.new.self c.of.result.left c.call.new.life.left c.call.result (say at))
 
 pub returns-clause-revived : goal.returns-clause-revived

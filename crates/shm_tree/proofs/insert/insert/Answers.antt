@@ -240,7 +240,7 @@ returns-in_err-made-clause-builds c =
     let low = down_lower x t n (others_deep x n t (f.place t st).on) in
     let most = first_most (2 + lowest_steps g) (5 * height t + raise_steps g) n (height t) (omega (arith, low)) in
     builds_from c.from_residual-in_err-made.result c.from_residual-in_err-made.ensures.1
-    (builds_cut Made 1 lowest_steps {T = Made} {n = 0} {k = height t + 3} {a = 5 * n + 2} _ (omega arith) (omega (arith, most)) c.requires.working f.looks.went f.looks.latch (still_cut f.looks.still) (spent_call (5 * n + 2) f.looks.went (omega (arith, s))) e.went e.working e.latch e.refused e.spent e.cause e.died)
+    (builds_cut Made 1 lowest_steps {T = Made} {n = 0} {k = height t + 3} {a = 5 * n + 2} _ (omega arith) (omega (arith, most)) c.requires.working f.looks.went f.looks.latch (still_cut f.looks.still) (spent_call (5 * n + 2) f.looks.went (omega (arith, s))) e)
 
 pub returns-in_err-node-clause-builds : goal.returns-in_err-node-clause-builds
 returns-in_err-node-clause-builds c =
@@ -285,6 +285,5 @@ returns-in_err-made-2-clause-builds c =
     let geo = p.start.geometry in
     let levels = level_most (2 + lowest_steps geo) (raise_steps geo) (n - c.levels.depth) d n (height t) (omega (arith, low, same)) (omega (arith, low, same)) (omega (arith, up)) in
     builds_from c.from_residual-in_err-made-2.result c.from_residual-in_err-made-2.ensures.1
-    (builds_cut Made j raise_steps {T = Made} {n = i + 0} {k = height t + 3} {a = climb_steps (n - c.levels.depth) n geo + 5 * d} _ (omega (arith, is, most, few)) (omega (arith, levels)) c.requires.working (went_on run r.went a.looks.went) (a.looks.latch ∙ r.latch) cut (spent_then (λ u. 5 * d) c.requires.working r.went a.looks.went r.spent (spent_call (5 * d) a.looks.went (omega (arith, s)))) e.builds.went e.builds.working e.builds.latch
-    (refused_with Made (IsCut 3 w v) (IsCheapAt x c.in_ok-node.node c.levels.made.block w v) (IsCut j w v) _ (λ k one. cut_made j k (level_made x y c.in_ok-node.node c.levels.made.block (down x t d) o here under k.made one)) e.builds.refused e.cheap)
-    e.builds.spent e.builds.cause e.builds.died)
+    (builds_cut Made j raise_steps {T = Made} {n = i + 0} {k = height t + 3} {a = climb_steps (n - c.levels.depth) n geo + 5 * d} _ (omega (arith, is, most, few)) (omega (arith, levels)) c.requires.working (went_on run r.went a.looks.went) (a.looks.latch ∙ r.latch) cut (spent_then (λ u. 5 * d) c.requires.working r.went a.looks.went r.spent (spent_call (5 * d) a.looks.went (omega (arith, s))))
+    (record { went = e.builds.went; working = e.builds.working; latch = e.builds.latch; refused = refused_with Made (IsCut 3 w v) (IsCheapAt x c.in_ok-node.node c.levels.made.block w v) (IsCut j w v) _ (λ k one. cut_made j k (level_made x y c.in_ok-node.node c.levels.made.block (down x t d) o here under k.made one)) e.builds.refused e.cheap; spent = e.builds.spent; cause = e.builds.cause; died = e.builds.died }))

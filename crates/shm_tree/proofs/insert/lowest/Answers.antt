@@ -46,7 +46,7 @@ returns c =
     let near : HasTree c.trees_of.new.pool c.in_ok-trees.trees.near = (left_of t.0, u.looks.still.trees _ _ (u.near t.0 t.1)) in
     let far : HasTree c.trees_of.new.pool c.in_ok-trees.trees.far = (right_of t.0, u.looks.still.trees _ _ (u.far t.0 t.1)) in
     record {
-      builds = (let e = u.steps in builds_after 1 1 6 link_steps _ (lit≤ tt) (omega arith) c.requires.working (looked u.looks) (omega (arith, e)) (builds_link _ _ _ l.went l.working l.latch l.grown l.steps l.cause l.died));
+      builds = (let e = u.steps in builds_after 1 1 6 link_steps _ (lit≤ tt) (omega arith) c.requires.working (looked u.looks) (omega (arith, e)) (builds_link _ l.changes));
       built = ok_kept {T = Made} {P = λ m. IsLinked c.args.content Left c.in_ok-trees.trees m c.trees_of.new.pool c.link.new.pool} {Q = λ m. IsBuilt 1 m c.args.pool.now c.link.new.pool} _ (λ m b. built_after run u.looks.went.run u.looks.went.start u.looks.still (born_built (linked_some b near far) b.born)) l.linked;
       stands =
           ok_kept {T = Made} {P = λ m. IsLinked c.args.content Left c.in_ok-trees.trees m c.trees_of.new.pool c.link.new.pool} {Q = λ m. StandsLowest c.args.content.key c.args.content.number c.args.node m.block c.args.pool.now c.link.new.pool} _ (λ m b. λ v sv end.
@@ -66,5 +66,5 @@ returns c =
           let is : weight f c.link.new.pool m.block (inserted c.args.content.key c.args.content.number v) ≡ weight f c.link.new.pool m.block (Node c.args.content.key c.args.content.number (left_of v) (right_of v)) =
           ap (λ (z : Tree). weight f c.link.new.pool m.block z) (inserted_low c.args.content.key c.args.content.number v end) in
           omega (arith, one, a1, a2, light, new, is)) l.linked;
-      rests = rests_link c.args.content Left c.in_ok-trees.trees c.link.result c.args.pool.now c.trees_of.new.pool c.link.new.pool u.looks.working u.looks.still l.went l.working l.linked near far;
+      rests = rests_link c.args.content Left c.in_ok-trees.trees c.link.result c.args.pool.now c.trees_of.new.pool c.link.new.pool u.looks.working u.looks.still l.changes l.linked near far;
     }

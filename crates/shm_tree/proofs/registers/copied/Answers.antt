@@ -28,10 +28,10 @@ returns c =
     let b = c.in_ok-tree.tree in
     record {
       off = copied_off c.args.pool.now c.root_of.new.pool c.share.new.pool c.share.result t.looks.still.roots s.begun;
-      calls = shared_grows b _ c.requires.working (looked t.looks) s.went s.working s.latch s.shared s.still s.cause s.died;
+      calls = shared_grows b _ c.requires.working (looked t.looks) s.changes s.shared;
       rooted = copied_rooted c.share.new.pool b _ t.looks.still s.block s.shared;
       some = copied_some _ (λ e. c.requires.some (sym t.names ∙ e)) s.block;
       is = copied_stands c.share.new.pool b _ _ t.looks.still t.names s.block s.shared;
-      refused = (let one = t.steps in refused_both _ (λ still few. spends_more 0 (copied_steps c.args.pool.now.start.geometry) (none_least 0) (all_of (copied_steps c.args.pool.now.start.geometry)) (spends_then share_steps c.requires.working t.looks.went s.went (spends_still 1 t.looks.went t.looks.still (omega (arith, one))) (spends_still (share_steps c.root_of.new.pool.start.geometry) s.went still few))) s.still (alive_refusals (c.root_of.new.life.left ≤ c.share.new.life.left + share_steps c.root_of.new.pool.start.geometry) _ s.steps));
-      costs = (let one = t.steps in costs_copied b _ c.requires.working (looked t.looks) (omega (arith, one)) s.went s.working s.shared s.steps);
+      refused = (let one = t.steps in refused_both _ (λ still few. spends_more 0 (copied_steps c.args.pool.now.start.geometry) (none_least 0) (all_of (copied_steps c.args.pool.now.start.geometry)) (spends_then share_steps c.requires.working t.looks.went s.changes.went (spends_still 1 t.looks.went t.looks.still (omega (arith, one))) (spends_still (share_steps c.root_of.new.pool.start.geometry) s.changes.went still few))) s.changes.refused (alive_refusals (c.root_of.new.life.left ≤ c.share.new.life.left + share_steps c.root_of.new.pool.start.geometry) _ s.changes.steps));
+      costs = (let one = t.steps in costs_copied b _ c.requires.working (looked t.looks) (omega (arith, one)) s.changes s.shared);
     }

@@ -144,7 +144,7 @@ returns-in_err-made-clause-builds c =
     let lower = down_lower x t (suc e) way.deep in
     let most = first_most (9 + remnant_steps g) (5 * height t + raise_steps g) e (height t) (omega (arith, lower)) in
     builds_from c.from_residual-in_err-made.result c.from_residual-in_err-made.ensures.1
-    (builds_cut (Option Made) 0 remnant_steps {T = Option Removed} {n = 0} {k = 3 * height t} {a = 5 * e + 9} _ (omega arith) (omega (arith, most)) c.requires.working read.went read.latch (still_cut read.still) (spent_call (5 * e + 9) read.went (omega (arith, s1, s2, s3, below))) r.went r.working r.latch r.refused r.spent r.cause r.died)
+    (builds_cut (Option Made) 0 remnant_steps {T = Option Removed} {n = 0} {k = 3 * height t} {a = 5 * e + 9} _ (omega arith) (omega (arith, most)) c.requires.working read.went read.latch (still_cut read.still) (spent_call (5 * e + 9) read.went (omega (arith, s1, s2, s3, below))) r)
 
 pub levels-init : goal.levels-init
 levels-init c =
@@ -299,7 +299,7 @@ returns-in_err-over-clause-builds c =
     let lower = down_lower x t (suc end) (r.way t st).deep in
     let levels = level_most (9 + remnant_steps g) (raise_steps g) (end - c.levels.depth) d end (height t) (omega (arith, low, same)) (omega (arith, low, same)) (omega (arith, lower)) in
     builds_from c.from_residual-in_err-over.result c.from_residual-in_err-over.ensures.1
-    (builds_cut Made 3 raise_steps {T = Option Removed} {n = 3 * (end - c.levels.depth) + 0} {k = 3 * height t} {a = fall_steps (end - c.levels.depth) end g + 5 * d} _ (omega (arith, low, lower)) (omega (arith, levels)) c.requires.working (went_on run r.went h.looks.went) (h.looks.latch ∙ r.latch) cut (spent_then (λ u. 5 * d) c.requires.working r.went h.looks.went r.spent (spent_call (5 * d) h.looks.went (omega (arith, s)))) e.went e.working e.latch e.refused e.spent e.cause e.died)
+    (builds_cut Made 3 raise_steps {T = Option Removed} {n = 3 * (end - c.levels.depth) + 0} {k = 3 * height t} {a = fall_steps (end - c.levels.depth) end g + 5 * d} _ (omega (arith, low, lower)) (omega (arith, levels)) c.requires.working (went_on run r.went h.looks.went) (h.looks.latch ∙ r.latch) cut (spent_then (λ u. 5 * d) c.requires.working r.went h.looks.went r.spent (spent_call (5 * d) h.looks.went (omega (arith, s)))) e)
 
 pub returns : goal.returns
 returns c =
