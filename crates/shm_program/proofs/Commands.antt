@@ -4,7 +4,7 @@ use Rattle.clap.specs.Words.{App, IsAmong, Kinds, Row, fault_of, is_simple, is_s
 use Rattle.clap.specs.declared.error.kind.ErrorKind.{ErrorKind}
 use Rattle.clap.specs.declared.parser.matches.ArgMatches.{ArgMatches}
 use Rattle.clap.proofs.OnLiterals.{clap_on_literals}
-use Rattle.shm_program.specs.Words.{NamesCommand, asked, audit_command, job_by, job_of, make_command, migrate_command, name_of, poll_command, read_by, replay_command, rows_in, run_command, tree_command, unless_faulty}
+use Rattle.shm_program.specs.Words.{NamesCommand, asked, job_by, job_of, make_command, name_of, poll_command, read_by, replay_command, rows_in, run_command, unless_faulty}
 use Rattle.shm_program.specs.declared.words.Job.{Job}
 use Rattle.shm_program.specs.declared.words.Name.{Name}
 
@@ -15,18 +15,6 @@ replay_free = refl
 pub run_free : is_simple_and_free run_command ≡ true
 unfolding clap_on_literals
 run_free = refl
-
-pub migrate_free : is_simple_and_free migrate_command ≡ true
-unfolding clap_on_literals
-migrate_free = refl
-
-pub audit_free : is_simple_and_free audit_command ≡ true
-unfolding clap_on_literals
-audit_free = refl
-
-pub tree_free : is_simple_and_free tree_command ≡ true
-unfolding clap_on_literals
-tree_free = refl
 
 pub poll_free : is_simple_and_free poll_command ≡ true
 unfolding clap_on_literals

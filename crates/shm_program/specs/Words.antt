@@ -35,14 +35,6 @@ replay_command = with_rule (with_rule (new_app (codes "replay")) (flag (codes "i
 abbrev pub run_command : App
 run_command = with_rule (with_rule (new_app (codes "run")) (flag (codes "image"))) (valued (codes "medics"))
 
--- `audit` has nothing but what each command has
-abbrev pub audit_command : App
-audit_command = new_app (codes "audit")
-
--- and so has `migrate`
-abbrev pub migrate_command : App
-migrate_command = new_app (codes "migrate")
-
 -- `make` has two words and a flag
 abbrev pub make_command : App
 make_command = with_rule (with_rule (with_rule (new_app (codes "make")) (required (codes "start"))) (required (codes "size"))) (flag (codes "print"))
@@ -50,10 +42,6 @@ make_command = with_rule (with_rule (with_rule (new_app (codes "make")) (require
 -- `poll` has a word, and one behind a flag
 abbrev pub poll_command : App
 poll_command = with_rule (with_rule (new_app (codes "poll")) (required (codes "turns"))) (valued (codes "limit"))
-
--- `tree` has nothing but what each command has
-abbrev pub tree_command : App
-tree_command = new_app (codes "tree")
 
 -- ---- what a command reads
 
@@ -116,11 +104,9 @@ run_of image rescued medics = run_by (form_of image) rescued (medics_of medics)
 abbrev pub run_in : List Row → Option Job
 run_in rows = run_of (is_true (first_of (codes "image") rows)) (is_some (first_of (codes "medics") rows)) (option_and_then number_in (first_of (codes "medics") rows))
 
-abbrev pub audit_in : List Row → Option Job
-audit_in rows = Some Audit
-
-abbrev pub migrate_in : List Row → Option Job
-migrate_in rows = Some Migrate
+-- a command that has nothing but what each command has, as `audit`, asks for this
+abbrev pub only : Job → List Row → Option Job
+only job rows = Some job
 
 -- how many commands a drawn script may have
 abbrev pub is_size : ℕ → Bool
@@ -158,9 +144,6 @@ poll_of turns limited limit = poll_by (count_of turns) limited (count_of limit)
 abbrev pub poll_in : List Row → Option Job
 poll_in rows = poll_of (option_and_then number_in (first_of (codes "turns") rows)) (is_some (first_of (codes "limit") rows)) (option_and_then number_in (first_of (codes "limit") rows))
 
-abbrev pub tree_in : List Row → Option Job
-tree_in rows = Some Tree
-
 -- what the words of a command ask for: nothing where it refuses them
 abbrev pub asked : App → (List Row → Option Job) → List (List ℕ) → Option Job
 asked command job words = option_and_then job (read_by command words)
@@ -180,11 +163,11 @@ name_of word =
 abbrev pub job_by : Name → List (List ℕ) → Option Job
 job_by name.Replay words = asked replay_command replay_in words
 job_by name.Run words = asked run_command run_in words
-job_by name.Audit words = asked audit_command audit_in words
+job_by name.Audit words = asked (new_app (codes "audit")) (only Audit) words
 job_by name.Make words = asked make_command make_in words
-job_by name.Migrate words = asked migrate_command migrate_in words
+job_by name.Migrate words = asked (new_app (codes "migrate")) (only Migrate) words
 job_by name.Poll words = asked poll_command poll_in words
-job_by name.Tree words = asked tree_command tree_in words
+job_by name.Tree words = asked (new_app (codes "tree")) (only Tree) words
 
 -- what the words ask for: the first one names the command, and nothing where it names none
 abbrev pub job_of : List (List ℕ) → Option Job

@@ -5,7 +5,7 @@ ghost use Rattle.std.specs.Option.{is_some};
 ghost use Rattle.std.specs.String.{string_bytes};
 ghost use Rattle.clap.specs.Words.{app_of, first_value, found_of, is_simple_and_free};
 ghost use Rattle.shm_script.specs.Numbers.{is_numeral, leads_well};
-ghost use Rattle.shm_program.specs.Words.{AreMedics, IsCount, JobFits, NamesCommand, asked, audit_command, audit_in, count_of, is_true, job_by, job_of, make_command, make_in, make_of, may_wait, medics_of, migrate_command, migrate_in, name_of, number_in, poll_command, poll_in, poll_of, read_by, replay_command, replay_in, replay_of, rows_in, run_command, run_in, run_of, tree_command, tree_in};
+ghost use Rattle.shm_program.specs.Words.{AreMedics, IsCount, JobFits, NamesCommand, asked, count_of, is_true, job_by, job_of, make_command, make_in, make_of, may_wait, medics_of, name_of, number_in, only, poll_command, poll_in, poll_of, read_by, replay_command, replay_in, replay_of, rows_in, run_command, run_in, run_of};
 
 use clap::error::ErrorKind;
 use clap::{Arg, ArgAction, ArgMatches, Command};
@@ -116,11 +116,11 @@ fn job_by(alloc: Global, name: Name, words: &[String]) -> Result<Option<Job>, Al
     match name {
         Name::Replay => replay_job(alloc, words),
         Name::Run => run_job(alloc, words),
-        Name::Audit => audit_job(alloc, words),
+        Name::Audit => bare_job(Command::new(alloc, "audit"), Job::Audit, words),
         Name::Make => make_job(alloc, words),
-        Name::Migrate => migrate_job(alloc, words),
+        Name::Migrate => bare_job(Command::new(alloc, "migrate"), Job::Migrate, words),
         Name::Poll => poll_job(alloc, words),
-        Name::Tree => tree_job(alloc, words),
+        Name::Tree => bare_job(Command::new(alloc, "tree"), Job::Tree, words),
     }
 }
 
@@ -214,26 +214,19 @@ fn medics_of(number: Option<u64>) -> Option<u8>
     Some(number as u8)
 }
 
-/// What the words of `audit` ask for.
-fn audit_job(alloc: Global, words: &[String]) -> Result<Option<Job>, AllocError>
-    ensures job { IfOk result (λ job. job ≡ asked audit_command audit_in (map string_bytes words.now)) }
-    ensures fits { IfOk result (λ job. IfSome job JobFits) }
+/// What the words of a command ask for that takes no further ones.
+fn bare_job<'a>(
+    command: Command<'a>,
+    job: Job,
+    words: &'a [String],
+) -> Result<Option<Job>, AllocError>
+    requires free { is_simple_and_free (app_of command) ≡ true }
+    requires fits { JobFits job }
+    ensures job { IfOk result (λ asks. asks ≡ asked (app_of command.entry) (only job) (map string_bytes words.entry.now)) }
+    ensures fits { IfOk result (λ asks. IfSome asks JobFits) }
 {
-    let command = Command::new(alloc, "audit");
     match read(command, words)? {
-        Some(_) => Ok(Some(Job::Audit)),
-        None => Ok(None),
-    }
-}
-
-/// What the words of `migrate` ask for.
-fn migrate_job(alloc: Global, words: &[String]) -> Result<Option<Job>, AllocError>
-    ensures job { IfOk result (λ job. job ≡ asked migrate_command migrate_in (map string_bytes words.now)) }
-    ensures fits { IfOk result (λ job. IfSome job JobFits) }
-{
-    let command = Command::new(alloc, "migrate");
-    match read(command, words)? {
-        Some(_) => Ok(Some(Job::Migrate)),
+        Some(_) => Ok(Some(job)),
         None => Ok(None),
     }
 }
@@ -337,18 +330,6 @@ fn count_of(number: Option<u64>) -> Option<u32>
         return None;
     }
     Some(number as u32)
-}
-
-/// What the words of `tree` ask for.
-fn tree_job(alloc: Global, words: &[String]) -> Result<Option<Job>, AllocError>
-    ensures job { IfOk result (λ job. job ≡ asked tree_command tree_in (map string_bytes words.now)) }
-    ensures fits { IfOk result (λ job. IfSome job JobFits) }
-{
-    let command = Command::new(alloc, "tree");
-    match read(command, words)? {
-        Some(_) => Ok(Some(Job::Tree)),
-        None => Ok(None),
-    }
 }
 
 /// What the command reads in the words, and nothing where it refuses them.
