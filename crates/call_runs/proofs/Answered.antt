@@ -1,31 +1,17 @@
 -- what is known after the answer of a call
 use Rattle.std.proofs.Common.{◌≡◌, ◌≢◌, ℕ, Bool, true, false, Option, None, Some, Result, Ok, Err, List, refl, sym, ap, ◌∙◌}
-use Rattle.std.specs.Prelude.{IfSome, IfOk, IfErr, slice_index}
-use Rattle.std.specs.List.{Contains}
-use Rattle.std.specs.Option.{is_some}
 use Rattle.std.proofs.lemmas.Bool.{true≢false}
-use Rattle.shm_graph.specs.declared.memo.Memo.{Memo}
-use Rattle.shm_graph.specs.Agents.{recovers}
-use Rattle.shm_graph.specs.Core.{core}
-use Rattle.shm_graph.specs.Held.{is_loose}
-use Rattle.shm_graph.specs.Reach.{is_reached}
-use Rattle.shm_plain.specs.Calls.{IsAtWork, Ran}
-use Rattle.shm_plain.specs.Pools.{Pool, memo_of}
+use Rattle.std.specs.{Prelude.{IfSome, IfOk, IfErr, slice_index}, List.Contains, Option.is_some}
+use Rattle.shm_graph.specs.{declared.memo.Memo.Memo, Agents.recovers, Core.core, Held.is_loose, Reach.is_reached}
+use Rattle.shm_plain.specs.{Calls.{IsAtWork, Ran}, Pools.{Pool, memo_of}}
 use Rattle.shm_plain.proofs.Calling.{still_kind}
-use Rattle.shm_count.specs.declared.answer.EraSpent.{EraSpent}
-use Rattle.shm_count.specs.declared.answer.Made.{Made}
-use Rattle.shm_count.specs.Waiting.{LeavesQueues, LeavesWaiting}
+use Rattle.shm_count.specs.{declared.answer.{EraSpent.EraSpent, Made.Made}, Waiting.{LeavesQueues, LeavesWaiting}}
 use Rattle.shm_count.proofs.Waiting.{core_waits}
 use Rattle.shm_words.specs.declared.geometry.Geometry.{Geometry}
-use Rattle.shm_alloc.specs.declared.alloc.AllocFault.{AllocFault}
-use Rattle.shm_alloc.specs.declared.point.AllocState.{AllocState}
-use Rattle.shm_alloc.specs.Alloc.{AllocGives}
-use Rattle.shm_queue.specs.declared.answer.PeekFault.{PeekFault}
+use Rattle.shm_alloc.specs.{declared.{alloc.AllocFault.AllocFault, point.AllocState.AllocState}, Alloc.AllocGives}
+use Rattle.shm_queue.specs.{declared.answer.PeekFault.PeekFault, Keeping.IsLeft}
 use Rattle.shm_queue.specs.declared.answer.PeekFault.TheVariants as peek
-use Rattle.shm_queue.specs.Keeping.{IsLeft}
-use Rattle.shm_ref.specs.declared.answer.Busy.{Busy}
-use Rattle.shm_ref.specs.declared.answer.NotHeld.{NotHeld}
-use Rattle.shm_ref.specs.OnlyRead.{OnlyRead}
+use Rattle.shm_ref.specs.{declared.answer.{Busy.Busy, NotHeld.NotHeld}, OnlyRead.OnlyRead}
 use Rattle.plain_calls.specs.Allocating.{IsAsked}
 use Rattle.plain_calls.proofs.Running.{Said}
 use Rattle.table_calls.specs.Running.{IsOpen}

@@ -1,16 +1,11 @@
 -- what stays known of an identity after a call
 use Rattle.std.proofs.Common.{◌≡◌, ◌≢◌, ℕ, Bool, true, false, Option, Some, IfSome, refl, sym, ap, ◌∙◌}
-use Rattle.std.specs.List.{Contains}
-use Rattle.std.specs.Option.{is_some}
 use Rattle.std.proofs.lemmas.Bool.{true≢false}
-use Rattle.shm_graph.specs.Agents.{recovers}
-use Rattle.shm_graph.specs.Held.{is_loose}
-use Rattle.shm_graph.specs.Reach.{is_reached}
-use Rattle.shm_plain.specs.Calls.{IsAtWork, Ran}
-use Rattle.shm_plain.specs.Pools.{Pool, memo_of}
+use Rattle.std.specs.{List.Contains, Option.is_some}
+use Rattle.shm_graph.specs.{Agents.recovers, Held.is_loose, Reach.is_reached}
+use Rattle.shm_plain.specs.{Calls.{IsAtWork, Ran}, Pools.{Pool, memo_of}}
 use Rattle.shm_count.specs.Waiting.{IsQuiet, LeavesWaiting}
-use Rattle.call_runs.specs.declared.standing.Known.{Known}
-use Rattle.call_runs.specs.Known.{After, IsKnown, bare, kept, released, unsettled}
+use Rattle.call_runs.specs.{declared.standing.Known.Known, Known.{After, IsKnown, bare, kept, released, unsettled}}
 
 module _ (k : Known) (c : ℕ) (p q : Pool) (h : IsKnown k c p) (work : IsAtWork c q) (kind : recovers (memo_of q c) ≡ recovers (memo_of p c)) (loose : is_loose (memo_of q c).part ≡ is_loose (memo_of p c).part) where
   quiet_by : LeavesWaiting (memo_of p c) (memo_of q c) → IsQuiet (memo_of p c) → IsQuiet (memo_of q c)

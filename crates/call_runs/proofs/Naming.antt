@@ -1,14 +1,10 @@
 -- what a root names, as the words of a pool say it
-use Rattle.std.proofs.Common.{◌≡◌, ℕ, ◌<◌, refl, ◌∙◌}
+use Rattle.std.proofs.{Common.{◌≡◌, ℕ, ◌<◌, refl, ◌∙◌}, lemmas.Bool.{and_from, eq-eqb, lt-ltb}}
 use Rattle.std.specs.Prelude.{slice_index}
-use Rattle.std.proofs.lemmas.Bool.{and_from, eq-eqb, lt-ltb}
-use Rattle.shm_words.specs.declared.place.Place.TheVariants as place
 use Rattle.shm_words.specs.Layout.{address, total_of}
-use Rattle.shm_graph.specs.declared.spot.Spot.TheVariants.{Root}
-use Rattle.shm_graph.specs.Spots.{IsAt, classes_in, spot_address}
-use Rattle.shm_graph.proofs.Spots.Fixed.{fixed_is_at}
-use Rattle.shm_graph.proofs.Spots.Seeing.{see_there}
-use Rattle.shm_graph.proofs.Spots.Spotting.{at_below}
+use Rattle.shm_words.specs.declared.place.Place.TheVariants as place
+use Rattle.shm_graph.specs.{declared.spot.Spot.TheVariants.Root, Spots.{IsAt, classes_in, spot_address}}
+use Rattle.shm_graph.proofs.Spots.{Fixed.fixed_is_at, Seeing.see_there, Spotting.at_below}
 use Rattle.shm_plain.specs.Pools.{Pool, IsRun, memo_of}
 use Rattle.shm_count.specs.Roots.{root_word}
 

@@ -1,20 +1,13 @@
 -- how the identities of a pool stand, and how that stays so
 use Rattle.std.proofs.Common.{◌≡◌, ◌≢◌, ℕ, ◌<◌, Bool, true, false, Option, Some, None, IfSome, refl, sym, ap, ◌∙◌, subst, inl, inr}
-use Rattle.std.specs.Prelude.{if◌then◌else◌, nat_le}
 use Rattle.std.proofs.lemmas.Bool.{cases_eq, eq-eqb, leb-false, ne_eqb, true≢false}
+use Rattle.std.specs.Prelude.{if◌then◌else◌, nat_le}
 use Rattle.shm_words.specs.Layout.{GeometryFits}
-use Rattle.shm_graph.specs.declared.memo.Memo.{Memo}
-use Rattle.shm_graph.specs.declared.run.Start.{Start}
-use Rattle.shm_graph.specs.Agents.{acts, last_agent, recovers}
-use Rattle.shm_graph.specs.Held.{is_loose}
-use Rattle.shm_graph.specs.Idle.{IsIdle}
-use Rattle.shm_graph.specs.Runs.{fell_by, first_memo}
-use Rattle.shm_plain.specs.Calls.{IsAtWork}
-use Rattle.shm_plain.specs.Pools.{Pool, memo_of}
+use Rattle.shm_graph.specs.{declared.{memo.Memo.Memo, run.Start.Start}, Agents.{acts, last_agent, recovers}}
+use Rattle.shm_graph.specs.{Held.is_loose, Idle.IsIdle, Runs.{fell_by, first_memo}}
+use Rattle.shm_plain.specs.{Calls.IsAtWork, Pools.{Pool, memo_of}}
 use Rattle.plain_calls.specs.Clear.{IsClear}
-use Rattle.call_runs.specs.declared.standing.Known.{Known}
-use Rattle.call_runs.specs.declared.standing.Standing.{Standing}
-use Rattle.call_runs.specs.declared.standing.Standing.TheVariants.{New, Works, Fallen, Lost}
+use Rattle.call_runs.specs.declared.standing.{Known.Known, Standing.{Standing, TheVariants.{New, Works, Fallen, Lost}}}
 use Rattle.call_runs.specs.Known.{After, IsKnown, IsSo, Stand, begun, joined_known, pick, placed_first, placed_second, stood}
 
 module _ (d : ℕ) (p q : Pool) (start : q.start ≡ p.start) (same : memo_of q d ≡ memo_of p d) where

@@ -1,23 +1,13 @@
 -- what is known of the identities of a pool between two calls
 use Rattle.std.specs.Prelude.{◌≡◌, ◌≢◌, ℕ, ◌<◌, Bool, ◌==◌, ◌||◌, if◌then◌else◌, nat_le, false, true, Option, None, Some, Result, Ok, Err, IfSome}
-use Rattle.std.specs.List.{Contains}
-use Rattle.std.specs.Option.{is_some}
+use Rattle.std.specs.{List.Contains, Option.is_some}
 use Rattle.shm_words.specs.Layout.{GeometryFits}
-use Rattle.shm_graph.specs.Agents.{last_agent, recovers}
-use Rattle.shm_graph.specs.Held.{is_loose}
-use Rattle.shm_graph.specs.Reach.{is_reached}
-use Rattle.shm_graph.specs.Runs.{fell_by, first_memo}
-use Rattle.shm_plain.specs.Calls.{IsAtWork}
-use Rattle.shm_plain.specs.Pools.{Pool, memo_of}
-use Rattle.shm_count.specs.declared.answer.Made.{Made}
-use Rattle.shm_queue.specs.declared.answer.PeekFault.{PeekFault}
-use Rattle.shm_queue.specs.declared.answer.PeekFault.TheVariants.{Empty, EraSpent, RootsFull, CountFull}
-use Rattle.shm_ref.specs.declared.answer.Busy.{Busy}
-use Rattle.shm_ref.specs.declared.answer.NotHeld.{NotHeld}
-use Rattle.shm_count.specs.Waiting.{IsQuiet}
-use Rattle.call_runs.specs.declared.standing.Known.{Known}
-use Rattle.call_runs.specs.declared.standing.Standing.{Standing}
-use Rattle.call_runs.specs.declared.standing.Standing.TheVariants.{New, Works, Fallen, Lost}
+use Rattle.shm_graph.specs.{Agents.{last_agent, recovers}, Held.is_loose, Reach.is_reached, Runs.{fell_by, first_memo}}
+use Rattle.shm_plain.specs.{Calls.IsAtWork, Pools.{Pool, memo_of}}
+use Rattle.shm_count.specs.{declared.answer.Made.Made, Waiting.IsQuiet}
+use Rattle.shm_queue.specs.declared.answer.PeekFault.{PeekFault, TheVariants.{Empty, EraSpent, RootsFull, CountFull}}
+use Rattle.shm_ref.specs.declared.answer.{Busy.Busy, NotHeld.NotHeld}
+use Rattle.call_runs.specs.declared.standing.{Known.Known, Standing.{Standing, TheVariants.{New, Works, Fallen, Lost}}}
 
 -- ---- after a call
 

@@ -1,7 +1,5 @@
 -- what rows have made
-use Rattle.call_runs.specs.declared.Stage.{Stage}
-use Rattle.call_runs.specs.declared.Stage.TheVariants.{Nothing, Open, Closed}
-use Rattle.call_runs.specs.Known.{Stand}
+use Rattle.call_runs.specs.{declared.Stage.{Stage, TheVariants.{Nothing, Open, Closed}}, Known.Stand}
 
 -- how the identities of an open pool stand is known
 abbrev pub IsStage : Stage → Type 0

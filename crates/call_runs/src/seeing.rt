@@ -2,8 +2,7 @@
 
 ghost use Rattle.std.specs.Prelude.{◌≡◌, ◌≢◌, ◌<◌, true, IfOk};
 ghost use Rattle.shm_graph.specs.Reach.{is_reached};
-ghost use Rattle.shm_plain.specs.Calls.{IsAtWork};
-ghost use Rattle.shm_plain.specs.Pools.{memo_of};
+ghost use Rattle.shm_plain.specs.{Calls.IsAtWork, Pools.memo_of};
 ghost use Rattle.shm_count.specs.Roots.{root_word};
 ghost use Rattle.call_runs.specs.Known.{IsKnown};
 

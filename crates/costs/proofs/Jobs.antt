@@ -2,10 +2,8 @@
 use Rattle.std.proofs.Common.{◌≡◌, ℕ, zero, suc, ◌<◌, List, [], ◌∷◌, ◌++◌, length, true, sym, subst, arith}
 use Rattle.std.specs.Prelude.{slice_index_or}
 use Rattle.shm_pool.specs.Tokens.{Its, Token}
-use Rattle.pool_calls.specs.Clients.{AllFirst}
-use Rattle.pool_calls.specs.Tables.{IsFirst}
-use Rattle.costs.specs.declared.soak.Done.{Done}
-use Rattle.costs.specs.Soaking.{AllBack, IsBack}
+use Rattle.pool_calls.specs.{Clients.AllFirst, Tables.IsFirst}
+use Rattle.costs.specs.{declared.soak.Done.Done, Soaking.{AllBack, IsBack}}
 
 -- each of them may join
 pub each_first : (p : Its) (xs : List Token) → AllFirst p xs → p.start.tables ≡ true → (i : ℕ) (x : Token) → i < length xs → IsFirst p (slice_index_or xs i x)

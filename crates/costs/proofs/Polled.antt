@@ -1,18 +1,12 @@
 -- what is left of identities that are polled
 use Rattle.std.proofs.Common.{◌≡◌, ℕ, ◌<◌, ◌≤◌, ◌^◌, List, [], ◌∷◌, ◌++◌, length, take, drop, Option, Some, None, Ok, Err, true, refl, sym, ap, ◌∙◌, subst, arith, append_assoc, length-append}
 use Rattle.std.proofs.lemmas.List.{append-nil}
-use Rattle.shm_graph.specs.declared.ask.Life.{Life}
-use Rattle.shm_graph.specs.Runs.{first_account}
-use Rattle.shm_async.specs.Cancelled.{IsCancelled}
-use Rattle.shm_async.specs.Polled.{AtPost, Course, HasTurned, IsNew}
+use Rattle.shm_graph.specs.{declared.ask.Life.Life, Runs.first_account}
+use Rattle.shm_async.specs.{Cancelled.IsCancelled, Polled.{AtPost, Course, HasTurned, IsNew}}
 use Rattle.shm_async.specs.Rescued.{HasPolled, IsStarted, Rescue}
-use Rattle.shm_pool.specs.declared.token.Stopped.{Stopped}
-use Rattle.shm_pool.specs.Rescues.{Rescuing}
-use Rattle.shm_pool.specs.Tokens.{AllOf, Its, Token, token_first}
-use Rattle.shm_script.specs.Ranges.{ScriptFits}
-use Rattle.shm_script.specs.Values.{Scripted}
-use Rattle.shm_team.specs.declared.done.Finish.{Finish}
-use Rattle.shm_team.specs.Lefts.{IsGivenBack}
+use Rattle.shm_pool.specs.{declared.token.Stopped.Stopped, Rescues.Rescuing, Tokens.{AllOf, Its, Token, token_first}}
+use Rattle.shm_script.specs.{Ranges.ScriptFits, Values.Scripted}
+use Rattle.shm_team.specs.{declared.done.Finish.Finish, Lefts.IsGivenBack}
 use Rattle.costs.specs.Polling.{AllIn, HasGrown, IsForTables, PlaysIn, RecoversIn, owners}
 
 -- ---- clients

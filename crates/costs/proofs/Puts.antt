@@ -1,8 +1,7 @@
 -- puts of identity 0 of a pool in a vector, one after the other
 use Rattle.std.proofs.Common.{◌≡◌, ◌^◌, ◌<◌, ℕ, ◌∙◌}
 use Rattle.shm_graph.specs.Agents.{recovers}
-use Rattle.shm_plain.specs.Calls.{IsAtWork}
-use Rattle.shm_plain.specs.Pools.{Pool, memo_of}
+use Rattle.shm_plain.specs.{Calls.IsAtWork, Pools.{Pool, memo_of}}
 use Rattle.shm_count.specs.Roots.{member}
 use Rattle.shm_script.specs.declared.line.Line.TheVariants as line
 use Rattle.table_calls.specs.Running.{IsOpen, LeavesOpen, MayRun}

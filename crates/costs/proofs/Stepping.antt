@@ -1,16 +1,9 @@
 -- an agent still acts after a step, and what the identity's memo is before the first one
 use Rattle.std.proofs.Common.{◌≡◌, ◌≢◌, ℕ, zero, suc, ◌<◌, true, false, Bool, cond, List, refl, sym, ap, ◌∙◌, subst, arith, inl, inr}
+use Rattle.std.proofs.lemmas.{Bool.{cases_eq, true≢false}, List.get_or-set_same}
 use Rattle.std.specs.Prelude.{Option, Some, None}
-use Rattle.std.proofs.lemmas.Bool.{cases_eq, true≢false}
-use Rattle.std.proofs.lemmas.List.{get_or-set_same}
-use Rattle.shm_graph.specs.declared.memo.Memo.{Memo}
-use Rattle.shm_graph.specs.declared.memo.Step.{Step}
-use Rattle.shm_graph.specs.declared.memo.Status.TheVariants.{Gone}
-use Rattle.shm_graph.specs.declared.run.Account.{Account}
-use Rattle.shm_graph.specs.declared.run.Start.{Start}
-use Rattle.shm_graph.specs.Agents.{acts}
-use Rattle.shm_graph.specs.declared.ask.Turn.{Turn}
-use Rattle.shm_graph.specs.declared.ask.Turn.TheVariants.{More}
+use Rattle.shm_graph.specs.declared.{memo.{Memo.Memo, Step.Step, Status.TheVariants.Gone}, run.Account.Account}
+use Rattle.shm_graph.specs.{declared.{run.Start.Start, ask.Turn.{Turn, TheVariants.More}}, Agents.acts}
 use Rattle.shm_graph.specs.Laws.{Control, Steady, is_died, is_some, turn_of}
 use Rattle.shm_graph.specs.Runs.{account_at, account_entered, accounts_from, changed, first_account}
 use Rattle.shm_graph.proofs.Runs.Going.{Is, acts-step, acts-answer, account-step}

@@ -2,10 +2,8 @@
 use Rattle.std.specs.Prelude.{◌≡◌, ℕ, ◌<◌, false}
 use Rattle.shm_words.specs.Layout.{GeometryFits, address_limit}
 use Rattle.shm_graph.specs.declared.ask.Me.{Me}
-use Rattle.shm_count.specs.Step.Machines.{down_control}
-use Rattle.shm_count.specs.Tear.Control.{tear_control}
-use Rattle.costs.specs.declared.leaving.flat.FlatPoint.{FlatPoint}
-use Rattle.costs.specs.declared.leaving.flat.FlatPoint.TheVariants.{Down, Tear}
+use Rattle.shm_count.specs.{Step.Machines.down_control, Tear.Control.tear_control}
+use Rattle.costs.specs.declared.leaving.flat.FlatPoint.{FlatPoint, TheVariants.{Down, Tear}}
 
 -- the part that it is at isn't finished
 abbrev pub PointRuns : FlatPoint → Type 0

@@ -1,10 +1,8 @@
 -- identities that are polled
 use Rattle.std.specs.Prelude.{◌≡◌, ◌<◌, ◌^◌, List, [], ◌∷◌, ◌++◌, true, Option, Some, None, MatchOption}
 use Rattle.shm_async.specs.Polled.{AtPost}
-use Rattle.shm_pool.specs.Rescues.{Rescuing}
-use Rattle.shm_pool.specs.Tokens.{Its, Token}
-use Rattle.costs.specs.declared.polls.seats.Player.{Player}
-use Rattle.costs.specs.declared.polls.seats.Player.TheVariants.{Plays, Recovers, Rests}
+use Rattle.shm_pool.specs.{Rescues.Rescuing, Tokens.{Its, Token}}
+use Rattle.costs.specs.declared.polls.seats.Player.{Player, TheVariants.{Plays, Recovers, Rests}}
 
 -- agents are at their post in the pool p
 abbrev pub PlaysIn : Its → Option AtPost → Type 0

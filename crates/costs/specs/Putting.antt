@@ -1,9 +1,7 @@
 -- a pool in a vector whose identity 0 may put whenever its last call is over
 use Rattle.std.specs.Prelude.{◌≡◌, false, None}
-use Rattle.shm_graph.specs.Agents.{recovers}
-use Rattle.shm_graph.specs.Held.{is_loose}
-use Rattle.shm_plain.specs.Calls.{IsAtWork}
-use Rattle.shm_plain.specs.Pools.{Pool, memo_of}
+use Rattle.shm_graph.specs.{Agents.recovers, Held.is_loose}
+use Rattle.shm_plain.specs.{Calls.IsAtWork, Pools.{Pool, memo_of}}
 
 -- identity 0 is between two calls and a client, in a pool for tables, with no latch
 pub record IsPutter (p : Pool) : Type 0 where

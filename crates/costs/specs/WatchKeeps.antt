@@ -1,23 +1,13 @@
 -- the laws of a watch
 use Rattle.std.proofs.Common.{◌≡◌, ℕ, ◌-◌, refl, sym, ◌∙◌, arith, subst, Bool, true, false, cond, eqb, inl, inr, [], ◌∷◌, ◌++◌}
+use Rattle.std.proofs.lemmas.Bool.{cases_eq, eq-eqb, ne_eqb, true≢false, Decides.nat_tests}
 use Rattle.std.specs.Prelude.{Some, None}
-use Rattle.std.proofs.lemmas.Bool.{cases_eq, eq-eqb, ne_eqb, true≢false}
-use Rattle.std.proofs.lemmas.Bool.Decides.{nat_tests}
-use Rattle.shm_words.specs.declared.place.Place.TheVariants as place
 use Rattle.shm_words.specs.Layout.{address}
-use Rattle.shm_graph.specs.declared.ask.Ask.TheVariants.{Load}
-use Rattle.shm_graph.specs.declared.ask.Me.{Me}
-use Rattle.shm_graph.specs.declared.spot.Spot.TheVariants.{Status}
-use Rattle.shm_graph.specs.declared.memo.Memo.{Memo}
-use Rattle.shm_graph.specs.declared.memo.Step.{Step}
-use Rattle.shm_graph.specs.Spots.{spot_at}
-use Rattle.shm_graph.specs.Blocks.{classes}
-use Rattle.shm_graph.specs.Asks.{Trail, pair}
-use Rattle.shm_graph.specs.Changes.{called, with_end}
-use Rattle.shm_graph.specs.Laws.{Laws, Keeps, Then, Outcome, framed, is_some}
-use Rattle.shm_graph.proofs.Spots.Spotting.{in_pool}
-use Rattle.shm_graph.proofs.Spots.SpotPlaces.{spot-place}
-use Rattle.shm_graph.proofs.StepKinds.LoadKeeping.{load_kept}
+use Rattle.shm_words.specs.declared.place.Place.TheVariants as place
+use Rattle.shm_graph.specs.declared.{ask.{Ask.TheVariants.Load, Me.Me}, spot.Spot.TheVariants.Status, memo.Memo.Memo}
+use Rattle.shm_graph.specs.{declared.memo.Step.Step, Spots.spot_at, Blocks.classes, Asks.{Trail, pair}}
+use Rattle.shm_graph.specs.{Changes.{called, with_end}, Laws.{Laws, Keeps, Then, Outcome, framed, is_some}}
+use Rattle.shm_graph.proofs.{Spots.{Spotting.in_pool, SpotPlaces.spot-place}, StepKinds.LoadKeeping.load_kept}
 use Rattle.shm_recover.specs.Join.{IsMember}
 use Rattle.costs.specs.declared.watch.WatchState.{WatchState}
 use Rattle.costs.specs.Watching.{watch_control, watch_ask, IsCalm, WatchFits, WatchGives}

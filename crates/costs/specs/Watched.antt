@@ -1,13 +1,11 @@
 -- when a watch may take a step
 use Rattle.std.specs.Prelude.{◌≡◌, ℕ, ◌<◌, true}
-use Rattle.shm_graph.specs.Asks.{at_of}
-use Rattle.shm_graph.specs.Agents.{acts}
+use Rattle.shm_graph.specs.{Asks.at_of, Agents.acts}
 use Rattle.shm_graph.specs.declared.memo.Status.TheVariants as status
 use Rattle.shm_plain.specs.Pools.{Pool, IsOf, IsRun, memo_of}
 use Rattle.shm_pool.specs.Tokens.{Acting}
 use Rattle.shm_recover.specs.Join.{IsMember}
-use Rattle.costs.specs.declared.watch.WatchState.{WatchState}
-use Rattle.costs.specs.Watching.{watch_control, watch_ask}
+use Rattle.costs.specs.{declared.watch.WatchState.WatchState, Watching.{watch_control, watch_ask}}
 
 -- through a pool: it is identity 0's, it isn't finished, and an agent of it acts
 pub record IsWatched (p : Pool) (m : WatchState) : Type 0 where

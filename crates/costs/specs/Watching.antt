@@ -1,12 +1,8 @@
 -- watching: the control of a watch, and what it leaves
 use Rattle.std.specs.Prelude.{◌≡◌, ℕ, ◌-◌, Bool, true, false, ◌==◌, if◌then◌else◌, Option, Some, None, []}
-use Rattle.shm_words.specs.declared.place.Place.TheVariants as place
 use Rattle.shm_words.specs.Layout.{address}
-use Rattle.shm_graph.specs.declared.ask.Ask.{Ask}
-use Rattle.shm_graph.specs.declared.ask.Ask.TheVariants.{Load}
-use Rattle.shm_graph.specs.declared.ask.Me.{Me}
-use Rattle.shm_graph.specs.declared.memo.Memo.{Memo}
-use Rattle.shm_graph.specs.Asks.{Trail}
+use Rattle.shm_words.specs.declared.place.Place.TheVariants as place
+use Rattle.shm_graph.specs.{declared.{ask.{Ask.{Ask, TheVariants.Load}, Me.Me}, memo.Memo.Memo}, Asks.Trail}
 use Rattle.shm_graph.specs.Laws.{Control}
 use Rattle.shm_recover.specs.Join.{IsMember}
 use Rattle.costs.specs.declared.watch.WatchState.{WatchState}

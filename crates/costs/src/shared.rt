@@ -7,8 +7,7 @@ ghost use Rattle.std.specs.Prelude.{◌≡◌, ◌<◌, true, false, IfOk, IfSom
 ghost use Rattle.shm_words.specs.Layout.{GeometryFits};
 ghost use Rattle.shm_graph.specs.Asks.{at_of};
 ghost use Rattle.shm_pool.specs.Tokens.{AllOf};
-ghost use Rattle.costs.specs.Watching.{watch_ask};
-ghost use Rattle.costs.specs.Watched.{IsReady, IsWatchedOn};
+ghost use Rattle.costs.specs.{Watching.watch_ask, Watched.{IsReady, IsWatchedOn}};
 
 use crate::times::{Least, nanos};
 use crate::watch::Watch;

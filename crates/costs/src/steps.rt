@@ -6,11 +6,9 @@
 
 ghost use Rattle.std.specs.Prelude.{◌≡◌, ◌<◌, true, slice_index, IfOk, vec_len};
 ghost use Rattle.shm_words.specs.Layout.{GeometryFits};
-ghost use Rattle.shm_graph.specs.Asks.{at_of, seen_of, words_set};
-ghost use Rattle.shm_graph.specs.Agents.{acts};
+ghost use Rattle.shm_graph.specs.{Asks.{at_of, seen_of, words_set}, Agents.acts};
 ghost use Rattle.shm_plain.specs.Pools.{memo_of};
-ghost use Rattle.costs.specs.Watching.{watch_ask};
-ghost use Rattle.costs.specs.Watched.{IsWatched, IsWatchedOn};
+ghost use Rattle.costs.specs.{Watching.watch_ask, Watched.{IsWatched, IsWatchedOn}};
 
 use crate::times::{Least, nanos};
 use crate::watch::Watch;

@@ -2,8 +2,7 @@
 
 ghost use Rattle.std.specs.Prelude.{◌≡◌, ℕ, ◌-◌, ◌<◌, [], Option, Some};
 ghost use Rattle.shm_words.specs.Layout.{GeometryFits};
-ghost use Rattle.costs.specs.Watching.{watch_control, watch_fresh, WatchFits, WatchGives};
-ghost use Rattle.costs.specs.WatchKeeps.{watch_laws};
+ghost use Rattle.costs.specs.{Watching.{watch_control, watch_fresh, WatchFits, WatchGives}, WatchKeeps.watch_laws};
 
 use shm_graph::{Ask, Machine, Me, Turn};
 use std::marker::Model;

@@ -1,8 +1,6 @@
 -- the last one of a list
 use Rattle.std.proofs.Common.{◌≡◌, List, [], ◌∷◌, ◌++◌, append-nil, subst}
-use Rattle.std.specs.Prelude.{Option, Some, None, IfSome}
-use Rattle.std.specs.List.{AllByRecursion}
-use Rattle.std.specs.Option.{option_to_list}
+use Rattle.std.specs.{Prelude.{Option, Some, None, IfSome}, List.AllByRecursion, Option.option_to_list}
 use Rattle.shm_pool.specs.Tokens.{Its, Token, AllOf}
 use Rattle.shm_pool.proofs.Ends.{of_front, of_last}
 use Rattle.shm_morgue.proofs.Gathering.{by_front, by_last}

@@ -1,7 +1,6 @@
 //! Corpses that go through a morgue, and corpses that find no room.
 
-ghost use Rattle.std.specs.Prelude.{◌≡◌, IfSome};
-ghost use Rattle.std.specs.List.{AllByRecursion, Contains};
+ghost use Rattle.std.specs.{Prelude.{◌≡◌, IfSome}, List.{AllByRecursion, Contains}};
 ghost use Rattle.shm_pool.specs.Tokens.{AllOf};
 ghost use Rattle.shm_morgue.specs.Entries.{Puts as APorter};
 

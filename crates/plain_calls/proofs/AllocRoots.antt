@@ -1,27 +1,16 @@
 -- what an allocation says of the roots of its identity
 use Rattle.std.proofs.Common.{◌≡◌, ◌≢◌, ℕ, ◌<◌, refl, sym, ap, ◌∙◌, subst, List, Result}
-use Rattle.std.specs.Prelude.{Ok, Err, IfOk, IfErr}
 use Rattle.std.proofs.lemmas.Bool.{cond-true, cond-false, eq-eqb, ne_eqb}
+use Rattle.std.specs.Prelude.{Ok, Err, IfOk, IfErr}
 use Rattle.shm_words.specs.declared.geometry.Geometry.{Geometry}
-use Rattle.shm_graph.specs.declared.ask.Me.{Me}
-use Rattle.shm_graph.specs.declared.memo.Memo.{Memo}
-use Rattle.shm_graph.specs.declared.memo.Stored.{Stored}
-use Rattle.shm_graph.specs.declared.run.Start.{Start}
+use Rattle.shm_graph.specs.{declared.{ask.Me.Me, memo.{Memo.Memo, Stored.Stored}, run.Start.Start}, Asks.Trail}
+use Rattle.shm_graph.specs.{Held.HeldAt, Runs.memos_of, Spots.see, Views.{own_word, view}}
 use Rattle.shm_graph.specs.declared.spot.Spot.TheVariants as spot
-use Rattle.shm_graph.specs.Asks.{Trail}
-use Rattle.shm_graph.specs.Held.{HeldAt}
-use Rattle.shm_graph.specs.Runs.{memos_of}
-use Rattle.shm_graph.specs.Spots.{see}
-use Rattle.shm_graph.specs.Views.{own_word, view}
 use Rattle.shm_plain.specs.Pools.{Pool, IsRun, memo_of}
-use Rattle.shm_count.specs.declared.answer.Made.{Made}
-use Rattle.shm_count.specs.Step.Control.{IsInside}
-use Rattle.shm_alloc.proofs.MadeBlocks.{block_inside}
-use Rattle.shm_alloc.proofs.MadeRoots.{made_word}
-use Rattle.shm_alloc.specs.declared.alloc.AllocFault.{AllocFault}
-use Rattle.shm_alloc.specs.declared.point.AllocState.{AllocState}
+use Rattle.shm_count.specs.{declared.answer.Made.Made, Step.Control.IsInside, Roots.{member, root_word}}
+use Rattle.shm_alloc.proofs.{MadeBlocks.block_inside, MadeRoots.made_word}
+use Rattle.shm_alloc.specs.declared.{alloc.AllocFault.AllocFault, point.AllocState.AllocState}
 use Rattle.shm_alloc.specs.Alloc.{AllocGives, MadeGives}
-use Rattle.shm_count.specs.Roots.{member, root_word}
 
 module _ (g : Geometry) (c : ℕ) (x : AllocState) (is : x.me ≡ member g c) (r0 r : Memo) (tr : Trail) where
   pub alloc_number : (a : Result Made AllocFault) → AllocGives x r0 r tr a → IfOk a (λ m. m.root < 16)

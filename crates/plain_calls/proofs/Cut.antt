@@ -1,17 +1,11 @@
 -- calls that are cut off: what stays on the way of the machine stays
 use Rattle.std.proofs.Common.{◌≡◌, ℕ, ◌<◌, Bool, true, false, cond, refl, ap, ◌∙◌, sym, subst, length}
-use Rattle.std.specs.Prelude.{Option, Some, None, IfSome}
-use Rattle.std.specs.Option.{is_some}
-use Rattle.shm_graph.specs.declared.memo.Memo.{Memo}
-use Rattle.shm_graph.specs.declared.run.Start.{Start}
-use Rattle.shm_graph.specs.Agents.{acts, entered}
-use Rattle.shm_graph.specs.Asks.{Trail, call_before}
-use Rattle.shm_graph.specs.Laws.{Control}
-use Rattle.shm_graph.specs.Whole.{fits_now}
+use Rattle.std.specs.{Prelude.{Option, Some, None, IfSome}, Option.is_some}
+use Rattle.shm_graph.specs.{declared.{memo.Memo.Memo, run.Start.Start}, Agents.{acts, entered}}
+use Rattle.shm_graph.specs.{Asks.{Trail, call_before}, Laws.Control, Whole.fits_now}
 use Rattle.shm_steps.specs.Reparting.{map_in}
 use Rattle.shm_count.specs.Steady.{SameTable}
-use Rattle.shm_plain.specs.Pools.{IsRun, Pool, memo_of, readied}
-use Rattle.shm_plain.specs.Tracks.{kind_next}
+use Rattle.shm_plain.specs.{Pools.{IsRun, Pool, memo_of, readied}, Tracks.kind_next}
 use Rattle.shm_plain.proofs.Turning.{ready_memo}
 
 -- the agent that begins finds the partition that is there

@@ -1,31 +1,18 @@
 -- calls on a pool of an identity whose agent is dead, by the recoverer that begins
 use Rattle.std.proofs.Common.{◌≡◌, ℕ, ◌<◌, Bool, true, false, cond, [], refl, sym, ap, ◌∙◌, subst, length}
-use Rattle.std.specs.Prelude.{Option, Some, None, IfSome}
-use Rattle.std.specs.Option.{is_some}
-use Rattle.std.proofs.lemmas.Bool.{true≢false}
-use Rattle.std.proofs.lemmas.List.{get_or-set_same}
-use Rattle.shm_graph.specs.declared.memo.Agent.{Agent}
-use Rattle.shm_graph.specs.declared.memo.Fate.{Fate}
-use Rattle.shm_graph.specs.declared.memo.Fate.TheVariants.{Acts, Ended, Died}
-use Rattle.shm_graph.specs.declared.memo.Kind.{Kind}
-use Rattle.shm_graph.specs.declared.memo.Kind.TheVariants.{Client, Recoverer}
-use Rattle.shm_graph.specs.declared.memo.Memo.{Memo}
-use Rattle.shm_graph.specs.Agents.{acts, acts_by, died, entered, is_acting, last_agent}
-use Rattle.shm_graph.specs.Asks.{Trail, call_before}
-use Rattle.shm_graph.specs.Events.{Event}
-use Rattle.shm_graph.specs.Laws.{Control}
-use Rattle.shm_graph.specs.declared.run.Account.{Account}
+use Rattle.std.proofs.lemmas.{Bool.true≢false, List.get_or-set_same}
+use Rattle.std.specs.{Prelude.{Option, Some, None, IfSome}, Option.is_some}
+use Rattle.shm_graph.specs.declared.memo.{Agent.Agent, Fate.{Fate, TheVariants.{Acts, Ended, Died}}, Kind.Kind}
+use Rattle.shm_graph.specs.declared.{memo.{Kind.TheVariants.{Client, Recoverer}, Memo.Memo}, run.Account.Account}
+use Rattle.shm_graph.specs.{Agents.{acts, acts_by, died, entered, is_acting, last_agent}, Asks.{Trail, call_before}}
+use Rattle.shm_graph.specs.{Events.Event, Laws.Control}
 use Rattle.shm_graph.specs.Runs.{MayBegin, account_died, changed, fell_by, is_dead, memos_of}
-use Rattle.shm_graph.specs.Tells.{Tells, happens_along}
-use Rattle.shm_graph.specs.Whole.{fits_now, gives_now}
-use Rattle.shm_graph.proofs.Memos.MemoSteps.{fell-died}
-use Rattle.shm_graph.proofs.Runs.Lists.{length-changed}
-use Rattle.shm_plain.specs.Pools.{Pool, IsRun, MayStep, after_fall, memo_of, readied}
-use Rattle.shm_steps.specs.Reparting.{map_in}
-use Rattle.shm_plain.specs.Calls.{Did, Ran}
+use Rattle.shm_graph.specs.{Tells.{Tells, happens_along}, Whole.{fits_now, gives_now}}
+use Rattle.shm_graph.proofs.{Memos.MemoSteps.fell-died, Runs.Lists.length-changed}
+use Rattle.shm_plain.specs.{Pools.{Pool, IsRun, MayStep, after_fall, memo_of, readied}, Calls.{Did, Ran}}
 use Rattle.shm_plain.specs.Tracks.{kind_next}
-use Rattle.shm_plain.proofs.Turning.{ready_memo}
-use Rattle.shm_plain.proofs.Called.{Called, ran_fresh}
+use Rattle.shm_plain.proofs.{Turning.ready_memo, Called.{Called, ran_fresh}}
+use Rattle.shm_steps.specs.Reparting.{map_in}
 
 -- an agent that is dead doesn't act
 fate_still : (f : Fate) → is_dead f ≡ true → is_acting f ≡ false

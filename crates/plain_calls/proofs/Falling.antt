@@ -1,27 +1,17 @@
 -- an identity whose agent dies, and the recoverer that begins then
 use Rattle.std.proofs.Common.{◌≡◌, ℕ, ◌<◌, refl, sym, ap, ◌∙◌, subst, true, cond, List, [], length}
-use Rattle.std.specs.Prelude.{Option, Some, None, IfSome}
 use Rattle.std.proofs.lemmas.List.{get_or-set_same}
-use Rattle.shm_graph.specs.declared.ask.Me.{Me}
-use Rattle.shm_graph.specs.declared.memo.Kind.{Kind}
-use Rattle.shm_graph.specs.declared.memo.Kind.TheVariants.{Client, Recoverer}
-use Rattle.shm_graph.specs.declared.memo.Memo.{Memo}
-use Rattle.shm_graph.specs.declared.run.Account.{Account}
-use Rattle.shm_graph.specs.Agents.{acts, died, entered}
-use Rattle.shm_graph.specs.Events.{Event}
+use Rattle.std.specs.Prelude.{Option, Some, None, IfSome}
+use Rattle.shm_graph.specs.declared.{ask.Me.Me, memo.{Kind.{Kind, TheVariants.{Client, Recoverer}}, Memo.Memo}}
+use Rattle.shm_graph.specs.{declared.run.Account.Account, Agents.{acts, died, entered}, Events.Event}
 use Rattle.shm_graph.specs.Runs.{MayBegin, account_died, changed, memos_of}
 use Rattle.shm_graph.proofs.Memos.MemoSteps.{acts-died, fell-died}
-use Rattle.shm_plain.specs.Pools.{MayStep, Pool, after_fall, memo_of, readied}
-use Rattle.shm_plain.specs.Tracks.{kind_next}
-use Rattle.shm_plain.specs.Calls.{Did}
-use Rattle.shm_plain.proofs.Turning.{ready_memo}
-use Rattle.shm_calls.specs.CallsControl.{calls_control, calls_does, calls_of}
-use Rattle.shm_calls.specs.CallsFit.{CallsFits, CallsGives}
+use Rattle.shm_plain.specs.{Pools.{MayStep, Pool, after_fall, memo_of, readied}, Tracks.kind_next, Calls.Did}
+use Rattle.shm_plain.proofs.{Turning.ready_memo, Called.Called}
+use Rattle.shm_calls.specs.{CallsControl.{calls_control, calls_does, calls_of}, CallsFit.{CallsFits, CallsGives}}
 use Rattle.shm_calls.specs.CallsKeep.{calls_begin, calls_tells}
-use Rattle.shm_recover.specs.Mend.Control.{mend_parts, mending}
-use Rattle.shm_recover.specs.Mend.{IsMended, MayMend, mend_plan}
+use Rattle.shm_recover.specs.Mend.{Control.{mend_parts, mending, mend_steered}, IsMended, MayMend, mend_plan}
 use Rattle.shm_recover.specs.Mend.Laws.{mend_begin, mend_laws}
-use Rattle.shm_plain.proofs.Called.{Called}
 
 module _ (p : Pool) (c : ℕ) (l : c < length p.accounts) (act : acts (memo_of p c) ≡ true) where
   abbrev d : Memo
@@ -50,11 +40,11 @@ module _ (p q : Pool) (c : ℕ) (me : Me) (x y : ℕ) where
   abbrev r0 : Memo
   r0 = memo_of (readied p c) c
 
-  pub fits_then : MayMend me r0 → CallsFits mend_parts mend_plan (calls_of mend_plan (mending me)) r0 r0 []
+  pub fits_then : MayMend me r0 → CallsFits mend_parts mend_plan (calls_of mend_steered (mending me)) r0 r0 []
   fits_then may = calls_begin mend_parts mend_plan mend_laws (mending me) r0 refl refl (mend_begin me r0 may)
 
   -- it is mended, and the events are those that the mending tells of
-  pub mend_answer : (o : Option (Unit {0})) → MayMend me r0 → Called (calls_control mend_parts mend_plan) (CallsFits mend_parts mend_plan) (CallsGives mend_parts mend_plan) c p (calls_of mend_plan (mending me)) q x y o
+  pub mend_answer : (o : Option (Unit {0})) → MayMend me r0 → Called (calls_control mend_parts mend_steered) (CallsFits mend_parts mend_plan) (CallsGives mend_parts mend_plan) c p (calls_of mend_steered (mending me)) q x y o
       → IfSome o (λ a. (es : List Event) × Did c p q es × IsMended me r0 (memo_of q c) (memo_of q c).call es)
   mend_answer None may call = tt
   mend_answer (Some a) may call =

@@ -2,25 +2,14 @@
 use Rattle.std.proofs.Common.{◌≡◌, ℕ, ◌+◌, ◌<◌, ◌&&◌, Bool, true, false, refl, sym, ap, ◌∙◌, subst, arith, inl, cond, length}
 use Rattle.std.proofs.lemmas.Bool.{eq-eqb}
 use Rattle.shm_words.specs.Layout.{GeometryFits}
-use Rattle.shm_graph.specs.declared.ask.Me.{Me}
-use Rattle.shm_graph.specs.declared.memo.Memo.{Memo}
-use Rattle.shm_graph.specs.declared.run.Account.{Account}
-use Rattle.shm_graph.specs.declared.run.Start.{Start}
-use Rattle.shm_graph.specs.declared.spot.Spot.TheVariants.{Era}
-use Rattle.shm_graph.specs.Views.{own_word}
-use Rattle.shm_graph.specs.Asks.{Trail, call_before}
-use Rattle.shm_graph.specs.Agents.{acts, entered, steps_made}
-use Rattle.shm_graph.specs.Runs.{MayBegin, first_account, first_memo}
-use Rattle.shm_graph.proofs.Memos.MemoSteps.{steps_entered}
-use Rattle.shm_graph.proofs.States.FirstHeld.{at-accounts_from, length-accounts_from}
-use Rattle.shm_recover.specs.declared.join.JoinPoint.{JoinPoint}
-use Rattle.shm_recover.specs.declared.join.JoinPoint.TheVariants.{Over, Start as Begun}
-use Rattle.shm_recover.specs.declared.join.JoinState.{JoinState}
-use Rattle.shm_recover.specs.Join.{JoinFits, is_over, is_start, join_fresh}
+use Rattle.shm_graph.specs.declared.{ask.Me.Me, memo.Memo.Memo, run.{Account.Account, Start.Start}}
+use Rattle.shm_graph.specs.{declared.spot.Spot.TheVariants.Era, Views.own_word, Asks.{Trail, call_before}}
+use Rattle.shm_graph.specs.{Agents.{acts, entered, steps_made}, Runs.{MayBegin, first_account, first_memo}}
+use Rattle.shm_graph.proofs.{Memos.MemoSteps.steps_entered, States.FirstHeld.{at-accounts_from, length-accounts_from}}
+use Rattle.shm_recover.specs.declared.join.JoinPoint.{JoinPoint, TheVariants.{Over, Start as Begun}}
+use Rattle.shm_recover.specs.{declared.join.JoinState.JoinState, Join.{JoinFits, is_over, is_start, join_fresh}}
 use Rattle.shm_recover.specs.Join.Keeps.{join_begins}
-use Rattle.shm_plain.specs.Calls.{Ran}
-use Rattle.shm_plain.specs.Pools.{Pool, first_pool, memo_of, readied, MayStep}
-use Rattle.shm_plain.specs.Tracks.{kind_next}
+use Rattle.shm_plain.specs.{Calls.Ran, Pools.{Pool, first_pool, memo_of, readied, MayStep}, Tracks.kind_next}
 use Rattle.shm_plain.proofs.Turning.{ready_memo}
 
 pub memo_first : (s : Start) (c : ℕ) → c < s.geometry.clients → memo_of (first_pool s) c ≡ first_memo s c

@@ -1,13 +1,8 @@
 -- a join is no event
-use Rattle.std.proofs.Common.{◌≡◌, ℕ, [], ◌∷◌, refl, ap}
-use Rattle.std.proofs.lemmas.Bool.{lt-ltb}
+use Rattle.std.proofs.{Common.{◌≡◌, ℕ, [], ◌∷◌, refl, ap}, lemmas.Bool.lt-ltb}
 use Rattle.shm_words.specs.declared.place.Place.TheVariants as place
-use Rattle.shm_graph.specs.declared.spot.Spot.{Spot}
-use Rattle.shm_graph.specs.Asks.{Trail}
-use Rattle.shm_graph.specs.Blocks.{classes}
-use Rattle.shm_graph.specs.Events.{Event, Nothing}
-use Rattle.shm_graph.specs.Laws.{Control, event_on, framed}
-use Rattle.shm_graph.specs.Tells.{Tells, happens_along}
+use Rattle.shm_graph.specs.{declared.spot.Spot.Spot, Asks.Trail, Blocks.classes, Events.{Event, Nothing}}
+use Rattle.shm_graph.specs.{Laws.{Control, event_on, framed}, Tells.{Tells, happens_along}}
 use Rattle.shm_graph.proofs.Spots.SpotPlaces.{spot-place}
 use Rattle.shm_recover.specs.Join.{JoinFits, join_control}
 

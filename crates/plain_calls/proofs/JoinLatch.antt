@@ -2,17 +2,12 @@
 use Rattle.std.proofs.Common.{◌≡◌, ℕ, ◌<◌, false, ap, ◌∙◌}
 use Rattle.std.specs.Prelude.{None}
 use Rattle.shm_words.specs.declared.geometry.Geometry.{Geometry}
-use Rattle.shm_graph.specs.declared.ask.Me.{Me}
-use Rattle.shm_graph.specs.declared.memo.Memo.{Memo}
-use Rattle.shm_graph.specs.declared.run.Start.{Start}
-use Rattle.shm_graph.specs.Asks.{Trail}
-use Rattle.shm_graph.specs.Runs.{first_memo}
+use Rattle.shm_graph.specs.{declared.{ask.Me.Me, memo.Memo.Memo, run.Start.Start}, Asks.Trail, Runs.first_memo}
 use Rattle.shm_plain.specs.Pools.{Pool, IsRun, memo_of, readied}
 use Rattle.shm_recover.specs.Join.{JoinGives, join_fresh}
 use Rattle.shm_count.specs.Roots.{member}
 use Rattle.plain_calls.specs.Clear.{IsClear}
-use Rattle.plain_calls.proofs.Passing.{ready_new}
-use Rattle.plain_calls.proofs.QueueReady.{clear_join}
+use Rattle.plain_calls.proofs.{Passing.ready_new, QueueReady.clear_join}
 
 -- it holds none
 pub none_joining : (me : Me) (s : Start) (c : ℕ) (p : Pool) (m : Memo) (tr : Trail) → IsRun p → c < p.start.geometry.clients → memo_of p c ≡ first_memo s c → JoinGives (join_fresh me) (memo_of (readied p c) c) m tr tt → m.latch ≡ None

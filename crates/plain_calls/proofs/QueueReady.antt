@@ -1,15 +1,9 @@
 -- identities that have just joined have nothing to finish; and the first two differ
-use Rattle.std.proofs.Common.{◌≡◌, ◌≢◌, ℕ, Bool, false, sym, ap, ◌∙◌, subst}
+use Rattle.std.proofs.{Common.{◌≡◌, ◌≢◌, ℕ, Bool, false, sym, ap, ◌∙◌, subst}, lemmas.Bool.true≢false}
 use Rattle.std.specs.Prelude.{◌==◌, slice_index}
-use Rattle.std.proofs.lemmas.Bool.{true≢false}
 use Rattle.shm_words.specs.declared.geometry.Geometry.{Geometry}
-use Rattle.shm_graph.specs.declared.memo.Kind.TheVariants.{Client}
-use Rattle.shm_graph.specs.declared.memo.Memo.{Memo}
-use Rattle.shm_graph.specs.declared.run.Start.{Start}
-use Rattle.shm_graph.specs.Agents.{entered}
-use Rattle.shm_graph.specs.Asks.{Trail}
-use Rattle.shm_graph.specs.Held.{is_loose}
-use Rattle.shm_graph.specs.Runs.{first_memo}
+use Rattle.shm_graph.specs.{declared.{memo.{Kind.TheVariants.Client, Memo.Memo}, run.Start.Start}, Agents.entered}
+use Rattle.shm_graph.specs.{Asks.Trail, Held.is_loose, Runs.first_memo}
 use Rattle.shm_graph.proofs.States.FirstHeld.{same_everywhere}
 use Rattle.shm_count.specs.Roots.{member}
 use Rattle.shm_recover.specs.Join.{JoinGives, join_fresh}

@@ -1,17 +1,11 @@
 -- blocks in reach of an identity at work lie in the pool, and in one for single calls no partition is read from a home
-use Rattle.std.proofs.Common.{◌≡◌, ℕ, ◌+◌, ◌<◌, ◌≤◌, true, false, refl, sym, arith}
-use Rattle.std.proofs.lemmas.Bool.{true≢false}
+use Rattle.std.proofs.{Common.{◌≡◌, ℕ, ◌+◌, ◌<◌, ◌≤◌, true, false, refl, sym, arith}, lemmas.Bool.true≢false}
 use Rattle.shm_words.specs.Layout.{address_limit, total_of}
 use Rattle.shm_words.proofs.Placing.{total_small}
-use Rattle.shm_graph.specs.declared.spot.Spot.TheVariants.{Home}
-use Rattle.shm_graph.specs.declared.table.Part.{Part}
-use Rattle.shm_graph.specs.declared.table.Part.TheVariants.{Loose, Table}
-use Rattle.shm_graph.specs.Held.{is_loose}
-use Rattle.shm_graph.specs.Operations.{IsReady}
-use Rattle.shm_graph.specs.Reach.{is_reached}
+use Rattle.shm_graph.specs.declared.{spot.Spot.TheVariants.Home, table.Part.{Part, TheVariants.{Loose, Table}}}
+use Rattle.shm_graph.specs.{Held.is_loose, Operations.IsReady, Reach.is_reached}
 use Rattle.shm_steps.specs.Raising.{is_read}
-use Rattle.shm_plain.specs.Calls.{IsAtWork}
-use Rattle.shm_plain.specs.Pools.{Pool, IsRun, memo_of}
+use Rattle.shm_plain.specs.{Calls.IsAtWork, Pools.{Pool, IsRun, memo_of}}
 use Rattle.shm_plain.proofs.Called.{ready}
 use Rattle.shm_count.specs.Roots.{member}
 use Rattle.shm_ref.specs.ReadParts.{reached_room}

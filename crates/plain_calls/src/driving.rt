@@ -2,14 +2,10 @@
 
 ghost use Rattle.std.specs.Prelude.{◌≡◌, ◌≢◌, ℕ, ◌+◌, ◌<◌, false, true, [], IfOk, IfSome, IsNone, IsSome};
 ghost use Rattle.shm_words.specs.Layout.{GeometryFits};
-ghost use Rattle.shm_graph.specs.declared.spot.Spot.TheVariants.{Era, Root};
-ghost use Rattle.shm_graph.specs.declared.memo.Kind.TheVariants.{Client};
-ghost use Rattle.shm_graph.specs.Agents.{entered, recovers};
-ghost use Rattle.shm_graph.specs.Held.{is_loose};
-ghost use Rattle.shm_graph.specs.Runs.{EraFits, first_memo};
+ghost use Rattle.shm_graph.specs.declared.{spot.Spot.TheVariants.{Era, Root}, memo.Kind.TheVariants.Client};
+ghost use Rattle.shm_graph.specs.{Agents.{entered, recovers}, Held.is_loose, Runs.{EraFits, first_memo}};
 ghost use Rattle.shm_graph.specs.Views.{own_word};
-ghost use Rattle.shm_plain.specs.Pools.{IsRun, first_pool, memo_of};
-ghost use Rattle.shm_plain.specs.Calls.{Did, IsAtWork, Ran};
+ghost use Rattle.shm_plain.specs.{Pools.{IsRun, first_pool, memo_of}, Calls.{Did, IsAtWork, Ran}};
 ghost use Rattle.shm_recover.specs.Join.{JoinGives, join_fresh};
 
 use shm_graph::{Life, Me};

@@ -2,8 +2,8 @@
 
 ghost use Rattle.std.specs.Prelude.{◌≡◌, ◌<◌, ◌↔◌, true, IfOk};
 ghost use Rattle.shm_words.specs.Layout.{GeometryFits};
-ghost use Rattle.shm_graph.specs.declared.memo.Status.TheVariants as status;
 ghost use Rattle.shm_graph.specs.Runs.{EraFits};
+ghost use Rattle.shm_graph.specs.declared.memo.Status.TheVariants as status;
 ghost use Rattle.shm_plain.specs.Pools.{first_pool, memo_of};
 
 use shm_graph::{Life, Me, Turn};

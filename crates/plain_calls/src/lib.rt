@@ -8,7 +8,7 @@ pub mod joining;
 pub mod mending;
 pub mod recovering;
 
-pub use allocating::{allocate, join};
+pub use allocating::{allocate, allocate_near, join};
 pub use driving::joined;
 pub use joining::{SteppedJoin, step_join};
 pub use mending::mend_fallen;

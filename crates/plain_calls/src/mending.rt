@@ -1,13 +1,9 @@
 //! The death of an agent, and the recoverer that mends what it left in progress.
 
-ghost use Rattle.std.specs.Prelude.{◌≡◌, ◌<◌, true, List, IfSome};
-ghost use Rattle.std.specs.Option.{is_some};
+ghost use Rattle.std.specs.{Prelude.{◌≡◌, ◌<◌, true, List, IfSome}, Option.is_some};
 ghost use Rattle.shm_words.specs.Layout.{GeometryFits};
-ghost use Rattle.shm_graph.specs.declared.memo.Kind.TheVariants.{Recoverer};
-ghost use Rattle.shm_graph.specs.Agents.{acts, died, entered};
-ghost use Rattle.shm_graph.specs.Events.{Event};
-ghost use Rattle.shm_plain.specs.Pools.{after_fall, memo_of};
-ghost use Rattle.shm_plain.specs.Calls.{Did, Ran};
+ghost use Rattle.shm_graph.specs.{declared.memo.Kind.TheVariants.Recoverer, Agents.{acts, died, entered}, Events.Event};
+ghost use Rattle.shm_plain.specs.{Pools.{after_fall, memo_of}, Calls.{Did, Ran}};
 ghost use Rattle.shm_count.specs.Roots.{member};
 ghost use Rattle.shm_recover.specs.Mend.{IsMended};
 

@@ -1,20 +1,13 @@
 //! The death of an agent, and the recovery of its identity.
 
-ghost use Rattle.std.specs.Prelude.{◌≡◌, ◌<◌, true, List, IfOk, IfSome};
-ghost use Rattle.std.specs.Option.{is_some};
+ghost use Rattle.std.specs.{Prelude.{◌≡◌, ◌<◌, true, List, IfOk, IfSome}, Option.is_some};
 ghost use Rattle.shm_words.specs.Layout.{GeometryFits};
-ghost use Rattle.shm_graph.specs.declared.memo.Kind.TheVariants.{Recoverer};
-ghost use Rattle.shm_graph.specs.declared.memo.Status.TheVariants.{Gone};
-ghost use Rattle.shm_graph.specs.Agents.{acts, entered, last_agent};
-ghost use Rattle.shm_graph.specs.Events.{Event};
-ghost use Rattle.shm_graph.specs.Runs.{fell_by};
+ghost use Rattle.shm_graph.specs.declared.memo.{Kind.TheVariants.Recoverer, Status.TheVariants.Gone};
+ghost use Rattle.shm_graph.specs.{Agents.{acts, entered, last_agent}, Events.Event, Runs.fell_by};
 ghost use Rattle.shm_steps.specs.Reparting.{map_in};
-ghost use Rattle.shm_plain.specs.Pools.{IsRun, after_fall, memo_of};
-ghost use Rattle.shm_plain.specs.Calls.{Did, Ran};
+ghost use Rattle.shm_plain.specs.{Pools.{IsRun, after_fall, memo_of}, Calls.{Did, Ran}};
 ghost use Rattle.shm_count.specs.Roots.{member};
-ghost use Rattle.shm_recover.specs.Machines.Recovering.{RecoverGives};
-ghost use Rattle.shm_recover.specs.Recover.Control.{recovering};
-ghost use Rattle.shm_recover.specs.Recover.{RecoverLeaves};
+ghost use Rattle.shm_recover.specs.{Machines.Recovering.RecoverGives, Recover.{Control.recovering, RecoverLeaves}};
 
 use shm_calls::Calls;
 use shm_count::EraSpent;

@@ -1,7 +1,6 @@
 -- tokens as a pool made them
 use Rattle.std.proofs.Common.{◌≡◌, ℕ, zero, suc, List, [], ◌∷◌, ◌++◌, refl, ap}
-use Rattle.std.specs.Prelude.{Option, Some, None, IfSome}
-use Rattle.std.specs.Option.{option_to_list}
+use Rattle.std.specs.{Prelude.{Option, Some, None, IfSome}, Option.option_to_list}
 use Rattle.shm_pool.specs.Tokens.{AllOf, Its, Token, first_tokens, token_first}
 use Rattle.pool_calls.specs.Clients.{AllFirst}
 

@@ -1,30 +1,16 @@
 -- clients of a pool for tables: how they come to run each command, and stay so
-use Rattle.std.proofs.Common.{◌≡◌, ℕ, Bool, true, false, List, refl, sym, ap, ◌∙◌, subst}
-use Rattle.std.proofs.lemmas.Bool.{true≢false}
+use Rattle.std.proofs.{Common.{◌≡◌, ℕ, Bool, true, false, List, refl, sym, ap, ◌∙◌, subst}, lemmas.Bool.true≢false}
 use Rattle.std.specs.Prelude.{slice_index}
-use Rattle.shm_graph.specs.declared.ask.Me.{Me}
-use Rattle.shm_graph.specs.declared.memo.Kind.TheVariants.{Client}
-use Rattle.shm_graph.specs.declared.memo.Memo.{Memo}
-use Rattle.shm_graph.specs.declared.run.Start.{Start}
-use Rattle.shm_graph.specs.Agents.{entered, recovers}
-use Rattle.shm_graph.specs.Asks.{Trail}
-use Rattle.shm_graph.specs.Events.{Event}
-use Rattle.shm_graph.specs.Held.{is_loose}
-use Rattle.shm_graph.specs.Runs.{first_memo}
+use Rattle.shm_graph.specs.declared.{ask.Me.Me, memo.{Kind.TheVariants.Client, Memo.Memo}, run.Start.Start}
+use Rattle.shm_graph.specs.{Agents.{entered, recovers}, Asks.Trail, Events.Event, Held.is_loose, Runs.first_memo}
 use Rattle.shm_graph.proofs.States.FirstHeld.{same_everywhere}
 use Rattle.shm_recover.specs.Join.{JoinGives, join_fresh}
-use Rattle.shm_script.specs.declared.line.Line.{Line}
+use Rattle.shm_script.specs.{declared.{line.Line.Line, log.Answer.Answer}, Ranges.LineFits}
 use Rattle.shm_script.specs.declared.line.Line.TheVariants as line
-use Rattle.shm_script.specs.declared.log.Answer.{Answer}
-use Rattle.shm_script.specs.Ranges.{LineFits}
-use Rattle.shm_table.specs.Command.{command_of}
-use Rattle.shm_table.specs.Command.Operates.{CommandLeaves}
-use Rattle.shm_table.specs.TableTasks.{LineMay}
+use Rattle.shm_table.specs.{Command.{command_of, Operates.CommandLeaves}, TableTasks.LineMay}
 use Rattle.table_calls.specs.Running.{RunLeaves}
 use Rattle.table_calls.proofs.RunKeeps.{RunKeeps, run_keeps}
-use Rattle.shm_pool.specs.declared.reply.Reply.{Reply}
-use Rattle.shm_pool.specs.declared.reply.Reply.TheVariants.{Died, Done}
-use Rattle.shm_pool.specs.Called.{HasCommanded, Rests}
+use Rattle.shm_pool.specs.{declared.reply.Reply.{Reply, TheVariants.{Died, Done}}, Called.{HasCommanded, Rests}}
 use Rattle.shm_pool.specs.Tokens.{Acting, me_of}
 use Rattle.pool_calls.specs.Tables.{IsOpen}
 

@@ -1,8 +1,7 @@
 -- clients of a pool for tables that may run each command
 use Rattle.std.specs.Prelude.{◌≡◌, ◌≢◌, ◌<◌, ℕ, true, false, None, slice_index}
 use Rattle.shm_graph.specs.Held.{is_loose}
-use Rattle.shm_pool.specs.Called.{Rests}
-use Rattle.shm_pool.specs.Tokens.{Acting, Its, Token, token_first}
+use Rattle.shm_pool.specs.{Called.Rests, Tokens.{Acting, Its, Token, token_first}}
 
 -- a token as a pool for tables was made with it
 abbrev pub IsFirst : Its → Token → Type 0

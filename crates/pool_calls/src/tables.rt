@@ -3,8 +3,7 @@
 ghost use Rattle.std.specs.Prelude.{◌≡◌, ◌≢◌, ◌<◌, true, IfOk, IfErr, IfSome};
 ghost use Rattle.shm_words.specs.Layout.{GeometryFits};
 ghost use Rattle.shm_script.specs.Ranges.{LineFits};
-ghost use Rattle.shm_pool.specs.Called.{HasCommanded};
-ghost use Rattle.shm_pool.specs.Tokens.{token_first};
+ghost use Rattle.shm_pool.specs.{Called.HasCommanded, Tokens.token_first};
 ghost use Rattle.pool_calls.specs.Tables.{IsFirst, IsOpen, IsPeer, Stays};
 
 use crate::recovering::bury;

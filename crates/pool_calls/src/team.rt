@@ -3,9 +3,7 @@
 ghost use Rattle.std.specs.Prelude.{◌≡◌, ◌<◌, false, IfOk, IfErr, IfSome};
 ghost use Rattle.shm_words.specs.Layout.{GeometryFits};
 ghost use Rattle.shm_graph.specs.Runs.{EraFits};
-ghost use Rattle.shm_pool.specs.Tokens.{AllOf, token_first};
-ghost use Rattle.shm_pool.specs.Called.{HasRoot, Rests};
-ghost use Rattle.shm_pool.specs.Calls.{IsBetween};
+ghost use Rattle.shm_pool.specs.{Tokens.{AllOf, token_first}, Called.{HasRoot, Rests}, Calls.IsBetween};
 ghost use Rattle.pool_calls.specs.Clients.{AllFirst};
 
 use shm_count::Made;

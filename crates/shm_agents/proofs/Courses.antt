@@ -1,22 +1,13 @@
 -- the agents of a script with what each of them began, and what was told of its commands
 use Rattle.std.proofs.Common.{◌≡◌, ℕ, zero, suc, ◌+◌, ◌≤◌, Bool, true, false, List, [], ◌∷◌, ◌++◌, map, take, length, append-nil, refl, sym, ap, ◌∙◌, subst, arith, inl, inr}
-use Rattle.std.specs.Prelude.{Option, Some, None, drop, slice_get}
-use Rattle.std.proofs.Math.Seq.{take-suc}
-use Rattle.std.proofs.lemmas.List.{length-append, length-map}
+use Rattle.std.proofs.{Math.Seq.take-suc, lemmas.List.{length-append, length-map}}
 use Rattle.std.proofs.lemmas.Option.{get_or_from_slice_get, slice_get_within}
-use Rattle.shm_graph.specs.declared.ask.Me.{Me}
-use Rattle.shm_graph.specs.declared.memo.Agent.{Agent}
-use Rattle.shm_graph.specs.declared.run.LoggedLine.{LoggedLine}
-use Rattle.shm_graph.specs.Runs.{is_dead}
+use Rattle.std.specs.Prelude.{Option, Some, None, drop, slice_get}
+use Rattle.shm_graph.specs.{declared.{ask.Me.Me, memo.Agent.Agent, run.LoggedLine.LoggedLine}, Runs.is_dead}
 use Rattle.shm_recover.specs.Leave.Control.{leave_line}
-use Rattle.shm_script.specs.declared.line.Line.{Line}
-use Rattle.shm_script.specs.declared.log.Answer.{Answer}
-use Rattle.shm_script.specs.declared.log.Entry.{Entry}
-use Rattle.shm_script.specs.Text.{line_spelled}
-use Rattle.shm_agents.specs.Agents.{behind}
-use Rattle.shm_agents.specs.Courses.{AreAgents, AreCommandsTold, AreRecoverers, client_lines}
-use Rattle.shm_agents.specs.Logs.{effect_along, with_effect}
-use Rattle.shm_agents.specs.Work.{work_control}
+use Rattle.shm_script.specs.{declared.{line.Line.Line, log.{Answer.Answer, Entry.Entry}}, Text.line_spelled}
+use Rattle.shm_agents.specs.{Agents.behind, Courses.{AreAgents, AreCommandsTold, AreRecoverers, client_lines}}
+use Rattle.shm_agents.specs.{Logs.{effect_along, with_effect}, Work.work_control}
 use Rattle.shm_agents.proofs.Lines.{command_line}
 
 -- ---- fronts of lists

@@ -1,45 +1,26 @@
 -- the agents of a script that stand are given up
 use Rattle.std.proofs.Common.{◌≡◌, ℕ, zero, suc, ◌+◌, ◌^◌, ◌<◌, ◌≤◌, ◌⊎◌, Bool, true, false, cond, List, [], ◌∷◌, ◌++◌, take, get_or, length, refl, sym, ap, ◌∙◌, subst, inl, inr, arith}
-use Rattle.std.specs.Prelude.{not, Option, Some, None, slice_get, sum}
-use Rattle.std.specs.Option.{is_some}
-use Rattle.std.proofs.lemmas.Bool.{true≢false}
-use Rattle.std.proofs.lemmas.List.Sums.{sum_by-cons}
-use Rattle.std.proofs.lemmas.Option.{get_or_from_slice_get, slice_get_within}
-use Rattle.shm_words.specs.Layout.{GeometryFits}
-use Rattle.shm_words.specs.declared.geometry.Geometry.{Geometry}
-use Rattle.shm_graph.specs.declared.ask.Me.{Me}
-use Rattle.shm_graph.specs.declared.memo.Agent.{Agent}
-use Rattle.shm_graph.specs.declared.memo.Fate.TheVariants as fate
-use Rattle.shm_graph.specs.declared.memo.Kind.TheVariants.{Recoverer}
-use Rattle.shm_graph.specs.declared.run.Account.{Account}
+use Rattle.std.proofs.lemmas.{Bool.true≢false, List.Sums.sum_by-cons, Option.{get_or_from_slice_get, slice_get_within}}
+use Rattle.std.specs.{Prelude.{not, Option, Some, None, slice_get, sum}, Option.is_some}
+use Rattle.shm_words.specs.{Layout.GeometryFits, declared.geometry.Geometry.Geometry}
+use Rattle.shm_graph.specs.declared.{ask.Me.Me, memo.{Agent.Agent, Kind.TheVariants.Recoverer}, run.Account.Account}
 use Rattle.shm_graph.specs.declared.run.Start.{Start}
-use Rattle.shm_graph.specs.Agents.{acts, acts_by, fallen, last_agent, steps_made, steps_of, with_last}
-use Rattle.shm_graph.specs.Held.{is_loose}
+use Rattle.shm_graph.specs.{Agents.{acts, acts_by, fallen, last_agent, steps_made, steps_of, with_last}, Held.is_loose}
 use Rattle.shm_graph.specs.Runs.{Stood, account_died, fell_by, told_left}
+use Rattle.shm_graph.specs.declared.memo.Fate.TheVariants as fate
 use Rattle.shm_graph.proofs.Memos.MemoSteps.{last-append}
 use Rattle.shm_recover.specs.Recover.Control.{recover_line}
-use Rattle.shm_script.specs.declared.line.Line.{Line}
-use Rattle.shm_script.specs.declared.line.Line.TheVariants.{Del}
-use Rattle.shm_script.specs.declared.log.Answer.{Answer}
-use Rattle.shm_script.specs.declared.log.End.{End}
-use Rattle.shm_script.specs.declared.log.End.TheVariants as end
-use Rattle.shm_script.specs.declared.log.Entry.{Entry}
+use Rattle.shm_script.specs.declared.{line.Line.{Line, TheVariants.Del}, log.{Answer.Answer, End.End, Entry.Entry}}
 use Rattle.shm_script.specs.Values.{Scripted}
+use Rattle.shm_script.specs.declared.log.End.TheVariants as end
 use Rattle.shm_agents.specs.declared.agents.Standing.TheVariants.{AtWork, Dead, Gone}
 use Rattle.shm_agents.specs.Agents.{IsFallen, IsFold, IsFresh, IsMending, IsPlaying, IsSettled, MayPlay, Playing, Stage, Stands, one_agent, shown_by}
-use Rattle.shm_agents.specs.Agents.Stage.{Fresh, Plays, Parted, Fallen, Mending, Mended}
-use Rattle.shm_agents.specs.Courses.{AreAgents}
-use Rattle.shm_agents.specs.Cuts.{AreCut, IsCut, IsCutOff, IsUnbegun, account_cut}
-use Rattle.shm_agents.specs.Logs.{with_effect}
-use Rattle.shm_agents.specs.Turns.{lives_of}
+use Rattle.shm_agents.specs.{Agents.Stage.{Fresh, Plays, Parted, Fallen, Mending, Mended}, Courses.AreAgents}
+use Rattle.shm_agents.specs.{Cuts.{AreCut, IsCut, IsCutOff, IsUnbegun, account_cut}, Logs.with_effect, Turns.lives_of}
 use Rattle.shm_agents.specs.Work.{Work, joining}
-use Rattle.shm_agents.proofs.Courses.{agents_more}
-use Rattle.shm_agents.proofs.Deaths.{some_life}
+use Rattle.shm_agents.proofs.{Courses.agents_more, Deaths.some_life}
 use Rattle.shm_agents.proofs.Dying.{CommandMaps, dies, mended, mended_agents, settles, shows_line}
-use Rattle.shm_agents.proofs.Growing.{steps_of-end}
-use Rattle.shm_agents.proofs.Joining.{first_fold}
-use Rattle.shm_agents.proofs.Loose.{has_table}
-use Rattle.shm_agents.proofs.Standing.{fell_quiet}
+use Rattle.shm_agents.proofs.{Growing.steps_of-end, Joining.first_fold, Loose.has_table, Standing.fell_quiet}
 
 -- ---- lives
 

@@ -1,32 +1,16 @@
 -- the agents of a script stand after the death of the one that was at work
 use Rattle.std.proofs.Common.{◌≡◌, ℕ, zero, suc, ◌+◌, ◌^◌, ◌<◌, ◌≤◌, ◌⊎◌, true, false, List, [], ◌∷◌, ◌++◌, get_or, length, refl, sym, ap, ◌∙◌, subst, inl, inr, arith}
-use Rattle.std.specs.Prelude.{Option, Some, None, drop, slice_get, sum}
-use Rattle.std.specs.List.{AllByRecursion}
-use Rattle.std.specs.Option.{is_some}
-use Rattle.std.proofs.lemmas.List.{length-append}
-use Rattle.std.proofs.lemmas.List.Sums.{sum_by-cons}
-use Rattle.std.proofs.lemmas.Option.{get_or_from_slice_get, slice_get_within}
-use Rattle.shm_words.specs.declared.geometry.Geometry.{Geometry}
-use Rattle.shm_words.specs.Layout.{GeometryFits}
-use Rattle.shm_graph.specs.declared.ask.Me.{Me}
-use Rattle.shm_graph.specs.declared.memo.Agent.{Agent}
-use Rattle.shm_graph.specs.declared.run.Account.{Account}
-use Rattle.shm_graph.specs.Agents.{acts, acts_by, last_agent}
-use Rattle.shm_graph.specs.declared.run.Start.{Start}
-use Rattle.shm_graph.specs.Held.{is_loose}
-use Rattle.shm_graph.specs.Runs.{Stood, account_died, told_left}
+use Rattle.std.proofs.lemmas.{List.{length-append, Sums.sum_by-cons}, Option.{get_or_from_slice_get, slice_get_within}}
+use Rattle.std.specs.{Prelude.{Option, Some, None, drop, slice_get, sum}, List.AllByRecursion, Option.is_some}
+use Rattle.shm_words.specs.{declared.geometry.Geometry.Geometry, Layout.GeometryFits}
+use Rattle.shm_graph.specs.declared.{ask.Me.Me, memo.Agent.Agent, run.{Account.Account, Start.Start}}
+use Rattle.shm_graph.specs.{Agents.{acts, acts_by, last_agent}, Held.is_loose, Runs.{Stood, account_died, told_left}}
 use Rattle.shm_graph.proofs.Memos.MemoSteps.{last-append}
-use Rattle.shm_script.specs.declared.line.Line.{Line}
-use Rattle.shm_script.specs.declared.line.Line.TheVariants.{Del}
-use Rattle.shm_script.specs.declared.log.End.{End}
-use Rattle.shm_script.specs.Ranges.{IsLife}
-use Rattle.shm_script.specs.Values.{Scripted}
-use Rattle.shm_agents.specs.declared.agents.Standing.{Standing}
-use Rattle.shm_agents.specs.declared.agents.Standing.TheVariants.{AtWork, Dead, Gone}
+use Rattle.shm_script.specs.{declared.{line.Line.{Line, TheVariants.Del}, log.End.End}, Ranges.IsLife, Values.Scripted}
+use Rattle.shm_agents.specs.declared.agents.Standing.{Standing, TheVariants.{AtWork, Dead, Gone}}
 use Rattle.shm_agents.specs.Agents.{IsFallen, IsMending, IsPlaying, IsSettled, MayPlay, Playing, Stage, Stands, follows, shown_by}
 use Rattle.shm_agents.specs.Agents.Stage.{Fresh, Plays, Parted, Fallen, Mending, Mended}
-use Rattle.shm_agents.specs.TurnsLeft.{turns_at, turns_by, turns_of}
-use Rattle.shm_agents.specs.Turns.{lives_of}
+use Rattle.shm_agents.specs.{TurnsLeft.{turns_at, turns_by, turns_of}, Turns.lives_of}
 use Rattle.shm_agents.proofs.Dying.{CommandMaps, falls_mending, falls_playing, mended_settled, playing_settled, settles, shows_line}
 use Rattle.shm_agents.proofs.Loose.{has_table}
 

@@ -1,53 +1,34 @@
 -- the death of an agent: of a client that was at work, or of a recoverer
 use Rattle.std.proofs.Common.{◌≡◌, ℕ, ◌+◌, ◌<◌, Bool, true, false, cond, List, [], ◌∷◌, ◌++◌, map, take, length, append-nil, refl, sym, ap, ◌∙◌, subst, inl, inr, arith}
-use Rattle.std.specs.Prelude.{Option, Some, None, slice_get, slice_index, sum}
-use Rattle.std.specs.Option.{is_some}
 use Rattle.std.proofs.lemmas.List.{length-append}
-use Rattle.shm_graph.specs.declared.ask.Me.{Me}
-use Rattle.shm_graph.specs.declared.memo.Agent.{Agent}
-use Rattle.shm_graph.specs.declared.memo.Fate.{Fate}
+use Rattle.std.specs.{Prelude.{Option, Some, None, slice_get, slice_index, sum}, Option.is_some}
+use Rattle.shm_graph.specs.declared.{ask.Me.Me, memo.{Agent.Agent, Fate.Fate, Kind.TheVariants.Recoverer, Memo.Memo}}
+use Rattle.shm_graph.specs.declared.run.{Account.Account, LoggedLine.LoggedLine}
+use Rattle.shm_graph.specs.{Agents.{fallen, last_agent, steps_made, steps_of, with_last}, Asks.{Trail, call_before}}
+use Rattle.shm_graph.specs.{Held.is_loose, Runs.{account_died, fell_by, told_by, told_left}, Tells.after_all}
 use Rattle.shm_graph.specs.declared.memo.Fate.TheVariants as fate
-use Rattle.shm_graph.specs.declared.memo.Kind.TheVariants.{Recoverer}
-use Rattle.shm_graph.specs.declared.memo.Memo.{Memo}
-use Rattle.shm_graph.specs.declared.run.Account.{Account}
-use Rattle.shm_graph.specs.declared.run.LoggedLine.{LoggedLine}
-use Rattle.shm_graph.specs.Agents.{fallen, last_agent, steps_made, steps_of, with_last}
-use Rattle.shm_graph.specs.Asks.{Trail, call_before}
-use Rattle.shm_graph.specs.Held.{is_loose}
-use Rattle.shm_graph.specs.Runs.{account_died, fell_by, told_by, told_left}
-use Rattle.shm_graph.specs.Tells.{after_all}
 use Rattle.shm_graph.proofs.Memos.MemoSteps.{last-append}
-use Rattle.shm_calls.specs.declared.or.Or.TheVariants.{First, Second}
-use Rattle.shm_calls.specs.CallsControl.{calls_control, calls_of}
-use Rattle.shm_calls.specs.Deciding.{StillRuns}
-use Rattle.shm_calls.specs.Either.{or_control}
+use Rattle.shm_calls.specs.{declared.or.Or.TheVariants.{First, Second}, CallsControl.{calls_control, calls_of}}
+use Rattle.shm_calls.specs.{Deciding.StillRuns, Either.or_control}
 use Rattle.shm_count.specs.Steady.{SameTable}
 use Rattle.shm_recover.specs.Join.{join_control}
-use Rattle.shm_recover.specs.Leave.Control.{leave_line, leave_parts, leaving as leave_state}
-use Rattle.shm_recover.specs.Leave.{leave_plan}
-use Rattle.shm_recover.specs.Recover.Control.{recover_line, recover_parts}
-use Rattle.shm_recover.specs.Recover.{recover_plan}
+use Rattle.shm_recover.specs.Leave.Control.{leave_line, leave_parts, leaving as leave_state, leave_steered}
+use Rattle.shm_recover.specs.Recover.Control.{recover_line, recover_parts, recover_steered}
 use Rattle.shm_recover.proofs.Steady.{leave_steady}
-use Rattle.shm_script.specs.declared.line.Line.{Line}
-use Rattle.shm_script.specs.declared.log.Answer.{Answer}
-use Rattle.shm_script.specs.declared.log.End.TheVariants.{Died}
-use Rattle.shm_script.specs.declared.log.Entry.{Entry}
-use Rattle.shm_script.specs.Text.{line_spelled}
-use Rattle.shm_script.specs.Values.{Scripted}
+use Rattle.shm_script.specs.declared.{line.Line.Line, log.{Answer.Answer, End.TheVariants.Died, Entry.Entry}}
+use Rattle.shm_script.specs.{Text.line_spelled, Values.Scripted}
 use Rattle.shm_table.specs.Command.Maps.{MapSoFar}
 use Rattle.shm_table.specs.Command.{CommandCall, CommandFits, command_control, command_effect, command_of}
 use Rattle.shm_agents.specs.declared.agents.Standing.TheVariants.{AtWork}
 use Rattle.shm_agents.specs.Agents.{IsFallen, IsFold, IsMending, IsPlaying, IsSettled, Playing, behind, follows, logged, one_agent, shown_by}
 use Rattle.shm_agents.specs.Courses.{AreAgents, AreCommandsTold}
 use Rattle.shm_agents.specs.Logs.{BeganWith, Was, begun_first, steps_first, with_effect}
-use Rattle.shm_agents.specs.Logs.Was.{Between, InCommand, InLeaving}
-use Rattle.shm_agents.specs.Turns.{lives_of}
+use Rattle.shm_agents.specs.{Logs.Was.{Between, InCommand, InLeaving}, Turns.lives_of}
 use Rattle.shm_agents.specs.Work.{LeaveCalls, Work, WorkFits, commanding, leaving, work_control}
 use Rattle.shm_agents.proofs.Courses.{agents_more, effect_behind, take_more, told_aside, told_on, told_shown}
 use Rattle.shm_agents.proofs.Effects.{behind_none, behind_some, effect_line, fold_so_far, lines_so_far, none_shown, runs_first, runs_second, told_cut}
 use Rattle.shm_agents.proofs.Growing.{began_last, first_steps, get_last, index_is, log_on, steps_of-end, sum_more, with_last-end}
-use Rattle.shm_agents.proofs.Lines.{command_line}
-use Rattle.shm_agents.proofs.Trails.{after_first, after_second, entries_rest}
+use Rattle.shm_agents.proofs.{Lines.command_line, Trails.{after_first, after_second, entries_rest}}
 use Rattle.shm_agents.proofs.Unspent.{unspent_shown}
 
 -- the map of a command that runs: the first law of `command_maps`
@@ -177,7 +158,7 @@ module _ (s : Scripted) (x : Playing) (e : Account) where
 
     module _ (all : slice_get s.lines many ≡ None) where
       abbrev n : LeaveCalls
-      n = after_all (calls_control leave_parts leave_plan) (calls_of leave_plan (leave_state x.me)) trail
+      n = after_all (calls_control leave_parts leave_steered) (calls_of leave_steered (leave_state x.me)) trail
 
       last_one : now ≡ leaving x.me
       last_one = behind_none x.me s.lines many all
@@ -186,8 +167,8 @@ module _ (s : Scripted) (x : Playing) (e : Account) where
       in_leaving =
           sym h.course
           ∙ (ap (λ (z : Work). after_all work_control z trail) last_one
-          ∙ (after_second (or_control join_control (calls_control recover_parts recover_plan)) (or_control command_control (calls_control leave_parts leave_plan)) (Second (calls_of leave_plan (leave_state x.me))) trail
-          ∙ ap Second (after_second command_control (calls_control leave_parts leave_plan) (calls_of leave_plan (leave_state x.me)) trail)))
+          ∙ (after_second (or_control join_control (calls_control recover_parts recover_steered)) (or_control command_control (calls_control leave_parts leave_steered)) (Second (calls_of leave_steered (leave_state x.me))) trail
+          ∙ ap Second (after_second command_control (calls_control leave_parts leave_steered) (calls_of leave_steered (leave_state x.me)) trail)))
 
       none : shown_by x.work ≡ None
       none = ap shown_by in_leaving
@@ -282,8 +263,8 @@ module _ (s : Scripted) (x : Playing) (e : Account) where
         in_command =
             sym h.course
             ∙ (ap (λ (z : Work). after_all work_control z trail) placed
-            ∙ (after_second (or_control join_control (calls_control recover_parts recover_plan)) (or_control command_control (calls_control leave_parts leave_plan)) (First (command_of x.me l)) trail
-            ∙ ap Second (after_first command_control (calls_control leave_parts leave_plan) (command_of x.me l) trail)))
+            ∙ (after_second (or_control join_control (calls_control recover_parts recover_steered)) (or_control command_control (calls_control leave_parts leave_steered)) (First (command_of x.me l)) trail
+            ∙ ap Second (after_first command_control (calls_control leave_parts leave_steered) (command_of x.me l) trail)))
 
         shown : shown_by x.work ≡ command_effect m
         shown = ap shown_by in_command
@@ -297,8 +278,8 @@ module _ (s : Scripted) (x : Playing) (e : Account) where
 
         runs : StillRuns command_control (command_of x.me l) trail
         runs =
-            runs_first command_control (calls_control leave_parts leave_plan) (command_of x.me l) trail
-            (runs_second (or_control join_control (calls_control recover_parts recover_plan)) (or_control command_control (calls_control leave_parts leave_plan)) (First (command_of x.me l)) trail
+            runs_first command_control (calls_control leave_parts leave_steered) (command_of x.me l) trail
+            (runs_second (or_control join_control (calls_control recover_parts recover_steered)) (or_control command_control (calls_control leave_parts leave_steered)) (First (command_of x.me l)) trail
             (subst (λ (z : Work). StillRuns work_control z trail) placed h.runs))
 
         so_far : MapSoFar l (command_effect m) h.start e.memo

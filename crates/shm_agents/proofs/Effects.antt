@@ -1,34 +1,18 @@
 -- a client that dies in a command: its map is the fold of its entries, of which the command is one where it shows its answer
 use Rattle.std.proofs.Common.{◌≡◌, ℕ, zero, suc, Bool, true, false, cond, List, [], ◌∷◌, ◌++◌, map, take, length, refl, sym, ap, ◌∙◌}
-use Rattle.std.specs.Prelude.{◌==◌, Option, Some, None, slice_get}
-use Rattle.std.specs.Cmp.{unsigned_ties}
+use Rattle.std.proofs.lemmas.{Cmp.{eq_by_cmp_equiv, nat_cmp_total}, List.{length-append, map-append}}
+use Rattle.std.specs.{Prelude.{◌==◌, Option, Some, None, slice_get}, Cmp.unsigned_ties, FinMap.{get-insert, get-remove}}
+use Rattle.std.specs.{Option.{is_some, option_map}, Ordering.{eq_by_cmp, nat_cmp}}
 use Rattle.std.specs.FinMap as finmap
-use Rattle.std.specs.FinMap.{get-insert, get-remove}
-use Rattle.std.specs.Option.{is_some, option_map}
-use Rattle.std.specs.Ordering.{eq_by_cmp, nat_cmp}
-use Rattle.std.proofs.lemmas.Cmp.{eq_by_cmp_equiv, nat_cmp_total}
-use Rattle.std.proofs.lemmas.List.{length-append, map-append}
-use Rattle.shm_graph.specs.declared.ask.Me.{Me}
-use Rattle.shm_graph.specs.declared.memo.Memo.{Memo}
-use Rattle.shm_graph.specs.declared.run.LoggedLine.{LoggedLine}
-use Rattle.shm_graph.specs.Asks.{Trail}
-use Rattle.shm_graph.specs.Laws.{Control}
+use Rattle.shm_graph.specs.{declared.{ask.Me.Me, memo.Memo.Memo, run.LoggedLine.LoggedLine}, Asks.Trail, Laws.Control}
 use Rattle.shm_graph.specs.Runs.{told_by}
-use Rattle.shm_calls.specs.declared.or.Or.TheVariants.{First, Second}
-use Rattle.shm_calls.specs.Deciding.{StillRuns}
-use Rattle.shm_calls.specs.Either.{or_control}
-use Rattle.shm_script.specs.declared.line.Line.{Line}
+use Rattle.shm_calls.specs.{declared.or.Or.TheVariants.{First, Second}, Deciding.StillRuns, Either.or_control}
+use Rattle.shm_script.specs.declared.{line.Line.Line, log.{Answer.Answer, Entry.Entry}}
+use Rattle.shm_script.specs.{Logged.{Table, folded, table_after}, Text.line_spelled}
 use Rattle.shm_script.specs.declared.line.Line.TheVariants as line
-use Rattle.shm_script.specs.declared.log.Answer.{Answer}
 use Rattle.shm_script.specs.declared.log.Answer.TheVariants as answer
-use Rattle.shm_script.specs.declared.log.Entry.{Entry}
-use Rattle.shm_script.specs.Logged.{Table, folded, table_after}
-use Rattle.shm_script.specs.Text.{line_spelled}
-use Rattle.shm_table.specs.Command.Maps.{MapSoFar, answered_map}
-use Rattle.shm_table.specs.Command.{command_effect, command_of}
-use Rattle.shm_agents.specs.Agents.{IsFold, behind}
-use Rattle.shm_agents.specs.Logs.{with_effect}
-use Rattle.shm_agents.specs.Work.{commanding, leaving}
+use Rattle.shm_table.specs.Command.{Maps.{MapSoFar, answered_map}, command_effect, command_of}
+use Rattle.shm_agents.specs.{Agents.{IsFold, behind}, Logs.with_effect, Work.{commanding, leaving}}
 use Rattle.shm_agents.proofs.Courses.{take_more}
 
 -- ---- the map

@@ -1,49 +1,26 @@
 -- what a command leaves of a client that may begin any command: it may again, and its map is the fold of one more entry
 use Rattle.std.proofs.Common.{◌≡◌, ℕ, ◌⊎◌, Bool, false, cond, List, [], ◌∷◌, ◌++◌, refl, sym, ap, ◌∙◌, inl, inr}
-use Rattle.std.specs.Prelude.{◌==◌, Some, None, slice_index}
-use Rattle.std.specs.Cmp.{unsigned_ties}
-use Rattle.std.specs.FinMap as finmap
-use Rattle.std.specs.FinMap.{get-insert, get-remove}
-use Rattle.std.specs.Ordering.{eq_by_cmp, nat_cmp}
 use Rattle.std.proofs.lemmas.Cmp.{eq_by_cmp_equiv, nat_cmp_total}
-use Rattle.shm_graph.specs.declared.ask.Me.{Me}
-use Rattle.shm_graph.specs.declared.memo.Memo.{Memo}
-use Rattle.shm_graph.specs.Agents.{recovers}
-use Rattle.shm_graph.specs.Asks.{Trail}
-use Rattle.shm_graph.specs.Events.{Event}
-use Rattle.shm_graph.specs.Core.{core}
-use Rattle.shm_graph.specs.Held.{is_loose}
-use Rattle.shm_graph.specs.Idle.{hold_word}
-use Rattle.shm_graph.specs.Views.{own_word}
-use Rattle.shm_graph.specs.declared.spot.Spot.TheVariants.{Hold}
+use Rattle.std.specs.{Prelude.{◌==◌, Some, None, slice_index}, Cmp.unsigned_ties, FinMap.{get-insert, get-remove}}
+use Rattle.std.specs.Ordering.{eq_by_cmp, nat_cmp}
+use Rattle.std.specs.FinMap as finmap
+use Rattle.shm_graph.specs.{declared.{ask.Me.Me, memo.Memo.Memo, spot.Spot.TheVariants.Hold}, Agents.recovers}
+use Rattle.shm_graph.specs.{Asks.Trail, Events.Event, Core.core, Held.is_loose, Idle.hold_word, Views.own_word}
 use Rattle.shm_steps.specs.Reparting.{map_in}
-use Rattle.shm_script.specs.declared.log.Answer.{Answer}
-use Rattle.shm_script.specs.declared.log.Answer.TheVariants as answer
-use Rattle.shm_script.specs.declared.log.Entry.{Entry}
-use Rattle.shm_script.specs.declared.line.Line.{Line}
-use Rattle.shm_script.specs.declared.line.Line.TheVariants as line
+use Rattle.shm_script.specs.declared.{log.{Answer.Answer, Entry.Entry}, line.Line.Line}
 use Rattle.shm_script.specs.Logged.{Table, folded, table_after}
-use Rattle.shm_table.specs.declared.answer.PutFault.{PutFault}
-use Rattle.shm_table.specs.declared.answer.PutFault.TheVariants as fault
-use Rattle.shm_table.specs.Command.{CommandGives, command_of}
+use Rattle.shm_script.specs.declared.log.Answer.TheVariants as answer
+use Rattle.shm_script.specs.declared.line.Line.TheVariants as line
+use Rattle.shm_table.specs.{declared.answer.PutFault.PutFault, Command.{CommandGives, command_of}}
 use Rattle.shm_table.specs.Command.Laws.{copies_give, dels_give, gets_give, puts_give, recvs_give, sends_give}
-use Rattle.shm_table.specs.Commands.{CommandCause}
-use Rattle.shm_table.specs.CopyKey.Control.{copying}
-use Rattle.shm_table.specs.CopyKey.{CopyLeaves}
-use Rattle.shm_table.specs.Del.Control.{deleting}
-use Rattle.shm_table.specs.Del.{DelLeaves}
-use Rattle.shm_table.specs.Get.Control.{getting}
-use Rattle.shm_table.specs.Get.{GetLeaves, Visited}
-use Rattle.shm_table.specs.Put.Control.{putting}
-use Rattle.shm_table.specs.Put.{PutLeaves}
-use Rattle.shm_table.specs.PutRoot.{IsEraSpent}
-use Rattle.shm_table.specs.RecvKey.Control.{receiving_key}
-use Rattle.shm_table.specs.RecvKey.{ItemTaken, ReceivedIn, RecvLeaves}
-use Rattle.shm_table.specs.SendKey.Control.{sending_key}
-use Rattle.shm_table.specs.SendKey.{IsSent, IsUnsent, SendKeyLeaves, send_key_steps}
+use Rattle.shm_table.specs.{Commands.CommandCause, CopyKey.{Control.copying, CopyLeaves}, Del.Control.deleting}
+use Rattle.shm_table.specs.{Del.DelLeaves, Get.{Control.getting, GetLeaves, Visited}, Put.{Control.putting, PutLeaves}}
+use Rattle.shm_table.specs.{PutRoot.IsEraSpent, RecvKey.{Control.receiving_key, ItemTaken, ReceivedIn, RecvLeaves}}
+use Rattle.shm_table.specs.SendKey.{Control.sending_key, IsSent, IsUnsent, SendKeyLeaves, send_key_steps}
+use Rattle.shm_table.specs.Staying.{Cleared, Ended, IsSpent, Keeps, MapCut, MapSet, SameMap}
+use Rattle.shm_table.specs.declared.answer.PutFault.TheVariants as fault
 use Rattle.shm_queue.specs.declared.answer.SendFault.{SendFault}
 use Rattle.shm_queue.specs.declared.answer.SendFault.TheVariants as sendfault
-use Rattle.shm_table.specs.Staying.{Cleared, Ended, IsSpent, Keeps, MapCut, MapSet, SameMap}
 use Rattle.shm_agents.specs.Agents.{IsFold, IsReady}
 
 -- ---- folds

@@ -1,17 +1,11 @@
 -- the turns that were given to the agents of an identity: a word step is one more, and so is a death
 use Rattle.std.proofs.Common.{◌≡◌, ℕ, ◌+◌, Bool, true, false, cond, List, [], ◌∷◌, ◌++◌, refl, sym, ap, ◌∙◌, subst, arith}
-use Rattle.std.specs.Prelude.{Option, Some}
 use Rattle.std.proofs.lemmas.Bool.{true≢false}
-use Rattle.shm_graph.specs.declared.memo.Agent.{Agent}
-use Rattle.shm_graph.specs.declared.memo.Fate.{Fate}
-use Rattle.shm_graph.specs.declared.memo.Fate.TheVariants.{Acts, Ended, Died}
-use Rattle.shm_graph.specs.declared.memo.Kind.{Kind}
-use Rattle.shm_graph.specs.declared.memo.Memo.{Memo}
-use Rattle.shm_graph.specs.declared.memo.Step.{Step}
-use Rattle.shm_graph.specs.declared.run.Account.{Account}
+use Rattle.std.specs.Prelude.{Option, Some}
+use Rattle.shm_graph.specs.declared.memo.{Agent.Agent, Fate.{Fate, TheVariants.{Acts, Ended, Died}}, Kind.Kind}
+use Rattle.shm_graph.specs.declared.{memo.{Memo.Memo, Step.Step}, run.Account.Account}
 use Rattle.shm_graph.specs.Agents.{acts, acts_by, ended, entered, fallen, is_acting, last_agent, stepped, with_last}
-use Rattle.shm_graph.specs.Changes.{asked_spot}
-use Rattle.shm_graph.specs.Runs.{account_after, account_died, account_entered, is_dead}
+use Rattle.shm_graph.specs.{Changes.asked_spot, Runs.{account_after, account_died, account_entered, is_dead}}
 use Rattle.shm_graph.proofs.Memos.MemoSteps.{acts-entered, agents_after, ends_agent, steps_died, steps_entered, steps_on}
 use Rattle.shm_plain.specs.Tracks.{kind_next}
 use Rattle.shm_work.specs.Working.{ready_account}

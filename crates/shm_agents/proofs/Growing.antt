@@ -1,21 +1,11 @@
 -- the log of a client while further agents begin and end, and more is told behind it
 use Rattle.std.proofs.Common.{◌≡◌, ℕ, zero, suc, ◌+◌, ◌<◌, Bool, List, [], ◌∷◌, ◌++◌, length, append-nil, refl, sym, ap, ◌∙◌, subst, arith}
+use Rattle.std.proofs.lemmas.{List.Sums.sum_by_more, Option.{get_or_from_slice_get, slice_get_within}}
 use Rattle.std.specs.Prelude.{Some, slice_get, slice_index, sum, take}
-use Rattle.std.proofs.lemmas.List.Sums.{sum_by_more}
-use Rattle.std.proofs.lemmas.Option.{get_or_from_slice_get, slice_get_within}
-use Rattle.shm_graph.specs.declared.ask.Me.{Me}
-use Rattle.shm_graph.specs.declared.memo.Agent.{Agent}
-use Rattle.shm_graph.specs.declared.memo.Fate.{Fate}
+use Rattle.shm_graph.specs.declared.{ask.Me.Me, memo.{Agent.Agent, Fate.Fate, Kind.TheVariants.Client, Seen.Seen}}
+use Rattle.shm_graph.specs.{declared.run.LoggedLine.LoggedLine, Agents.{steps_of, with_last}, Runs.{begun_by, told_by}}
 use Rattle.shm_graph.specs.declared.memo.Fate.TheVariants as fate
-use Rattle.shm_graph.specs.declared.memo.Kind.TheVariants.{Client}
-use Rattle.shm_graph.specs.declared.memo.Seen.{Seen}
-use Rattle.shm_graph.specs.declared.run.LoggedLine.{LoggedLine}
-use Rattle.shm_graph.specs.Agents.{steps_of, with_last}
-use Rattle.shm_graph.specs.Runs.{begun_by, told_by}
-use Rattle.shm_script.specs.declared.log.End.{End}
-use Rattle.shm_script.specs.declared.log.End.TheVariants.{Ended, Died}
-use Rattle.shm_script.specs.declared.log.Entry.{Entry}
-use Rattle.shm_script.specs.Logged.{Logged}
+use Rattle.shm_script.specs.{declared.log.{End.{End, TheVariants.{Ended, Died}}, Entry.Entry}, Logged.Logged}
 use Rattle.shm_script.specs.Values.{Scripted}
 use Rattle.shm_agents.specs.Logs.{BeganWith, HasEnd, IsLogOf, Was, begun_first, steps_first}
 use Rattle.shm_agents.specs.Logs.Was.{Between, InCommand, InLeaving}

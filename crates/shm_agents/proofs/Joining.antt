@@ -1,39 +1,21 @@
 -- the first word step of a client: it has joined
 use Rattle.std.proofs.Common.{◌≡◌, ℕ, ◌+◌, ◌%◌, ◌<◌, ◌&&◌, Bool, true, cond, List, [], ◌∷◌, refl, sym, ap, ◌∙◌, subst, arith, inl}
-use Rattle.std.specs.Prelude.{None, Some, slice_get, slice_index}
-use Rattle.std.specs.List.{AllByRecursion}
-use Rattle.std.specs.FinMap.{get-empty}
+use Rattle.std.specs.{Prelude.{None, Some, slice_get, slice_index}, List.AllByRecursion, FinMap.get-empty}
 use Rattle.std.specs.Ordering.{nat_cmp}
 use Rattle.shm_words.specs.Layout.{GeometryFits}
-use Rattle.shm_graph.specs.declared.ask.Life.{Life}
-use Rattle.shm_graph.specs.declared.ask.Me.{Me}
-use Rattle.shm_graph.specs.declared.memo.Fate.TheVariants.{Acts}
-use Rattle.shm_graph.specs.declared.memo.Kind.TheVariants.{Client}
-use Rattle.shm_graph.specs.declared.memo.Memo.{Memo}
-use Rattle.shm_graph.specs.declared.memo.Status.{Status as AStatus}
-use Rattle.shm_graph.specs.declared.memo.Step.{Step}
-use Rattle.shm_graph.specs.declared.run.Account.{Account}
-use Rattle.shm_graph.specs.declared.run.Start.{Start}
-use Rattle.shm_graph.specs.declared.table.Entry.{Entry as AnEntry}
-use Rattle.shm_graph.specs.Agents.{is_gone}
-use Rattle.shm_graph.specs.Asks.{call_before}
-use Rattle.shm_graph.specs.Changes.{asked_spot}
-use Rattle.shm_graph.specs.Held.{is_loose}
-use Rattle.shm_graph.specs.Laws.{step_of}
-use Rattle.shm_graph.specs.Runs.{account_after, account_entered, first_account, first_part}
-use Rattle.shm_graph.specs.Tables.{find}
+use Rattle.shm_graph.specs.declared.{ask.{Life.Life, Me.Me}, memo.{Fate.TheVariants.Acts, Kind.TheVariants.Client}}
+use Rattle.shm_graph.specs.declared.{memo.{Memo.Memo, Status.Status as AStatus, Step.Step}, run.Account.Account}
+use Rattle.shm_graph.specs.{declared.{run.Start.Start, table.Entry.Entry as AnEntry}, Agents.is_gone, Asks.call_before}
+use Rattle.shm_graph.specs.{Changes.asked_spot, Held.is_loose, Laws.step_of}
+use Rattle.shm_graph.specs.{Runs.{account_after, account_entered, first_account, first_part}, Tables.find}
 use Rattle.shm_graph.specs.Tells.{after_all}
-use Rattle.shm_graph.proofs.Memos.MemoSteps.{agents_after, recovers_on}
-use Rattle.shm_graph.proofs.States.FirstHeld.{same_everywhere}
+use Rattle.shm_graph.proofs.{Memos.MemoSteps.{agents_after, recovers_on}, States.FirstHeld.same_everywhere}
 use Rattle.shm_calls.specs.Deciding.{StillRuns}
 use Rattle.shm_recover.specs.Join.{JoinGives, join_fresh}
-use Rattle.shm_script.specs.declared.line.Line.{Line}
-use Rattle.shm_script.specs.Ranges.{LineFits}
-use Rattle.shm_script.specs.Values.{Scripted}
+use Rattle.shm_script.specs.{declared.line.Line.Line, Ranges.LineFits, Values.Scripted}
 use Rattle.shm_steps.specs.Reparting.{map_in}
 use Rattle.shm_agents.specs.declared.agents.Standing.TheVariants.{AtWork}
-use Rattle.shm_agents.specs.Agents.{IsFold, IsPlaying, IsReady, Playing, behind, one_agent}
-use Rattle.shm_agents.specs.Turns.{lives_of}
+use Rattle.shm_agents.specs.{Agents.{IsFold, IsPlaying, IsReady, Playing, behind, one_agent}, Turns.lives_of}
 use Rattle.shm_agents.specs.Work.{WorkFits, joining, work_control}
 use Rattle.shm_agents.proofs.WorkLaws.{behind_fits, behind_fresh, behind_going, behind_me}
 

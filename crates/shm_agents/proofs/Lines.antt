@@ -1,9 +1,8 @@
 -- the line of a command
 use Rattle.std.proofs.Common.{◌≡◌, refl}
 use Rattle.shm_graph.specs.declared.ask.Me.{Me}
-use Rattle.shm_script.specs.declared.line.Line.{Line}
+use Rattle.shm_script.specs.{declared.line.Line.Line, Text.line_spelled}
 use Rattle.shm_script.specs.declared.line.Line.TheVariants as line
-use Rattle.shm_script.specs.Text.{line_spelled}
 use Rattle.shm_table.specs.Command.{command_control, command_of}
 
 -- it is its text

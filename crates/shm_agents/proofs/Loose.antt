@@ -1,40 +1,24 @@
 -- a pool for tables stays one, whatever its identities do
 use Rattle.std.proofs.Common.{◌≡◌, ℕ, ◌+◌, ◌<◌, Bool, true, false, cond, List, [], ◌∷◌, ◌++◌, refl, sym, ap, ◌∙◌, subst}
-use Rattle.std.specs.Prelude.{◌==◌, ◌||◌, Option, Some, None, eqb, nat_le}
-use Rattle.std.specs.List.{filter, list_any}
-use Rattle.shm_words.specs.declared.geometry.Geometry.{Geometry}
-use Rattle.shm_words.specs.Headers.{header_of}
-use Rattle.shm_graph.specs.declared.ask.Ask.{Ask}
-use Rattle.shm_graph.specs.declared.ask.Ask.TheVariants.{Load, Store, Exchange}
-use Rattle.shm_graph.specs.declared.memo.ChangeStage.TheVariants.{Raising, Lowering}
-use Rattle.shm_graph.specs.declared.memo.Fact.TheVariants.{Class}
+use Rattle.std.specs.{Prelude.{◌==◌, ◌||◌, Option, Some, None, eqb, nat_le}, List.{filter, list_any}}
+use Rattle.shm_words.specs.{declared.geometry.Geometry.Geometry, Headers.header_of}
+use Rattle.shm_graph.specs.declared.ask.Ask.{Ask, TheVariants.{Load, Store, Exchange}}
+use Rattle.shm_graph.specs.declared.memo.{ChangeStage.TheVariants.{Raising, Lowering}, Fact.TheVariants.Class}
 use Rattle.shm_graph.specs.declared.memo.First.TheVariants.{Begun, Committed, Written}
-use Rattle.shm_graph.specs.declared.memo.Second.TheVariants.{Open, Closed}
-use Rattle.shm_graph.specs.declared.memo.Memo.{Memo}
-use Rattle.shm_graph.specs.declared.memo.Op.{Op}
-use Rattle.shm_graph.specs.declared.memo.Op.TheVariants as op
-use Rattle.shm_graph.specs.declared.memo.Step.{Step}
-use Rattle.shm_graph.specs.declared.memo.Stored.{Stored}
-use Rattle.shm_graph.specs.declared.memo.Test.{Test}
-use Rattle.shm_graph.specs.declared.run.Account.{Account}
-use Rattle.shm_graph.specs.declared.run.Move.{Move}
-use Rattle.shm_graph.specs.declared.run.Move.TheVariants.{Word, Dies, Begins}
-use Rattle.shm_graph.specs.declared.spot.Spot.{Spot}
-use Rattle.shm_graph.specs.declared.spot.Spot.TheVariants as spot
-use Rattle.shm_graph.specs.declared.table.Part.{Part}
-use Rattle.shm_graph.specs.declared.table.Part.TheVariants.{Loose, Table}
-use Rattle.shm_graph.specs.Chains.{part_set}
+use Rattle.shm_graph.specs.declared.memo.{Second.TheVariants.{Open, Closed}, Memo.Memo, Op.Op, Step.Step, Stored.Stored}
+use Rattle.shm_graph.specs.declared.{memo.Test.Test, run.{Account.Account, Move.Move}}
+use Rattle.shm_graph.specs.declared.{run.{Move.TheVariants.{Word, Dies, Begins}, Start.Start}, spot.Spot.Spot}
+use Rattle.shm_graph.specs.{declared.table.Part.{Part, TheVariants.{Loose, Table}}, Chains.part_set}
 use Rattle.shm_graph.specs.Changes.{asked_spot, called, changed_by, forgotten, memo_on, test_before}
 use Rattle.shm_graph.specs.MemoAfterExchange.{committed, cut, exchanged_on, lowered, reparted, with_unsent, with_untaken, without_made}
-use Rattle.shm_graph.specs.Held.{is_loose}
-use Rattle.shm_graph.specs.MemoAfterRead.{is_latched, read_on, reference_read, values_read, word_read}
+use Rattle.shm_graph.specs.{Held.is_loose, MemoAfterRead.{is_latched, read_on, reference_read, values_read, word_read}}
 use Rattle.shm_graph.specs.Reach.{is_dying, learnt, shown}
-use Rattle.shm_graph.specs.declared.run.Start.{Start}
 use Rattle.shm_graph.specs.Runs.{Leads, State, Stood, account_after, account_at, account_died, account_entered, first_part, first_state, memos_of, moved}
 use Rattle.shm_graph.specs.MemoAfterStore.{era_stored, is_lowering, not_block, op_closed, stored_on, with_own, without_looks}
 use Rattle.shm_graph.specs.Telling.{Claim, claim_of}
-use Rattle.shm_graph.proofs.Runs.Lists.{account_part}
-use Rattle.shm_graph.proofs.States.FirstHeld.{first_memo_of}
+use Rattle.shm_graph.specs.declared.memo.Op.TheVariants as op
+use Rattle.shm_graph.specs.declared.spot.Spot.TheVariants as spot
+use Rattle.shm_graph.proofs.{Runs.Lists.account_part, States.FirstHeld.first_memo_of}
 
 abbrev loose : Memo → Bool
 loose m = is_loose m.part

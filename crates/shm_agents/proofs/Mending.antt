@@ -1,57 +1,35 @@
 -- word steps of a recoverer: its first one, one after which it goes on, and its last one
 use Rattle.std.proofs.Common.{◌≡◌, ℕ, suc, ◌+◌, ◌^◌, ◌<◌, ◌≤◌, ◌&&◌, Bool, true, false, cond, List, [], ◌∷◌, ◌++◌, length, take, append-nil, refl, sym, ap, ◌∙◌, subst, arith, inl, inr, Result}
-use Rattle.std.specs.Prelude.{Some, None, Ok, Err, drop, slice_get, sum}
 use Rattle.std.proofs.lemmas.List.Sums.{sum_by-append, sum_by-cons, sum_by-take-le}
-use Rattle.shm_words.specs.declared.geometry.Geometry.{Geometry}
-use Rattle.shm_words.specs.Layout.{GeometryFits}
-use Rattle.shm_graph.specs.declared.ask.Life.{Life}
-use Rattle.shm_graph.specs.declared.ask.Me.{Me}
-use Rattle.shm_graph.specs.declared.memo.Agent.{Agent}
-use Rattle.shm_graph.specs.declared.memo.Fate.{Fate}
-use Rattle.shm_graph.specs.declared.memo.Fate.TheVariants as fate
-use Rattle.shm_graph.specs.declared.memo.Kind.TheVariants.{Recoverer}
-use Rattle.shm_graph.specs.declared.memo.Memo.{Memo}
-use Rattle.shm_graph.specs.declared.memo.Status.{Status as AStatus}
-use Rattle.shm_graph.specs.declared.memo.Step.{Step}
-use Rattle.shm_graph.specs.declared.run.Account.{Account}
-use Rattle.shm_graph.specs.declared.run.LoggedLine.{LoggedLine}
-use Rattle.shm_graph.specs.declared.run.Start.{Start}
-use Rattle.shm_graph.specs.declared.spot.Spot.TheVariants.{Era}
+use Rattle.std.specs.Prelude.{Some, None, Ok, Err, drop, slice_get, sum}
+use Rattle.shm_words.specs.{declared.geometry.Geometry.Geometry, Layout.GeometryFits}
+use Rattle.shm_graph.specs.declared.{ask.{Life.Life, Me.Me}, memo.{Agent.Agent, Fate.Fate, Kind.TheVariants.Recoverer}}
+use Rattle.shm_graph.specs.declared.{memo.{Memo.Memo, Status.Status as AStatus, Step.Step}, run.Account.Account}
+use Rattle.shm_graph.specs.declared.{run.{LoggedLine.LoggedLine, Start.Start}, spot.Spot.TheVariants.Era}
 use Rattle.shm_graph.specs.Agents.{ended, is_gone, stepped, steps_made, steps_of, with_last}
-use Rattle.shm_graph.specs.Asks.{Trail, call_before, pair}
-use Rattle.shm_graph.specs.Laws.{Stays, is_some, step_of}
-use Rattle.shm_graph.specs.Runs.{account_after, account_entered, begun_by, told_by, told_left}
-use Rattle.shm_graph.specs.Tells.{after_all}
-use Rattle.shm_graph.specs.Views.{own_word}
-use Rattle.shm_graph.specs.Whole.{fits_now, gives_now}
-use Rattle.shm_graph.proofs.Machines.TellsAlong.{after_all-append}
-use Rattle.shm_graph.proofs.Memos.MemoSteps.{agents_after, recovers-entered}
-use Rattle.shm_calls.specs.declared.or.Or.TheVariants.{First, Second}
-use Rattle.shm_calls.specs.CallsControl.{calls_control, calls_of}
-use Rattle.shm_calls.specs.CallsKeep.{calls_begin}
-use Rattle.shm_calls.specs.Either.{or_control}
-use Rattle.shm_count.specs.declared.answer.EraSpent.{EraSpent}
-use Rattle.shm_count.specs.Steady.{SameTable}
-use Rattle.shm_recover.specs.Join.{join_control}
-use Rattle.shm_recover.specs.Leave.Control.{leave_parts}
-use Rattle.shm_recover.specs.Leave.{leave_plan}
+use Rattle.shm_graph.specs.{Asks.{Trail, call_before, pair}, Laws.{Stays, is_some, step_of}}
+use Rattle.shm_graph.specs.{Runs.{account_after, account_entered, begun_by, told_by, told_left}, Tells.after_all}
+use Rattle.shm_graph.specs.{Views.own_word, Whole.{fits_now, gives_now}}
+use Rattle.shm_graph.specs.declared.memo.Fate.TheVariants as fate
+use Rattle.shm_graph.proofs.{Machines.TellsAlong.after_all-append, Memos.MemoSteps.{agents_after, recovers-entered}}
+use Rattle.shm_calls.specs.{declared.or.Or.TheVariants.{First, Second}, CallsControl.{calls_control, calls_of}}
+use Rattle.shm_calls.specs.{CallsKeep.calls_begin, Either.or_control}
+use Rattle.shm_count.specs.{declared.answer.EraSpent.EraSpent, Steady.SameTable}
+use Rattle.shm_recover.specs.{Join.join_control, Leave.Control.{leave_parts, leave_steered}}
 use Rattle.shm_recover.specs.Machines.Recovering.{RecoverGives}
-use Rattle.shm_recover.specs.Recover.Control.{recover_line, recover_parts, recovering as recover_state}
-use Rattle.shm_recover.specs.Recover.{recover_plan}
-use Rattle.shm_recover.specs.Recover.Laws.{recover_begin}
+use Rattle.shm_recover.specs.Recover.Control.{recover_line, recover_parts, recovering as recover_state, recover_steered}
+use Rattle.shm_recover.specs.Recover.{recover_plan, Laws.recover_begin}
 use Rattle.shm_recover.proofs.Steady.{recover_steady}
 use Rattle.shm_script.specs.Values.{Scripted}
 use Rattle.shm_table.specs.Command.{command_control}
 use Rattle.shm_agents.specs.declared.agents.Standing.TheVariants.{AtWork, Dead, Gone}
 use Rattle.shm_agents.specs.Agents.{IsFallen, IsMended, IsMending, IsSettled, MayPlay, Playing, logged}
 use Rattle.shm_agents.specs.Courses.{AreAgents, AreCommandsTold, AreScriptAgents}
-use Rattle.shm_agents.specs.Logs.{BeganWith, begun_first, steps_first}
-use Rattle.shm_agents.specs.Turns.{lives_of}
+use Rattle.shm_agents.specs.{Logs.{BeganWith, begun_first, steps_first}, Turns.lives_of}
 use Rattle.shm_agents.specs.Work.{RecoverCalls, Work, WorkAnswer, WorkFits, WorkGives, recovering, work_control}
 use Rattle.shm_agents.proofs.Courses.{agents_more, around, told_aside}
 use Rattle.shm_agents.proofs.Growing.{began_last, began_more, begun_end, first_more, first_steps, log_on, steps_of-end, sum_more, with_last-end}
-use Rattle.shm_agents.proofs.Trails.{after_first, after_second}
-use Rattle.shm_agents.proofs.WorkLaws.{recoveries, work_laws}
+use Rattle.shm_agents.proofs.{Trails.{after_first, after_second}, WorkLaws.{recoveries, work_laws}}
 
 never : (b : Bool) → (b && false) ≡ false
 never true = refl
@@ -61,13 +39,13 @@ never false = refl
 
 module _ (me : Me) (tr : Trail) (w : Work) (course : after_all work_control (recovering me) tr ≡ w) (going : work_control.finished w ≡ false) where
   abbrev call : RecoverCalls
-  call = after_all (calls_control recover_parts recover_plan) (calls_of recover_plan (recover_state me)) tr
+  call = after_all (calls_control recover_parts recover_steered) (calls_of recover_steered (recover_state me)) tr
 
   is_call : w ≡ First (Second call)
   is_call =
       sym course
-      ∙ (after_first (or_control join_control (calls_control recover_parts recover_plan)) (or_control command_control (calls_control leave_parts leave_plan)) (Second (calls_of recover_plan (recover_state me))) tr
-      ∙ ap First (after_second join_control (calls_control recover_parts recover_plan) (calls_of recover_plan (recover_state me)) tr))
+      ∙ (after_first (or_control join_control (calls_control recover_parts recover_steered)) (or_control command_control (calls_control leave_parts leave_steered)) (Second (calls_of recover_steered (recover_state me))) tr
+      ∙ ap First (after_second join_control (calls_control recover_parts recover_steered) (calls_of recover_steered (recover_state me)) tr))
 
   mending_table : (r0 r : Memo) (t : Trail) → WorkFits w r0 r t → SameTable r0 r
   mending_table r0 r t fit = recover_steady call r0 r t (ap (λ (z : Work). work_control.finished z) (sym is_call) ∙ going) (subst (λ (z : Work). WorkFits z r0 r t) is_call fit)

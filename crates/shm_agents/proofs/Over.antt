@@ -1,27 +1,17 @@
 -- how the agents of a script stand where none of them has anything left to do
 use Rattle.std.proofs.Common.{◌≡◌, ◌≢◌, ℕ, true, false, List, [], length, refl, sym, ap, ◌∙◌, subst, arith, inl, inr}
-use Rattle.std.specs.Prelude.{◌⊎◌, Option, slice_index}
 use Rattle.std.proofs.lemmas.List.{length-map, take_all}
-use Rattle.shm_graph.specs.declared.memo.Agent.{Agent}
+use Rattle.std.specs.Prelude.{◌⊎◌, Option, slice_index}
+use Rattle.shm_graph.specs.declared.{memo.{Agent.Agent, Kind.TheVariants.Recoverer}, run.Account.Account}
+use Rattle.shm_graph.specs.{declared.run.{LoggedLine.LoggedLine, Start.Start}, Agents.{acts, acts_by, last_agent}}
+use Rattle.shm_graph.specs.{Held.is_loose, Runs.{fell_by, told_left}}
 use Rattle.shm_graph.specs.declared.memo.Fate.TheVariants as fate
-use Rattle.shm_graph.specs.declared.memo.Kind.TheVariants.{Recoverer}
 use Rattle.shm_graph.specs.declared.memo.Status.TheVariants as status
-use Rattle.shm_graph.specs.declared.run.Account.{Account}
-use Rattle.shm_graph.specs.declared.run.LoggedLine.{LoggedLine}
-use Rattle.shm_graph.specs.declared.run.Start.{Start}
-use Rattle.shm_graph.specs.Agents.{acts, acts_by, last_agent}
-use Rattle.shm_graph.specs.Held.{is_loose}
-use Rattle.shm_graph.specs.Runs.{fell_by, told_left}
 use Rattle.shm_graph.proofs.Memos.MemoSteps.{last-append}
-use Rattle.shm_script.specs.declared.log.End.{End}
-use Rattle.shm_script.specs.declared.log.Entry.{Entry}
-use Rattle.shm_script.specs.declared.line.Line.{Line}
-use Rattle.shm_script.specs.Values.{Scripted}
-use Rattle.shm_agents.specs.declared.agents.Standing.{Standing}
-use Rattle.shm_agents.specs.declared.agents.Standing.TheVariants.{AtWork, Dead, Gone}
+use Rattle.shm_script.specs.{declared.{log.{End.End, Entry.Entry}, line.Line.Line}, Values.Scripted}
+use Rattle.shm_agents.specs.declared.agents.Standing.{Standing, TheVariants.{AtWork, Dead, Gone}}
 use Rattle.shm_agents.specs.Agents.{Fallen, Fresh, HasParted, IsFallen, IsFold, IsMended, IsSettled, Mended, Mending, Parted, Playing, Plays, Stage, end_or, is_standing_dead, logged}
-use Rattle.shm_agents.specs.Logs.{AreUnspent, HasEnd, IsLogOf, steps_first}
-use Rattle.shm_agents.specs.Turns.{lives_of}
+use Rattle.shm_agents.specs.{Logs.{AreUnspent, HasEnd, IsLogOf, steps_first}, Turns.lives_of}
 
 -- the client left, or a recoverer recovered the identity, or all of them died
 abbrev pub IsOver : Scripted → Playing → Account → Type 0

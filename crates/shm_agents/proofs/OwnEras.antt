@@ -1,11 +1,7 @@
 -- the own era of an identity
 use Rattle.std.proofs.Common.{ℕ, ◌+◌, ◌<◌, ◌≤◌, subst}
-use Rattle.shm_graph.specs.declared.run.Account.{Account}
-use Rattle.shm_graph.specs.declared.run.Start.{Start}
-use Rattle.shm_graph.specs.declared.spot.Spot.TheVariants.{Era}
-use Rattle.shm_graph.specs.Agents.{steps_made}
-use Rattle.shm_graph.specs.Runs.{Stood, state}
-use Rattle.shm_graph.specs.Views.{own_word}
+use Rattle.shm_graph.specs.{declared.{run.{Account.Account, Start.Start}, spot.Spot.TheVariants.Era}, Agents.steps_made}
+use Rattle.shm_graph.specs.{Runs.{Stood, state}, Views.own_word}
 use Rattle.shm_graph.proofs.Runs.EraRises.{first_was_held, memo_bounds}
 
 -- it is at most the first era and the word steps of its agents

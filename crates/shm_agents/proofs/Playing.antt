@@ -1,67 +1,35 @@
 -- a word step of a client that has joined: it goes on, a command answers, or it leaves
 use Rattle.std.proofs.Common.{◌≡◌, ℕ, zero, suc, ◌+◌, ◌^◌, ◌<◌, ◌≤◌, ◌&&◌, Bool, true, false, cond, List, [], ◌∷◌, ◌++◌, map, take, length, get_or, refl, sym, ap, ◌∙◌, subst, arith, inl, inr, Result}
-use Rattle.std.specs.Prelude.{Some, None, Ok, Err, slice_get}
-use Rattle.std.specs.List.{AllByRecursion}
-use Rattle.std.proofs.Math.Seq.{take-length}
-use Rattle.std.proofs.lemmas.Bool.{cases_lt}
-use Rattle.std.proofs.lemmas.List.{length-append, map-append, take_all}
+use Rattle.std.proofs.{Math.Seq.take-length, lemmas.{Bool.cases_lt, List.{length-append, map-append, take_all}}}
 use Rattle.std.proofs.lemmas.Option.{slice_get-get_or, slice_get_within}
+use Rattle.std.specs.{Prelude.{Some, None, Ok, Err, slice_get}, List.AllByRecursion}
 use Rattle.shm_words.specs.Layout.{GeometryFits}
-use Rattle.shm_graph.specs.declared.ask.Life.{Life}
-use Rattle.shm_graph.specs.declared.ask.Me.{Me}
-use Rattle.shm_graph.specs.declared.memo.Agent.{Agent}
-use Rattle.shm_graph.specs.declared.memo.Fate.TheVariants.{Acts}
-use Rattle.shm_graph.specs.declared.memo.Memo.{Memo}
-use Rattle.shm_graph.specs.declared.memo.Seen.{Seen}
-use Rattle.shm_graph.specs.declared.memo.Status.{Status as AStatus}
-use Rattle.shm_graph.specs.declared.memo.Step.{Step}
-use Rattle.shm_graph.specs.declared.run.Account.{Account}
-use Rattle.shm_graph.specs.declared.run.LoggedLine.{LoggedLine}
-use Rattle.shm_graph.specs.declared.spot.Spot.TheVariants.{Era}
+use Rattle.shm_graph.specs.declared.{ask.{Life.Life, Me.Me}, memo.{Agent.Agent, Fate.TheVariants.Acts, Memo.Memo}}
+use Rattle.shm_graph.specs.declared.{memo.{Seen.Seen, Status.Status as AStatus, Step.Step}, run.Account.Account}
+use Rattle.shm_graph.specs.declared.{run.LoggedLine.LoggedLine, spot.Spot.TheVariants.Era}
 use Rattle.shm_graph.specs.Agents.{is_gone, last_agent, recovers, recovers_by, steps_made, steps_of}
-use Rattle.shm_graph.specs.Asks.{Trail, call_before, pair}
-use Rattle.shm_graph.specs.Changes.{asked_spot}
-use Rattle.shm_graph.specs.Held.{is_loose}
-use Rattle.shm_graph.specs.Laws.{Stays, is_some, step_of}
-use Rattle.shm_graph.specs.Runs.{account_after, told_by, told_left}
-use Rattle.shm_graph.specs.Tells.{after_all}
-use Rattle.shm_graph.specs.Views.{own_word}
-use Rattle.shm_graph.specs.Whole.{fits_now, gives_now}
-use Rattle.shm_graph.proofs.Machines.TellsAlong.{after_all-append}
-use Rattle.shm_graph.proofs.Memos.MemoSteps.{agents_after, recovers_on}
-use Rattle.shm_calls.specs.CallsControl.{calls_control}
-use Rattle.shm_calls.specs.Deciding.{StillRuns}
-use Rattle.shm_calls.specs.Either.{or_control}
-use Rattle.shm_calls.specs.declared.or.Or.{Or}
+use Rattle.shm_graph.specs.{Asks.{Trail, call_before, pair}, Changes.asked_spot, Held.is_loose}
+use Rattle.shm_graph.specs.{Laws.{Stays, is_some, step_of}, Runs.{account_after, told_by, told_left}, Tells.after_all}
+use Rattle.shm_graph.specs.{Views.own_word, Whole.{fits_now, gives_now}}
+use Rattle.shm_graph.proofs.{Machines.TellsAlong.after_all-append, Memos.MemoSteps.{agents_after, recovers_on}}
+use Rattle.shm_calls.specs.{CallsControl.calls_control, Deciding.StillRuns, Either.or_control, declared.or.Or.Or}
 use Rattle.shm_calls.specs.declared.or.Or.TheVariants.{First, Second}
 use Rattle.shm_count.specs.declared.answer.EraSpent.{EraSpent}
-use Rattle.shm_recover.specs.Join.{join_control}
-use Rattle.shm_recover.specs.Leave.Control.{leave_line, leave_parts}
-use Rattle.shm_recover.specs.Leave.{leave_plan}
-use Rattle.shm_recover.specs.Machines.{LeaveGives}
-use Rattle.shm_recover.specs.Recover.Control.{recover_parts}
-use Rattle.shm_recover.specs.Recover.{recover_plan}
-use Rattle.shm_script.specs.declared.line.Line.{Line}
+use Rattle.shm_recover.specs.{Join.join_control, Leave.Control.{leave_line, leave_parts, leave_steered}}
+use Rattle.shm_recover.specs.{Machines.LeaveGives, Recover.Control.{recover_parts, recover_steered}}
+use Rattle.shm_script.specs.{declared.{line.Line.Line, log.{Answer.Answer, Entry.Entry}}, Ranges.{IsLife, LineFits}}
+use Rattle.shm_script.specs.{Text.line_spelled, Values.Scripted}
 use Rattle.shm_script.specs.declared.line.Line.TheVariants as line
-use Rattle.shm_script.specs.declared.log.Answer.{Answer}
-use Rattle.shm_script.specs.declared.log.Entry.{Entry}
 use Rattle.shm_script.specs.declared.log.End.TheVariants as end
-use Rattle.shm_script.specs.Ranges.{IsLife, LineFits}
-use Rattle.shm_script.specs.Text.{line_spelled}
-use Rattle.shm_script.specs.Values.{Scripted}
 use Rattle.shm_steps.specs.Reparting.{map_in}
 use Rattle.shm_table.specs.Command.{CommandCall, CommandGives, command_control, command_of}
 use Rattle.shm_agents.specs.declared.agents.Standing.TheVariants.{Gone}
 use Rattle.shm_agents.specs.Agents.{AreTold, HasParted, IsPlaying, IsReady, Playing, behind, one_agent}
-use Rattle.shm_agents.specs.Courses.{AreCommandsTold, client_lines}
-use Rattle.shm_agents.specs.Logs.{IsEntry, answer_along}
-use Rattle.shm_agents.specs.Turns.{lives_of}
+use Rattle.shm_agents.specs.{Courses.{AreCommandsTold, client_lines}, Logs.{IsEntry, answer_along}, Turns.lives_of}
 use Rattle.shm_agents.specs.Work.{Work, WorkFits, WorkGives, commanding, work_control}
 use Rattle.shm_agents.proofs.Courses.{client_long, front_more, line_behind, take_more, told_aside, told_on}
-use Rattle.shm_agents.proofs.Effects.{behind_none}
-use Rattle.shm_agents.proofs.Folding.{HasRoom, command_leaves}
-use Rattle.shm_agents.proofs.Unspent.{command_unspent, unspent_more}
-use Rattle.shm_agents.proofs.Lines.{command_line}
+use Rattle.shm_agents.proofs.{Effects.behind_none, Folding.{HasRoom, command_leaves}}
+use Rattle.shm_agents.proofs.{Unspent.{command_unspent, unspent_more}, Lines.command_line}
 use Rattle.shm_agents.proofs.Trails.{after_first, after_second, answer_inside, answer_last, begun_more, begun_on, entries_more, entries_rest, left_same, many_more, runs_more, told_spelled}
 use Rattle.shm_agents.proofs.WorkLaws.{behind_fits, behind_fresh, behind_going, behind_me, work_laws}
 
@@ -278,8 +246,8 @@ module _ (s : Scripted) (x : Playing) (e : Account) (h : IsPlaying s x e) (n : �
       work_was =
           sym h.course
           ∙ (ap (λ (z : Work). after_all work_control z before) command_at.2
-          ∙ (after_second (or_control join_control (calls_control recover_parts recover_plan)) (or_control command_control (calls_control leave_parts leave_plan)) (First (command_of x.me command_at.0)) before
-          ∙ ap Second (after_first command_control (calls_control leave_parts leave_plan) (command_of x.me command_at.0) before)))
+          ∙ (after_second (or_control join_control (calls_control recover_parts recover_steered)) (or_control command_control (calls_control leave_parts leave_steered)) (First (command_of x.me command_at.0)) before
+          ∙ ap Second (after_first command_control (calls_control leave_parts leave_steered) (command_of x.me command_at.0) before)))
 
       answer : answer_along command_control (command_of x.me command_at.0) e2.memo.call ≡ Some a
       answer =

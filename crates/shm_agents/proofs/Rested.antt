@@ -1,18 +1,12 @@
 -- what follows of the agents of a script that stand where none of them is at work: who they are, what each of them began, and that nothing but the entries was told of commands
 use Rattle.std.proofs.Common.{◌≡◌, ◌≢◌, ℕ, zero, suc, ◌+◌, true, false, List, [], ◌∷◌, take, refl, sym, ap, subst, arith, inl, inr}
 use Rattle.std.specs.Prelude.{Some, None, slice_get}
-use Rattle.shm_graph.specs.declared.memo.Agent.{Agent}
-use Rattle.shm_graph.specs.declared.memo.Fate.TheVariants.{Ended}
-use Rattle.shm_graph.specs.declared.run.Account.{Account}
-use Rattle.shm_graph.specs.declared.run.Start.{Start}
+use Rattle.shm_graph.specs.declared.{memo.{Agent.Agent, Fate.TheVariants.Ended}, run.{Account.Account, Start.Start}}
 use Rattle.shm_graph.specs.Runs.{told_left}
-use Rattle.shm_script.specs.declared.line.Line.{Line}
-use Rattle.shm_script.specs.Values.{Scripted}
-use Rattle.shm_agents.specs.declared.agents.Standing.{Standing}
-use Rattle.shm_agents.specs.declared.agents.Standing.TheVariants.{AtWork, Dead}
+use Rattle.shm_script.specs.{declared.line.Line.Line, Values.Scripted}
+use Rattle.shm_agents.specs.declared.agents.Standing.{Standing, TheVariants.{AtWork, Dead}}
 use Rattle.shm_agents.specs.Agents.{Fallen, Fresh, HasParted, IsFallen, Mended, Mending, Parted, Playing, Plays, Stage, Stands, is_standing_dead, one_agent}
-use Rattle.shm_agents.specs.Courses.{AreAgents, AreCommandsTold, AreScriptAgents, client_lines}
-use Rattle.shm_agents.specs.Turns.{lives_of}
+use Rattle.shm_agents.specs.{Courses.{AreAgents, AreCommandsTold, AreScriptAgents, client_lines}, Turns.lives_of}
 
 -- a client that left after at most the word steps of its life
 one_ended : (lines : List Line) (lives : List ℕ) (n left : ℕ) → slice_get lives 0 ≡ Some (left + n) → AreAgents lines lives (one_agent n Ended) (client_lines lines ∷ []) false

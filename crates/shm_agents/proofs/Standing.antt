@@ -1,26 +1,14 @@
 -- what follows of the agents of a script that stand in a pool
 use Rattle.std.proofs.Common.{◌≡◌, ◌≢◌, ℕ, zero, suc, ◌+◌, ◌-◌, ◌<◌, ◌≤◌, Bool, true, false, cond, min, List, [], ◌∷◌, ◌++◌, map, length, refl, sym, ap, ◌∙◌, arith, inl, inr}
-use Rattle.std.specs.Prelude.{◌⊎◌, Option, Some, None, slice_get, slice_index}
-use Rattle.std.specs.Option.{option_map}
-use Rattle.std.proofs.Math.Nat.{min-eq_left}
-use Rattle.std.proofs.lemmas.Bool.{cond-false, cond-true, true≢false}
-use Rattle.std.proofs.lemmas.List.{length-append}
+use Rattle.std.proofs.{Math.Nat.min-eq_left, lemmas.{Bool.{cond-false, cond-true, true≢false}, List.length-append}}
 use Rattle.std.proofs.lemmas.Option.{get_or_from_slice_get}
-use Rattle.shm_graph.specs.declared.ask.Me.{Me}
-use Rattle.shm_graph.specs.declared.memo.Agent.{Agent}
-use Rattle.shm_graph.specs.declared.memo.Fate.{Fate}
-use Rattle.shm_graph.specs.declared.memo.Fate.TheVariants.{Acts, Ended, Died}
-use Rattle.shm_graph.specs.declared.memo.Kind.TheVariants.{Client, Recoverer}
-use Rattle.shm_graph.specs.declared.run.Account.{Account}
-use Rattle.shm_graph.specs.declared.run.Start.{Start}
-use Rattle.shm_graph.specs.Agents.{acts, acts_by, is_acting, last_agent}
-use Rattle.shm_graph.specs.Runs.{fell_by, is_dead}
-use Rattle.shm_graph.specs.Tells.{after_all}
+use Rattle.std.specs.{Prelude.{◌⊎◌, Option, Some, None, slice_get, slice_index}, Option.option_map}
+use Rattle.shm_graph.specs.declared.{ask.Me.Me, memo.{Agent.Agent, Fate.{Fate, TheVariants.{Acts, Ended, Died}}}}
+use Rattle.shm_graph.specs.declared.{memo.Kind.TheVariants.{Client, Recoverer}, run.{Account.Account, Start.Start}}
+use Rattle.shm_graph.specs.{Agents.{acts, acts_by, is_acting, last_agent}, Runs.{fell_by, is_dead}, Tells.after_all}
 use Rattle.shm_graph.proofs.Memos.MemoSteps.{last-append}
 use Rattle.shm_recover.specs.Recover.Control.{recover_line}
-use Rattle.shm_script.specs.declared.line.Line.{Line}
-use Rattle.shm_script.specs.declared.log.Entry.{Entry}
-use Rattle.shm_script.specs.Values.{Scripted}
+use Rattle.shm_script.specs.{declared.{line.Line.Line, log.Entry.Entry}, Values.Scripted}
 use Rattle.shm_agents.specs.declared.agents.Standing.TheVariants.{AtWork, Dead}
 use Rattle.shm_agents.specs.Agents.{Fallen, Fresh, IsFallen, IsFresh, IsMending, IsPlaying, Mended, Mending, Parted, Playing, Plays, Stage, Stands, behind}
 use Rattle.shm_agents.specs.Turns.{agent_of, answered_of, begun_last, ended_by, first_of, is_ended, life_of, lives_of, next_by, over_first, steps_by, steps_of_agent, work_at}

@@ -1,24 +1,12 @@
 -- trails and what was told of an identity
 use Rattle.std.proofs.Common.{◌≡◌, ℕ, ◌+◌, Bool, true, false, List, [], ◌∷◌, ◌++◌, length, refl, ap, ◌∙◌, arith}
-use Rattle.std.specs.Prelude.{if◌then◌else◌, Option, Some, None}
-use Rattle.std.specs.Option.{option_map}
 use Rattle.std.proofs.lemmas.List.{length-append}
-use Rattle.shm_graph.specs.declared.ask.Me.{Me}
-use Rattle.shm_graph.specs.declared.memo.Seen.{Seen}
-use Rattle.shm_graph.specs.declared.run.Account.{Account}
-use Rattle.shm_graph.specs.declared.run.LoggedLine.{LoggedLine}
-use Rattle.shm_graph.specs.Asks.{Trail}
-use Rattle.shm_graph.specs.Laws.{Control}
-use Rattle.shm_graph.specs.Runs.{begun_by, told_by, told_left}
-use Rattle.shm_graph.specs.Tells.{after_all}
-use Rattle.shm_calls.specs.declared.or.Or.{Or}
-use Rattle.shm_calls.specs.declared.or.Or.TheVariants.{First, Second}
-use Rattle.shm_calls.specs.Deciding.{StillRuns}
-use Rattle.shm_calls.specs.Either.{or_control}
-use Rattle.shm_script.specs.declared.line.Line.{Line}
+use Rattle.std.specs.{Prelude.{if◌then◌else◌, Option, Some, None}, Option.option_map}
+use Rattle.shm_graph.specs.declared.{ask.Me.Me, memo.Seen.Seen, run.{Account.Account, LoggedLine.LoggedLine}}
+use Rattle.shm_graph.specs.{Asks.Trail, Laws.Control, Runs.{begun_by, told_by, told_left}, Tells.after_all}
+use Rattle.shm_calls.specs.{declared.or.Or.{Or, TheVariants.{First, Second}}, Deciding.StillRuns, Either.or_control}
+use Rattle.shm_script.specs.{declared.{line.Line.Line, log.Entry.Entry}, Text.line_spelled}
 use Rattle.shm_script.specs.declared.line.Line.TheVariants as line
-use Rattle.shm_script.specs.declared.log.Entry.{Entry}
-use Rattle.shm_script.specs.Text.{line_spelled}
 use Rattle.shm_agents.specs.Logs.{AreEntries, IsEntry, answer_along}
 
 -- ---- trails

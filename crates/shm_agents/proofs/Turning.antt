@@ -1,46 +1,30 @@
 -- a word step of the agents that stand where they work
 use Rattle.std.proofs.Common.{◌≡◌, ℕ, ◌+◌, ◌^◌, ◌<◌, ◌≤◌, Bool, true, false, cond, List, [], ◌∷◌, ◌++◌, length, refl, sym, ap, ◌∙◌, subst, inl, inr, Result, arith}
-use Rattle.std.specs.Prelude.{Option, Some, None, Ok, slice_get}
-use Rattle.std.specs.List.{AllByRecursion}
 use Rattle.std.proofs.lemmas.Bool.{true≢false}
-use Rattle.shm_words.specs.declared.geometry.Geometry.{Geometry}
-use Rattle.shm_words.specs.Layout.{GeometryFits}
-use Rattle.shm_graph.specs.declared.ask.Life.{Life}
-use Rattle.shm_graph.specs.declared.ask.Me.{Me}
-use Rattle.shm_graph.specs.declared.memo.Kind.TheVariants.{Client, Recoverer}
-use Rattle.shm_graph.specs.declared.memo.Memo.{Memo}
-use Rattle.shm_graph.specs.declared.memo.Step.{Step}
-use Rattle.shm_graph.specs.declared.run.Account.{Account}
-use Rattle.shm_graph.specs.declared.run.Start.{Start}
-use Rattle.shm_graph.specs.declared.spot.Spot.TheVariants.{Era}
-use Rattle.shm_graph.specs.Agents.{acts, acts_by, last_agent, steps_made}
-use Rattle.shm_graph.specs.Laws.{Outcome, step_of}
-use Rattle.shm_graph.specs.Runs.{Stood, account_after, account_entered, first_account}
-use Rattle.shm_graph.specs.Views.{own_word}
+use Rattle.std.specs.{Prelude.{Option, Some, None, Ok, slice_get}, List.AllByRecursion}
+use Rattle.shm_words.specs.{declared.geometry.Geometry.Geometry, Layout.GeometryFits}
+use Rattle.shm_graph.specs.declared.{ask.{Life.Life, Me.Me}, memo.{Kind.TheVariants.{Client, Recoverer}, Memo.Memo}}
+use Rattle.shm_graph.specs.declared.{memo.Step.Step, run.{Account.Account, Start.Start}, spot.Spot.TheVariants.Era}
+use Rattle.shm_graph.specs.{Agents.{acts, acts_by, last_agent, steps_made}, Laws.{Outcome, step_of}}
+use Rattle.shm_graph.specs.{Runs.{Stood, account_after, account_entered, first_account}, Views.own_word}
 use Rattle.shm_graph.specs.Whole.{fits_now, gives_now}
 use Rattle.shm_graph.proofs.Memos.MemoSteps.{last-append}
 use Rattle.shm_plain.specs.Tracks.{kind_next}
 use Rattle.shm_work.specs.Working.{IsWorkOf, MayWork, ready_account}
 use Rattle.shm_calls.specs.declared.or.Or.TheVariants.{First, Second}
 use Rattle.shm_count.specs.declared.answer.EraSpent.{EraSpent}
-use Rattle.shm_recover.specs.Join.{JoinGives, join_fresh}
-use Rattle.shm_recover.specs.Join.Keeps.{join_begins}
-use Rattle.shm_script.specs.declared.line.Line.{Line}
-use Rattle.shm_script.specs.declared.log.Answer.{Answer}
-use Rattle.shm_script.specs.declared.log.End.TheVariants as end
-use Rattle.shm_script.specs.declared.log.Entry.{Entry}
-use Rattle.shm_script.specs.Ranges.{LineFits}
+use Rattle.shm_recover.specs.Join.{JoinGives, join_fresh, Keeps.join_begins}
+use Rattle.shm_script.specs.{declared.{line.Line.Line, log.{Answer.Answer, Entry.Entry}}, Ranges.LineFits}
 use Rattle.shm_script.specs.Values.{Scripted}
-use Rattle.shm_agents.specs.declared.agents.Standing.{Standing}
-use Rattle.shm_agents.specs.declared.agents.Standing.TheVariants.{AtWork, Gone}
+use Rattle.shm_script.specs.declared.log.End.TheVariants as end
+use Rattle.shm_agents.specs.declared.agents.Standing.{Standing, TheVariants.{AtWork, Gone}}
 use Rattle.shm_agents.specs.Agents.{HasParted, IsFallen, IsFresh, IsMended, IsMending, IsPlaying, IsSettled, MayPlay, Playing, Stage, Stands, behind}
-use Rattle.shm_agents.specs.Agents as at
 use Rattle.shm_agents.specs.Work.{Work, WorkAnswer, WorkFits, WorkGives, joining as join_work, recovering, work_control}
-use Rattle.shm_agents.proofs.OwnEras.{own_most}
+use Rattle.shm_agents.specs.Agents as at
+use Rattle.shm_agents.proofs.{OwnEras.own_most, Standing.fell_quiet}
 use Rattle.shm_agents.proofs.Joining as joining
 use Rattle.shm_agents.proofs.Mending as mending
 use Rattle.shm_agents.proofs.Playing as playing
-use Rattle.shm_agents.proofs.Standing.{fell_quiet}
 
 -- one that is at work isn't gone
 not_gone : (z : Standing) {A : Type 0} → z ≡ AtWork → z ≡ Gone → A

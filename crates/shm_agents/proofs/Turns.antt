@@ -1,39 +1,24 @@
 -- a turn of the agents that stand in a pool, by what a word step says
 use Rattle.std.proofs.Common.{◌≡◌, ℕ, ◌+◌, ◌<◌, ◌≤◌, true, false, List, [], ◌∷◌, ◌++◌, length, refl, sym, ap, ◌∙◌, subst, Result, arith}
-use Rattle.std.specs.Prelude.{Option, Some, None, Ok, drop, slice_get}
 use Rattle.std.proofs.lemmas.Option.{slice_get_within}
-use Rattle.shm_words.specs.declared.geometry.Geometry.{Geometry}
-use Rattle.shm_words.specs.Layout.{GeometryFits}
-use Rattle.shm_graph.specs.declared.ask.Life.{Life}
-use Rattle.shm_graph.specs.declared.ask.Turn.{Turn}
-use Rattle.shm_graph.specs.declared.ask.Turn.TheVariants.{More, Done}
-use Rattle.shm_graph.specs.declared.memo.Memo.{Memo}
-use Rattle.shm_graph.specs.declared.memo.Step.{Step}
+use Rattle.std.specs.Prelude.{Option, Some, None, Ok, drop, slice_get}
+use Rattle.shm_words.specs.{declared.geometry.Geometry.Geometry, Layout.GeometryFits}
+use Rattle.shm_graph.specs.declared.{ask.{Life.Life, Turn.{Turn, TheVariants.{More, Done}}}, memo.Memo.Memo}
+use Rattle.shm_graph.specs.{declared.{memo.Step.Step, run.{Account.Account, Start.Start}}, Laws.{is_died, turn_of}}
+use Rattle.shm_graph.specs.{Runs.Stood, Whole.{fits_now, gives_now}}
 use Rattle.shm_graph.specs.Laws as laws
-use Rattle.shm_graph.specs.Laws.{is_died, turn_of}
-use Rattle.shm_graph.specs.declared.run.Account.{Account}
-use Rattle.shm_graph.specs.declared.run.Start.{Start}
-use Rattle.shm_graph.specs.Runs.{Stood}
-use Rattle.shm_graph.specs.Whole.{fits_now, gives_now}
 use Rattle.shm_work.specs.Working.{IsWorkOf, MayWork, Worked, ready_account}
 use Rattle.shm_plain.proofs.Calling.{answered_is, lives}
 use Rattle.shm_calls.specs.declared.or.Or.TheVariants.{First, Second}
 use Rattle.shm_count.specs.declared.answer.EraSpent.{EraSpent}
-use Rattle.shm_script.specs.declared.line.Line.{Line}
-use Rattle.shm_script.specs.declared.log.Answer.{Answer}
+use Rattle.shm_script.specs.{declared.{line.Line.Line, log.Answer.Answer}, Ranges.LineFits, Values.Scripted}
 use Rattle.shm_script.specs.declared.log.End.TheVariants as end
-use Rattle.shm_script.specs.Ranges.{LineFits}
-use Rattle.shm_script.specs.Values.{Scripted}
 use Rattle.shm_table.specs.Command.{MayStand}
-use Rattle.shm_agents.specs.declared.agents.Standing.{Standing}
-use Rattle.shm_agents.specs.declared.agents.Standing.TheVariants.{AtWork, Gone, Dead}
-use Rattle.shm_agents.specs.Agents.{Playing, Stands, behind}
-use Rattle.shm_agents.specs.TurnsLeft.{turns_at, turns_by, turns_given, turns_of}
-use Rattle.shm_agents.specs.Turns.{lives_of}
-use Rattle.shm_agents.specs.Work.{Work, WorkAnswer, WorkFits, WorkGives, work_control}
-use Rattle.shm_agents.proofs.Given.{given_worked}
+use Rattle.shm_agents.specs.declared.agents.Standing.{Standing, TheVariants.{AtWork, Gone, Dead}}
+use Rattle.shm_agents.specs.{Agents.{Playing, Stands, behind}, TurnsLeft.{turns_at, turns_by, turns_given, turns_of}}
+use Rattle.shm_agents.specs.{Turns.lives_of, Work.{Work, WorkAnswer, WorkFits, WorkGives, work_control}}
+use Rattle.shm_agents.proofs.{Given.given_worked, WorkLaws.{line_fits, may_stand}}
 use Rattle.shm_agents.proofs.Turning as turning
-use Rattle.shm_agents.proofs.WorkLaws.{line_fits, may_stand}
 
 -- ---- the turns that are left
 

@@ -1,33 +1,16 @@
 -- no command is refused for a spent own era, where the own era has room
 use Rattle.std.proofs.Common.{ℕ, Bool, true, false, List, [], ◌∷◌, ◌++◌, arith}
-use Rattle.shm_graph.specs.declared.ask.Me.{Me}
-use Rattle.shm_graph.specs.declared.memo.Memo.{Memo}
-use Rattle.shm_graph.specs.Asks.{Trail}
-use Rattle.shm_graph.specs.Events.{Event}
-use Rattle.shm_calls.specs.declared.or.Or.TheVariants.{First, Second}
-use Rattle.shm_calls.specs.Deciding.{where_decided}
-use Rattle.shm_script.specs.declared.line.Line.{Line}
+use Rattle.shm_graph.specs.{declared.{ask.Me.Me, memo.Memo.Memo}, Asks.Trail, Events.Event}
+use Rattle.shm_calls.specs.{declared.or.Or.TheVariants.{First, Second}, Deciding.where_decided}
+use Rattle.shm_script.specs.declared.{line.Line.Line, log.{Answer.Answer, Entry.Entry}}
 use Rattle.shm_script.specs.declared.line.Line.TheVariants as line
-use Rattle.shm_script.specs.declared.log.Answer.{Answer}
 use Rattle.shm_script.specs.declared.log.Answer.TheVariants as answer
-use Rattle.shm_script.specs.declared.log.Entry.{Entry}
 use Rattle.shm_table.specs.Command.{CommandCall, CommandGives, command_effect, command_of}
 use Rattle.shm_table.specs.Command.Laws.{copies_give, dels_give, gets_give, puts_give, recvs_give, sends_give}
-use Rattle.shm_table.specs.CopyKey.Control.{copying}
-use Rattle.shm_table.specs.CopyKey.{CopyLeaves}
-use Rattle.shm_table.specs.Del.Control.{deleting}
-use Rattle.shm_table.specs.Del.{DelLeaves}
-use Rattle.shm_table.specs.Get.Control.{getting}
-use Rattle.shm_table.specs.Get.{GetLeaves}
-use Rattle.shm_table.specs.Put.Control.{putting}
-use Rattle.shm_table.specs.Put.{PutLeaves}
-use Rattle.shm_table.specs.RecvKey.Control.{receiving_key}
-use Rattle.shm_table.specs.RecvKey.{RecvLeaves}
-use Rattle.shm_table.specs.SendKey.Control.{sending_key}
-use Rattle.shm_table.specs.SendKey.{SendKeyLeaves}
-use Rattle.shm_agents.specs.Agents.{shown_by}
-use Rattle.shm_agents.specs.Logs.{AreUnspent, IsUnspent, with_effect}
-use Rattle.shm_agents.specs.Work.{Work}
+use Rattle.shm_table.specs.{CopyKey.{Control.copying, CopyLeaves}, Del.{Control.deleting, DelLeaves}}
+use Rattle.shm_table.specs.{Get.{Control.getting, GetLeaves}, Put.{Control.putting, PutLeaves}}
+use Rattle.shm_table.specs.{RecvKey.{Control.receiving_key, RecvLeaves}, SendKey.{Control.sending_key, SendKeyLeaves}}
+use Rattle.shm_agents.specs.{Agents.shown_by, Logs.{AreUnspent, IsUnspent, with_effect}, Work.Work}
 use Rattle.shm_agents.proofs.Folding.{HasRoom}
 
 -- ---- what a command answers

@@ -1,69 +1,31 @@
 -- the laws of pieces of work, and what holds of each before its first word step
 use Rattle.std.proofs.Common.{◌≡◌, ℕ, zero, suc, ◌^◌, ◌<◌, ◌≤◌, true, false, List, [], ◌∷◌, get_or, length, refl, sym, subst, arith}
-use Rattle.std.specs.Prelude.{Some, slice_get}
-use Rattle.std.specs.List.{AllByRecursion}
+use Rattle.std.specs.{Prelude.{Some, slice_get}, List.AllByRecursion}
 use Rattle.shm_words.specs.Layout.{GeometryFits}
-use Rattle.shm_graph.specs.declared.ask.Me.{Me}
-use Rattle.shm_graph.specs.declared.memo.Memo.{Memo}
-use Rattle.shm_graph.specs.Laws.{Laws}
-use Rattle.shm_calls.specs.CallsControl.{calls_control}
-use Rattle.shm_calls.specs.CallsFit.{CallsFits, CallsGives}
-use Rattle.shm_calls.specs.CallsKeep.{calls_begin, calls_laws}
-use Rattle.shm_calls.specs.Either.{OrFits, OrGives, or_control, or_laws}
-use Rattle.shm_ref.specs.DropRoots.Laws.{roots_laws}
-use Rattle.shm_recover.specs.FinishTakes.Laws.{finish_laws}
-use Rattle.shm_recover.specs.GiveUp.Laws.{give_laws}
-use Rattle.shm_recover.specs.Mend.Laws.{mend_laws}
-use Rattle.shm_recover.specs.Recover.Control.{recover_parts}
-use Rattle.shm_recover.specs.Recover.{recover_plan}
-use Rattle.shm_recover.specs.Recover.Laws.{recover_laws}
-use Rattle.shm_recover.specs.Scan.Laws.{scan_laws}
-use Rattle.shm_recover.specs.TakeBack.Laws.{back_laws}
-use Rattle.shm_recover.specs.Join.{JoinFits, JoinGives, join_control}
-use Rattle.shm_recover.specs.Join.Keeps.{join_laws}
-use Rattle.shm_recover.specs.Leave.Control.{leave_parts, leaving as leave_state}
-use Rattle.shm_recover.specs.Leave.{leave_plan}
-use Rattle.shm_recover.specs.Leave.Gone.{idle_may_leave}
-use Rattle.shm_recover.specs.Leave.Laws.{leave_begin, leave_laws}
-use Rattle.shm_script.specs.declared.line.Line.{Line}
-use Rattle.shm_script.specs.declared.line.Line.TheVariants as line
-use Rattle.shm_script.specs.Ranges.{LineFits}
-use Rattle.shm_table.specs.Command.{CommandFits, CommandGives, MayStand, command_control, command_of}
-use Rattle.shm_table.specs.Command.Laws.{command_laws}
-use Rattle.shm_table.specs.Commands.{MayCommand}
-use Rattle.shm_table.specs.CopyKey.Control.{copy_parts, copying}
-use Rattle.shm_table.specs.CopyKey.{copy_plan}
-use Rattle.shm_table.specs.CopyKey.Laws.{copy_begin, copy_laws}
-use Rattle.shm_table.specs.Del.Control.{del_parts, deleting}
-use Rattle.shm_table.specs.Del.{del_plan}
-use Rattle.shm_table.specs.Del.Laws.{del_begin, del_laws}
-use Rattle.shm_table.specs.Enter.Laws.{enter_laws}
-use Rattle.shm_table.specs.FetchHead.Laws.{fetch_head_laws}
-use Rattle.shm_table.specs.Fetch.Laws.{fetch_laws}
-use Rattle.shm_table.specs.Get.Control.{get_parts, getting}
-use Rattle.shm_table.specs.Get.{get_plan}
-use Rattle.shm_table.specs.Get.Laws.{get_begin, get_laws}
-use Rattle.shm_table.specs.Locate.{MayLocate}
-use Rattle.shm_table.specs.Locate.Laws.{locate_laws}
-use Rattle.shm_table.specs.OpenTable.Laws.{open_laws}
-use Rattle.shm_table.specs.Put.Control.{put_parts, putting}
-use Rattle.shm_table.specs.Put.{put_plan}
-use Rattle.shm_table.specs.Put.Laws.{put_laws}
-use Rattle.shm_table.specs.PutRoot.Control.{put_root_parts}
-use Rattle.shm_table.specs.PutRoot.{put_root_plan}
-use Rattle.shm_table.specs.PutRoot.Laws.{put_root_laws}
-use Rattle.shm_table.specs.RecvKey.Control.{receiving_key, recv_parts}
-use Rattle.shm_table.specs.RecvKey.{recv_plan}
-use Rattle.shm_table.specs.RecvKey.Laws.{recv_begin, recv_laws}
-use Rattle.shm_table.specs.Replace.Laws.{replace_laws}
-use Rattle.shm_table.specs.SendKey.Control.{send_key_parts, sending_key}
-use Rattle.shm_table.specs.SendKey.{send_key_plan}
-use Rattle.shm_table.specs.SendKey.Laws.{send_key_begin, send_key_laws}
-use Rattle.shm_table.specs.TakeHead.Laws.{take_head_laws}
+use Rattle.shm_graph.specs.{declared.{ask.Me.Me, memo.Memo.Memo}, Laws.Laws}
+use Rattle.shm_calls.specs.{CallsControl.calls_control, CallsFit.{CallsFits, CallsGives}}
+use Rattle.shm_calls.specs.{CallsKeep.{calls_begin, calls_laws}, Either.{OrFits, OrGives, or_control, or_laws}}
 use Rattle.shm_calls.specs.Plans.{PlanLaws}
-use Rattle.shm_script.specs.declared.log.Entry.{Entry}
-use Rattle.shm_agents.specs.Agents.{IsReady, behind}
-use Rattle.shm_agents.specs.Work.{WorkFits, WorkGives, commanding, leaving, work_control}
+use Rattle.shm_ref.specs.DropRoots.Laws.{roots_laws}
+use Rattle.shm_recover.specs.{FinishTakes.Laws.finish_laws, GiveUp.Laws.give_laws, Mend.Laws.mend_laws}
+use Rattle.shm_recover.specs.Recover.{Control.{recover_parts, recover_steered}, recover_plan, Laws.recover_laws}
+use Rattle.shm_recover.specs.{Scan.Laws.scan_laws, TakeBack.Laws.back_laws, Join.{JoinFits, JoinGives, join_control}}
+use Rattle.shm_recover.specs.{Join.Keeps.join_laws, Leave.Control.{leave_parts, leaving as leave_state, leave_steered}}
+use Rattle.shm_recover.specs.Leave.{leave_plan, Gone.idle_may_leave, Laws.{leave_begin, leave_laws}}
+use Rattle.shm_script.specs.{declared.{line.Line.Line, log.Entry.Entry}, Ranges.LineFits}
+use Rattle.shm_script.specs.declared.line.Line.TheVariants as line
+use Rattle.shm_table.specs.Command.{CommandFits, CommandGives, MayStand, command_control, command_of, Laws.command_laws}
+use Rattle.shm_table.specs.{Commands.MayCommand, CopyKey.{Control.{copy_parts, copying}, copy_plan}}
+use Rattle.shm_table.specs.{CopyKey.Laws.{copy_begin, copy_laws}, Del.{Control.{del_parts, deleting}, del_plan}}
+use Rattle.shm_table.specs.{Del.Laws.{del_begin, del_laws}, Enter.Laws.enter_laws, FetchHead.Laws.fetch_head_laws}
+use Rattle.shm_table.specs.{Fetch.Laws.fetch_laws, Get.{Control.{get_parts, getting}, get_plan}}
+use Rattle.shm_table.specs.{Get.Laws.{get_begin, get_laws}, Locate.{MayLocate, Laws.locate_laws}}
+use Rattle.shm_table.specs.{OpenTable.Laws.open_laws, Put.{Control.{put_parts, putting}, put_plan, Laws.put_laws}}
+use Rattle.shm_table.specs.PutRoot.{Control.put_root_parts, put_root_plan, Laws.put_root_laws}
+use Rattle.shm_table.specs.RecvKey.{Control.{receiving_key, recv_parts}, recv_plan, Laws.{recv_begin, recv_laws}}
+use Rattle.shm_table.specs.{Replace.Laws.replace_laws, SendKey.{Control.{send_key_parts, sending_key}, send_key_plan}}
+use Rattle.shm_table.specs.{SendKey.Laws.{send_key_begin, send_key_laws}, TakeHead.Laws.take_head_laws}
+use Rattle.shm_agents.specs.{Agents.{IsReady, behind}, Work.{WorkFits, WorkGives, commanding, leaving, work_control}}
 
 -- ---- the laws
 
@@ -78,11 +40,11 @@ recoveries = recover_laws mend_laws roots_laws back_laws finish_laws scan_laws g
 
 pub work_laws : Laws work_control WorkFits WorkGives
 work_laws =
-    or_laws (or_control join_control (calls_control recover_parts recover_plan)) (or_control command_control (calls_control leave_parts leave_plan))
+    or_laws (or_control join_control (calls_control recover_parts recover_steered)) (or_control command_control (calls_control leave_parts leave_steered))
     (OrFits JoinFits (CallsFits recover_parts recover_plan)) (OrGives JoinGives (CallsGives recover_parts recover_plan))
     (OrFits CommandFits (CallsFits leave_parts leave_plan)) (OrGives CommandGives (CallsGives leave_parts leave_plan))
-    (or_laws join_control (calls_control recover_parts recover_plan) JoinFits JoinGives (CallsFits recover_parts recover_plan) (CallsGives recover_parts recover_plan) join_laws (calls_laws recover_parts recover_plan recoveries))
-    (or_laws command_control (calls_control leave_parts leave_plan) CommandFits CommandGives (CallsFits leave_parts leave_plan) (CallsGives leave_parts leave_plan) commands (calls_laws leave_parts leave_plan leave_laws))
+    (or_laws join_control (calls_control recover_parts recover_steered) JoinFits JoinGives (CallsFits recover_parts recover_plan) (CallsGives recover_parts recover_plan) join_laws (calls_laws recover_parts recover_plan recoveries))
+    (or_laws command_control (calls_control leave_parts leave_steered) CommandFits CommandGives (CallsFits leave_parts leave_plan) (CallsGives leave_parts leave_plan) commands (calls_laws leave_parts leave_plan leave_laws))
 
 -- ---- what comes behind commands, before its first word step
 

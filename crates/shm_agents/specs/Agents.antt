@@ -2,43 +2,23 @@
 use Rattle.std.specs.Prelude.{◌≡◌, ℕ, zero, suc, ◌+◌, ◌^◌, ◌==◌, ◌&&◌, ◌<◌, ◌≤◌, ◌⊎◌, Bool, true, false, if◌then◌else◌, Option, Some, None, List, [], ◌∷◌, ◌++◌, length, map, sum, take, slice_get, slice_index}
 use Rattle.std.specs.FinMap as finmap
 use Rattle.shm_words.specs.Layout.{GeometryFits}
-use Rattle.shm_graph.specs.declared.ask.Life.{Life}
-use Rattle.shm_graph.specs.declared.ask.Me.{Me}
-use Rattle.shm_graph.specs.declared.memo.Agent.{Agent}
-use Rattle.shm_graph.specs.declared.memo.Fate.{Fate}
-use Rattle.shm_graph.specs.declared.memo.Fate.TheVariants.{Acts, Ended}
-use Rattle.shm_graph.specs.declared.memo.Kind.TheVariants.{Client, Recoverer}
-use Rattle.shm_graph.specs.declared.memo.Memo.{Memo}
+use Rattle.shm_graph.specs.declared.{ask.{Life.Life, Me.Me}, memo.{Agent.Agent, Fate.{Fate, TheVariants.{Acts, Ended}}}}
+use Rattle.shm_graph.specs.declared.{memo.{Kind.TheVariants.{Client, Recoverer}, Memo.Memo}, run.Account.Account}
+use Rattle.shm_graph.specs.declared.run.{LoggedLine.LoggedLine, Start.Start}
+use Rattle.shm_graph.specs.{Agents.{last_agent, recovers, steps_made, steps_of}, Asks.{Trail, call_before}}
+use Rattle.shm_graph.specs.{Held.is_loose, Idle.IsIdle, Laws.GoneNow, Runs.{fell_by, first_account, told_left}}
+use Rattle.shm_graph.specs.{Tells.after_all, Whole.fits_now}
 use Rattle.shm_graph.specs.declared.memo.Status.TheVariants as status
-use Rattle.shm_graph.specs.declared.run.Account.{Account}
-use Rattle.shm_graph.specs.declared.run.LoggedLine.{LoggedLine}
-use Rattle.shm_graph.specs.declared.run.Start.{Start}
-use Rattle.shm_graph.specs.Agents.{last_agent, recovers, steps_made, steps_of}
-use Rattle.shm_graph.specs.Asks.{Trail, call_before}
-use Rattle.shm_graph.specs.Held.{is_loose}
-use Rattle.shm_graph.specs.Idle.{IsIdle}
-use Rattle.shm_graph.specs.Laws.{GoneNow}
-use Rattle.shm_graph.specs.Runs.{fell_by, first_account, told_left}
-use Rattle.shm_graph.specs.Tells.{after_all}
-use Rattle.shm_graph.specs.Whole.{fits_now}
-use Rattle.shm_calls.specs.declared.or.Or.TheVariants.{First, Second}
-use Rattle.shm_calls.specs.Deciding.{StillRuns}
+use Rattle.shm_calls.specs.{declared.or.Or.TheVariants.{First, Second}, Deciding.StillRuns}
 use Rattle.shm_steps.specs.Reparting.{map_in}
 use Rattle.shm_recover.specs.Recover.Control.{recover_line}
-use Rattle.shm_script.specs.declared.line.Line.{Line}
-use Rattle.shm_script.specs.declared.log.Answer.{Answer}
-use Rattle.shm_script.specs.declared.log.End.{End}
+use Rattle.shm_script.specs.declared.{line.Line.Line, log.{Answer.Answer, End.End, Entry.Entry}}
+use Rattle.shm_script.specs.{Logged.{Logged, folded}, Ranges.ScriptFits, Values.Scripted}
 use Rattle.shm_script.specs.declared.log.End.TheVariants as end
-use Rattle.shm_script.specs.declared.log.Entry.{Entry}
-use Rattle.shm_script.specs.Logged.{Logged, folded}
-use Rattle.shm_script.specs.Ranges.{ScriptFits}
-use Rattle.shm_script.specs.Values.{Scripted}
 use Rattle.shm_table.specs.Command.{command_effect}
-use Rattle.shm_agents.specs.declared.agents.Standing.{Standing}
-use Rattle.shm_agents.specs.declared.agents.Standing.TheVariants.{AtWork, Gone, Dead}
+use Rattle.shm_agents.specs.declared.agents.Standing.{Standing, TheVariants.{AtWork, Gone, Dead}}
 use Rattle.shm_agents.specs.Courses.{AreAgents, AreCommandsTold, AreScriptAgents, client_lines}
-use Rattle.shm_agents.specs.Logs.{AreEntries, AreUnspent, IsLogOf, steps_first}
-use Rattle.shm_agents.specs.Turns.{lives_of}
+use Rattle.shm_agents.specs.{Logs.{AreEntries, AreUnspent, IsLogOf, steps_first}, Turns.lives_of}
 use Rattle.shm_agents.specs.Work.{Work, WorkAnswer, WorkFits, WorkGives, commanding, joining, leaving, recovering, work_control}
 
 -- what contracts see of the agents of a script: which script is theirs, the number of the agent that acts or comes next, what it runs or ran last, the word steps that it has left, the entries of the client, for how many there is room, how the client ended, and whether one of them is at work, the identity is gone, or all of them died

@@ -1,23 +1,13 @@
 -- the agents of a script with what each of them began, and what was told of its commands
 use Rattle.std.specs.Prelude.{◌≡◌, ℕ, ◌≤◌, ◌⊎◌, Bool, true, false, Option, Some, None, List, [], ◌∷◌, ◌++◌, length, map, take}
-use Rattle.shm_graph.specs.declared.ask.Me.{Me}
-use Rattle.shm_graph.specs.declared.memo.Agent.{Agent}
-use Rattle.shm_graph.specs.declared.memo.Fate.{Fate}
-use Rattle.shm_graph.specs.declared.memo.Fate.TheVariants.{Ended, Died}
-use Rattle.shm_graph.specs.declared.memo.Kind.TheVariants.{Client, Recoverer}
-use Rattle.shm_graph.specs.declared.run.LoggedLine.{LoggedLine}
+use Rattle.shm_graph.specs.declared.{ask.Me.Me, memo.{Agent.Agent, Fate.{Fate, TheVariants.{Ended, Died}}}}
+use Rattle.shm_graph.specs.declared.{memo.Kind.TheVariants.{Client, Recoverer}, run.LoggedLine.LoggedLine}
 use Rattle.shm_graph.specs.Runs.{is_dead}
 use Rattle.shm_queue.specs.Drain.Control.{drain_line}
-use Rattle.shm_recover.specs.Join.{join_line}
-use Rattle.shm_recover.specs.Leave.Control.{leave_line}
-use Rattle.shm_recover.specs.Recover.Control.{recover_line}
-use Rattle.shm_script.specs.declared.line.Line.{Line}
-use Rattle.shm_script.specs.declared.log.Answer.{Answer}
-use Rattle.shm_script.specs.declared.log.Entry.{Entry}
-use Rattle.shm_script.specs.Text.{line_spelled}
+use Rattle.shm_recover.specs.{Join.join_line, Leave.Control.leave_line, Recover.Control.recover_line}
+use Rattle.shm_script.specs.{declared.{line.Line.Line, log.{Answer.Answer, Entry.Entry}}, Text.line_spelled}
 use Rattle.shm_script.specs.Values.{Scripted}
-use Rattle.shm_agents.specs.Logs.{IsEntry, effect_along}
-use Rattle.shm_agents.specs.Turns.{lives_of}
+use Rattle.shm_agents.specs.{Logs.{IsEntry, effect_along}, Turns.lives_of}
 
 -- ---- agents, and what each of them began
 

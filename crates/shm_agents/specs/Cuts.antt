@@ -1,14 +1,9 @@
 -- agents of a script that are given up with some of their life left
 use Rattle.std.specs.Prelude.{◌≡◌, ℕ, ◌<◌, ◌≤◌, Bool, true, false, if◌then◌else◌, Some, List, [], ◌∷◌}
-use Rattle.shm_graph.specs.declared.memo.Status.TheVariants.{New}
-use Rattle.shm_graph.specs.declared.run.Account.{Account}
-use Rattle.shm_graph.specs.Agents.{acts, last_agent, steps_made}
-use Rattle.shm_graph.specs.Runs.{account_died, fell_by, told_left}
-use Rattle.shm_script.specs.declared.log.End.TheVariants.{Died}
-use Rattle.shm_script.specs.Values.{Scripted}
-use Rattle.shm_agents.specs.Agents.{IsFold, IsSettled, Playing}
-use Rattle.shm_agents.specs.Courses.{AreAgents}
-use Rattle.shm_agents.specs.Turns.{lives_of}
+use Rattle.shm_graph.specs.declared.{memo.Status.TheVariants.New, run.Account.Account}
+use Rattle.shm_graph.specs.{Agents.{acts, last_agent, steps_made}, Runs.{account_died, fell_by, told_left}}
+use Rattle.shm_script.specs.{declared.log.End.TheVariants.Died, Values.Scripted}
+use Rattle.shm_agents.specs.{Agents.{IsFold, IsSettled, Playing}, Courses.AreAgents, Turns.lives_of}
 
 -- the account once the agent that acts is dead
 abbrev pub account_cut : Account → Account

@@ -1,27 +1,14 @@
 -- the logs of a trace's clients, by what a pool accounts for of them
 use Rattle.std.specs.Prelude.{◌≡◌, ℕ, ◌+◌, Bool, true, false, Option, Some, None, List, [], ◌∷◌, ◌++◌, length, map, take, slice_get, slice_index}
-use Rattle.std.specs.Option.{is_some}
-use Rattle.std.specs.List.{AllByRecursion}
-use Rattle.shm_graph.specs.declared.ask.Me.{Me}
-use Rattle.shm_graph.specs.declared.memo.Agent.{Agent}
-use Rattle.shm_graph.specs.declared.memo.Fate.{Fate}
-use Rattle.shm_graph.specs.declared.memo.Fate.TheVariants as fate
-use Rattle.shm_graph.specs.declared.memo.Kind.TheVariants.{Client}
-use Rattle.shm_graph.specs.declared.run.LoggedLine.{LoggedLine}
-use Rattle.shm_graph.specs.Asks.{Trail}
-use Rattle.shm_graph.specs.Laws.{Control}
-use Rattle.shm_graph.specs.Runs.{account_at}
+use Rattle.std.specs.{Option.is_some, List.AllByRecursion}
+use Rattle.shm_graph.specs.declared.{ask.Me.Me, memo.{Agent.Agent, Fate.Fate, Kind.TheVariants.Client}}
+use Rattle.shm_graph.specs.{declared.run.LoggedLine.LoggedLine, Asks.Trail, Laws.Control, Runs.account_at}
 use Rattle.shm_graph.specs.Tells.{after_all}
+use Rattle.shm_graph.specs.declared.memo.Fate.TheVariants as fate
 use Rattle.shm_count.specs.Roots.{member}
 use Rattle.shm_plain.specs.Pools.{Pool}
-use Rattle.shm_script.specs.declared.line.Line.{Line}
-use Rattle.shm_script.specs.declared.log.Answer.{Answer}
-use Rattle.shm_script.specs.declared.log.Answer.TheVariants.{EraSpent}
-use Rattle.shm_script.specs.declared.log.End.{End}
-use Rattle.shm_script.specs.declared.log.End.TheVariants.{Ended, Died}
-use Rattle.shm_script.specs.declared.log.Entry.{Entry}
-use Rattle.shm_script.specs.Logged.{Logged}
-use Rattle.shm_script.specs.Values.{Scripted}
+use Rattle.shm_script.specs.declared.{line.Line.Line, log.{Answer.{Answer, TheVariants.EraSpent}, End.End}}
+use Rattle.shm_script.specs.{declared.log.{End.TheVariants.{Ended, Died}, Entry.Entry}, Logged.Logged, Values.Scripted}
 use Rattle.shm_script.specs.Text.{line_spelled}
 use Rattle.shm_table.specs.Command.{command_control, command_effect, command_of}
 use Rattle.shm_agents.specs.Turns.{lives_of}

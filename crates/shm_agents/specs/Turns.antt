@@ -1,14 +1,8 @@
 -- the turns of the agents of a script: which word step is made is told by the script and by what is accounted for of the identity
 use Rattle.std.specs.Prelude.{ℕ, zero, suc, ◌-◌, ◌^◌, ◌==◌, Bool, true, false, min, if◌then◌else◌, Option, Some, None, List, [], ◌∷◌, ◌++◌, length, slice_get, slice_index}
 use Rattle.std.specs.Option.{option_map}
-use Rattle.shm_graph.specs.declared.ask.Me.{Me}
-use Rattle.shm_graph.specs.declared.memo.Agent.{Agent}
-use Rattle.shm_graph.specs.declared.memo.Fate.{Fate}
-use Rattle.shm_graph.specs.declared.memo.Fate.TheVariants.{Ended}
-use Rattle.shm_graph.specs.declared.memo.Memo.{Memo}
-use Rattle.shm_graph.specs.declared.run.Account.{Account}
-use Rattle.shm_graph.specs.Agents.{acts, last_agent}
-use Rattle.shm_graph.specs.Tells.{after_all}
+use Rattle.shm_graph.specs.declared.{ask.Me.Me, memo.{Agent.Agent, Fate.{Fate, TheVariants.Ended}, Memo.Memo}}
+use Rattle.shm_graph.specs.{declared.run.Account.Account, Agents.{acts, last_agent}, Tells.after_all}
 use Rattle.shm_script.specs.Values.{Scripted}
 use Rattle.shm_agents.specs.Work.{Work, joining, recovering, work_control, work_of}
 

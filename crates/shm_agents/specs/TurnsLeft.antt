@@ -1,13 +1,8 @@
 -- the turns that the agents of a script have left at most, and those that were given to them: one for each word step, and one for each death
 use Rattle.std.specs.Prelude.{ℕ, ◌+◌, if◌then◌else◌, Option, Some, None, List, [], ◌∷◌, drop}
-use Rattle.shm_graph.specs.declared.memo.Agent.{Agent}
-use Rattle.shm_graph.specs.declared.run.Account.{Account}
-use Rattle.shm_graph.specs.Agents.{steps_made}
-use Rattle.shm_graph.specs.Runs.{is_dead}
+use Rattle.shm_graph.specs.{declared.{memo.Agent.Agent, run.Account.Account}, Agents.steps_made, Runs.is_dead}
 use Rattle.shm_script.specs.Values.{Scripted}
-use Rattle.shm_agents.specs.declared.agents.Standing.{Standing}
-use Rattle.shm_agents.specs.declared.agents.Standing.TheVariants.{AtWork, Gone, Dead}
-use Rattle.shm_agents.specs.Agents.{Playing}
+use Rattle.shm_agents.specs.{declared.agents.Standing.{Standing, TheVariants.{AtWork, Gone, Dead}}, Agents.Playing}
 use Rattle.shm_agents.specs.Turns.{lives_of}
 
 -- those of agents with these lives

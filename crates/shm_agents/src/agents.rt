@@ -3,20 +3,12 @@
 ghost use Rattle.std.specs.Prelude.{◌≡◌, ◌+◌, ◌<◌, ◌≤◌, ◌^◌, ◌++◌, ℕ, true, false, Some, [], ◌∷◌, length, slice_get, IfOk};
 ghost use Rattle.std.specs.Option.{is_some};
 ghost use Rattle.shm_words.specs.Layout.{GeometryFits};
-ghost use Rattle.shm_graph.specs.declared.run.Start.{Start as AStart};
-ghost use Rattle.shm_graph.specs.Agents.{acts};
-ghost use Rattle.shm_graph.specs.Runs.{first_account};
-ghost use Rattle.shm_graph.specs.Laws.{step_of};
-ghost use Rattle.shm_script.specs.declared.line.Line.{Line as ALine};
-ghost use Rattle.shm_script.specs.declared.log.End.TheVariants.{Died};
-ghost use Rattle.shm_script.specs.Ranges.{ScriptFits};
+ghost use Rattle.shm_graph.specs.{declared.run.Start.Start as AStart, Agents.acts, Runs.first_account, Laws.step_of};
+ghost use Rattle.shm_script.specs.{declared.{line.Line.Line as ALine, log.End.TheVariants.Died}, Ranges.ScriptFits};
 ghost use Rattle.shm_table.specs.Command.{MayStand};
 ghost use Rattle.shm_agents.specs.Agents.{Stands, behind, follows, is_client, is_command, logged, shown_by};
-ghost use Rattle.shm_agents.specs.Cuts.{IsCut, account_cut};
-ghost use Rattle.shm_agents.specs.Logs.{with_effect};
-ghost use Rattle.shm_agents.specs.TurnsLeft.{turns_by, turns_given};
-ghost use Rattle.shm_agents.specs.Turns.{lives_of};
-ghost use Rattle.shm_agents.specs.Work.{work_control};
+ghost use Rattle.shm_agents.specs.{Cuts.{IsCut, account_cut}, Logs.with_effect, TurnsLeft.{turns_by, turns_given}};
+ghost use Rattle.shm_agents.specs.{Turns.lives_of, Work.work_control};
 ghost use Rattle.shm_agents.specs.Work as work;
 
 use crate::work::{Work, commanding, joining, leaving, recovering};

@@ -1,22 +1,15 @@
 -- how many word steps an allocation makes at most
 use Rattle.std.proofs.Common.{ℕ, zero, suc, ◌+◌, ◌*◌, ◌/◌, ◌^◌, ◌-◌, ◌≤◌, sym, subst, arith, inl, inr, Bool, true, false, length}
 use Rattle.std.specs.Prelude.{◌==◌, nat_lt, Result, Ok, Err, slice_index}
+use Rattle.shm_words.specs.{Layout.address, Redos.{first_word, second_word}, Classes.IsClass}
 use Rattle.shm_words.specs.declared.place.Place.TheVariants as place
-use Rattle.shm_words.specs.Layout.{address}
-use Rattle.shm_words.specs.Redos.{first_word, second_word}
-use Rattle.shm_words.specs.Classes.{IsClass}
 use Rattle.shm_words.proofs.Classing.{class_is}
-use Rattle.shm_graph.specs.declared.ask.Ask.{Ask}
-use Rattle.shm_graph.specs.declared.ask.Ask.TheVariants.{Load, Store, Exchange}
-use Rattle.shm_graph.specs.declared.ask.Me.{Me}
-use Rattle.shm_graph.specs.Asks.{Trail}
-use Rattle.shm_graph.specs.Trails.{Answers, Asked, Chosen}
+use Rattle.shm_graph.specs.{declared.ask.{Ask.{Ask, TheVariants.{Load, Store, Exchange}}, Me.Me}, Asks.Trail}
+use Rattle.shm_graph.specs.{Trails.{Answers, Asked, Chosen}, Bounds.{alloc_steps, redo_steps}}
 use Rattle.shm_count.specs.declared.answer.Made.{Made}
-use Rattle.shm_alloc.specs.declared.alloc.AllocFault.{AllocFault}
-use Rattle.shm_alloc.specs.declared.alloc.AllocFault.TheVariants.{EraSpent, RootsFull, Full}
+use Rattle.shm_alloc.specs.declared.alloc.AllocFault.{AllocFault, TheVariants.{EraSpent, RootsFull, Full}}
 use Rattle.shm_alloc.specs.declared.request.Request.{Request}
-use Rattle.shm_alloc.specs.Alloc.Control.{class_asked, tag_asked, header_made, redo_asked, RequestFits}
-use Rattle.shm_graph.specs.Bounds.{alloc_steps, redo_steps}
+use Rattle.shm_alloc.specs.Alloc.Control.{class_asked, tag_asked, header_made, redo_asked, segment_at, page_at, index_at, RequestFits}
 use Rattle.shm_alloc.specs.Alloc.Asks.{AllocTrails, alloc_trail, root_trail, segment_trail, page_trail, header_trail, headers_trail, class_trail, block_trail, reference_trail, plain_trail, live_trail, more_trail, first_trail, commit_trail, slot_trail, close_trail}
 
 -- each of the trails has at most n pairs
@@ -105,9 +98,9 @@ module _ (me : Me) (q : Request) where
     header_short zero i at e k used m rest l s = short_more (rest used) m (0 + m) (omega arith) (s used)
     header_short (suc n) i at e k used m rest l s =
         short_more (header_trail me q (suc n) i at e k used rest) (n + m + 1) (suc n + m) (omega arith)
-        (short_asked (Load (at + class_asked q * i)) (λ x. Chosen (x == 0) (block_trail me q e k (at + class_asked q * i)) (header_trail me q n (i + 1) at e k (used + 1) rest)) (n + m)
-        (λ x. short_chosen (x == 0) (block_trail me q e k (at + class_asked q * i)) (header_trail me q n (i + 1) at e k (used + 1) rest) (n + m)
-        (short_more (block_trail me q e k (at + class_asked q * i)) (28 + redo_steps me.geometry.wide) (n + m) (omega arith) (block_short fits e k (at + class_asked q * i)))
+        (short_asked (Load (at + class_asked q * index_at q i)) (λ x. Chosen (x == 0) (block_trail me q e k (at + class_asked q * index_at q i)) (header_trail me q n (i + 1) at e k (used + 1) rest)) (n + m)
+        (λ x. short_chosen (x == 0) (block_trail me q e k (at + class_asked q * index_at q i)) (header_trail me q n (i + 1) at e k (used + 1) rest) (n + m)
+        (short_more (block_trail me q e k (at + class_asked q * index_at q i)) (28 + redo_steps me.geometry.wide) (n + m) (omega arith) (block_short fits e k (at + class_asked q * index_at q i)))
         (header_short n (i + 1) at e k (used + 1) m rest l s)))
 
     -- at most 32 headers
@@ -127,14 +120,15 @@ module _ (me : Me) (q : Request) where
     page_short : (n p s e k used m : ℕ) (rest : ℕ → AllocTrails) → (28 + redo_steps me.geometry.wide) ≤ m → ((u : ℕ) → Short (rest u) m) → Short (page_trail me q n p s e k used rest) (n * 34 + m)
     page_short zero p s e k used m rest l r = short_more (rest used) m (0 * 34 + m) (omega arith) (r used)
     page_short (suc n) p s e k used m rest l r =
+        let j : ℕ = page_at q p in
         let after : ℕ → AllocTrails = λ u. page_trail me q n (p + 1) s e k u rest in
         let short : (u : ℕ) → Short (after u) (n * 34 + m) = λ u. page_short n (p + 1) s e k u m rest l r in
         short_more (page_trail me q (suc n) p s e k used rest) (33 + (n * 34 + m) + 1) (suc n * 34 + m) (omega arith)
-        (short_asked (Load (address me.geometry (place.Page s p))) (λ x. Chosen (x == 0) (class_trail me q s p e k used after) (Chosen (x == class_asked q) (headers_trail me q s p e k used after) (after used))) (33 + (n * 34 + m))
-        (λ x. short_chosen (x == 0) (class_trail me q s p e k used after) (Chosen (x == class_asked q) (headers_trail me q s p e k used after) (after used)) (33 + (n * 34 + m))
-        (class_short s p e k used (n * 34 + m) after (omega arith) short)
-        (short_chosen (x == class_asked q) (headers_trail me q s p e k used after) (after used) (33 + (n * 34 + m))
-        (short_more (headers_trail me q s p e k used after) (32 + (n * 34 + m)) (33 + (n * 34 + m)) (omega arith) (headers_short s p e k used (n * 34 + m) after (omega arith) short))
+        (short_asked (Load (address me.geometry (place.Page s j))) (λ x. Chosen (x == 0) (class_trail me q s j e k used after) (Chosen (x == class_asked q) (headers_trail me q s j e k used after) (after used))) (33 + (n * 34 + m))
+        (λ x. short_chosen (x == 0) (class_trail me q s j e k used after) (Chosen (x == class_asked q) (headers_trail me q s j e k used after) (after used)) (33 + (n * 34 + m))
+        (class_short s j e k used (n * 34 + m) after (omega arith) short)
+        (short_chosen (x == class_asked q) (headers_trail me q s j e k used after) (after used) (33 + (n * 34 + m))
+        (short_more (headers_trail me q s j e k used after) (32 + (n * 34 + m)) (33 + (n * 34 + m)) (omega arith) (headers_short s j e k used (n * 34 + m) after (omega arith) short))
         (short_more (after used) (n * 34 + m) (33 + (n * 34 + m)) (omega arith) (short used)))))
 
     -- n segments: the word of each is read and claimed, and 16 pages are looked at
@@ -143,14 +137,15 @@ module _ (me : Me) (q : Request) where
     segment_short (suc n) s e k taken used =
         let after : ℕ → AllocTrails = λ u. segment_trail me q n (s + 1) e k taken u in
         let other : AllocTrails = segment_trail me q n (s + 1) e k (taken + 1) used in
-        let pages : AllocTrails = page_trail me q 16 0 s e k used after in
-        let own : Short pages (16 * 34 + (n * 546 + (28 + redo_steps me.geometry.wide))) = page_short 16 0 s e k used (n * 546 + (28 + redo_steps me.geometry.wide)) after (omega arith) (λ u. segment_short n (s + 1) e k taken u) in
+        let j : ℕ = segment_at me q s in
+        let pages : AllocTrails = page_trail me q 16 0 j e k used after in
+        let own : Short pages (16 * 34 + (n * 546 + (28 + redo_steps me.geometry.wide))) = page_short 16 0 j e k used (n * 546 + (28 + redo_steps me.geometry.wide)) after (omega arith) (λ u. segment_short n (s + 1) e k taken u) in
         let on : Short other (16 * 34 + (n * 546 + (28 + redo_steps me.geometry.wide))) = short_more other (n * 546 + (28 + redo_steps me.geometry.wide)) (16 * 34 + (n * 546 + (28 + redo_steps me.geometry.wide))) (omega arith) (segment_short n (s + 1) e k (taken + 1) used) in
-        let claim : AllocTrails = Asked (Exchange (address me.geometry (place.Segment s)) 0 (me.who + 1)) (λ y. Chosen (y == 0) pages other) in
+        let claim : AllocTrails = Asked (Exchange (address me.geometry (place.Segment j)) 0 (me.who + 1)) (λ y. Chosen (y == 0) pages other) in
         let claimed : Short claim (16 * 34 + (n * 546 + (28 + redo_steps me.geometry.wide)) + 1) =
-        short_asked (Exchange (address me.geometry (place.Segment s)) 0 (me.who + 1)) (λ y. Chosen (y == 0) pages other) (16 * 34 + (n * 546 + (28 + redo_steps me.geometry.wide))) (λ y. short_chosen (y == 0) pages other (16 * 34 + (n * 546 + (28 + redo_steps me.geometry.wide))) own on) in
+        short_asked (Exchange (address me.geometry (place.Segment j)) 0 (me.who + 1)) (λ y. Chosen (y == 0) pages other) (16 * 34 + (n * 546 + (28 + redo_steps me.geometry.wide))) (λ y. short_chosen (y == 0) pages other (16 * 34 + (n * 546 + (28 + redo_steps me.geometry.wide))) own on) in
         short_more (segment_trail me q (suc n) s e k taken used) (16 * 34 + (n * 546 + (28 + redo_steps me.geometry.wide)) + 1 + 1) (suc n * 546 + (28 + redo_steps me.geometry.wide)) (omega arith)
-        (short_asked (Load (address me.geometry (place.Segment s))) (λ x. Chosen (x == 0) claim (Chosen (x == me.who + 1) pages other)) (16 * 34 + (n * 546 + (28 + redo_steps me.geometry.wide)) + 1)
+        (short_asked (Load (address me.geometry (place.Segment j))) (λ x. Chosen (x == 0) claim (Chosen (x == me.who + 1) pages other)) (16 * 34 + (n * 546 + (28 + redo_steps me.geometry.wide)) + 1)
         (λ x. short_chosen (x == 0) claim (Chosen (x == me.who + 1) pages other) (16 * 34 + (n * 546 + (28 + redo_steps me.geometry.wide)) + 1) claimed
         (short_more (Chosen (x == me.who + 1) pages other) (16 * 34 + (n * 546 + (28 + redo_steps me.geometry.wide))) (16 * 34 + (n * 546 + (28 + redo_steps me.geometry.wide)) + 1) (omega arith) (short_chosen (x == me.who + 1) pages other (16 * 34 + (n * 546 + (28 + redo_steps me.geometry.wide))) own on))))
 

@@ -1,28 +1,20 @@
 -- an allocation that finds no free block answers how many segments of others and how many blocks in use its trail shows
 use Rattle.std.proofs.Common.{◌≡◌, ℕ, zero, suc, ◌+◌, ◌-◌, ◌*◌, ◌/◌, ◌^◌, ◌<◌, ◌≤◌, refl, sym, ap, ◌∙◌, subst, arith, inl, inr, Bool, true, false}
+use Rattle.std.proofs.lemmas.Bool.{lt-ltb, cond-true, cond-false, Decides.nat_tests}
 use Rattle.std.specs.Prelude.{◌==◌, nat_lt, if◌then◌else◌, Result, Ok, Err, slice_index}
-use Rattle.std.proofs.lemmas.Bool.{lt-ltb, cond-true, cond-false}
-use Rattle.std.proofs.lemmas.Bool.Decides.{nat_tests}
-use Rattle.shm_words.specs.declared.place.Place.{Place}
+use Rattle.shm_words.specs.{declared.place.Place.Place, Layout.{address, place_at, is_in}}
+use Rattle.shm_words.specs.{Redos.{first_word, second_word}, Classes.IsClass}
 use Rattle.shm_words.specs.declared.place.Place.TheVariants as place
-use Rattle.shm_words.specs.Layout.{address, place_at, is_in}
-use Rattle.shm_words.specs.Redos.{first_word, second_word}
-use Rattle.shm_words.specs.Classes.{IsClass}
-use Rattle.shm_words.proofs.Classing.{class_is}
-use Rattle.shm_words.proofs.Placing.{place-address}
-use Rattle.shm_words.proofs.Regions.{body_at}
-use Rattle.shm_graph.specs.declared.ask.Ask.{Ask}
-use Rattle.shm_graph.specs.declared.ask.Ask.TheVariants.{Load, Store, Exchange}
-use Rattle.shm_graph.specs.declared.ask.Me.{Me}
-use Rattle.shm_graph.specs.Asks.{Trail}
+use Rattle.shm_words.proofs.{Classing.class_is, Placing.place-address, Regions.body_at}
+use Rattle.shm_graph.specs.{declared.ask.{Ask.{Ask, TheVariants.{Load, Store, Exchange}}, Me.Me}, Asks.Trail}
 use Rattle.shm_graph.specs.Trails.{Answers, Asked, Chosen}
 use Rattle.shm_count.specs.declared.answer.Made.{Made}
-use Rattle.shm_alloc.specs.declared.alloc.AllocFault.{AllocFault}
-use Rattle.shm_alloc.specs.declared.alloc.AllocFault.TheVariants.{EraSpent, Full}
+use Rattle.shm_alloc.specs.declared.alloc.AllocFault.{AllocFault, TheVariants.{EraSpent, Full}}
 use Rattle.shm_alloc.specs.declared.request.Request.{Request}
-use Rattle.shm_alloc.specs.Alloc.Control.{class_asked, tag_asked, header_made, redo_asked}
+use Rattle.shm_alloc.specs.Alloc.Control.{class_asked, tag_asked, header_made, redo_asked, segment_at, page_at, index_at}
 use Rattle.shm_alloc.specs.Alloc.Asks.{AllocTrails, alloc_trail, root_trail, segment_trail, page_trail, header_trail, headers_trail, class_trail, block_trail, reference_trail, plain_trail, live_trail, more_trail, first_trail, commit_trail, slot_trail, close_trail}
 use Rattle.shm_alloc.specs.Alloc.Counts.{load_taken, claim_taken, load_used, taken_by, used_by, taken_in, used_in}
+use Rattle.shm_alloc.specs.Turning.{segment_below, page_below, index_below}
 
 -- the numbers in the answer of an allocation that found no free block
 abbrev pub Tells : Result Made AllocFault → ℕ → ℕ → Type 0
@@ -153,16 +145,17 @@ module _ (me : Me) (q : Request) (who : me.who < me.geometry.clients) where
       → Counts me (header_trail me q n i (address me.geometry (place.Body s p 0)) e k u rest) t u
   counts_header zero i s p e k t u rest l m w c = c u
   counts_header (suc n) i s p e k t u rest l m w c =
-      let at : ℕ = address me.geometry (place.Body s p 0) + class_asked q * i in
-      let there : place_at me.geometry at ≡ place.Body s p (class_asked q * i) = block_place me s p (class_asked q * i) l m (block_within (class_asked q) i (class_is q.refs q.count) (omega arith)) in
+      let j : ℕ = index_at q i in
+      let at : ℕ = address me.geometry (place.Body s p 0) + class_asked q * j in
+      let there : place_at me.geometry at ≡ place.Body s p (class_asked q * j) = block_place me s p (class_asked q * j) l m (block_within (class_asked q) j (class_is q.refs q.count) (index_below q i (omega arith))) in
       let free : AllocTrails = block_trail me q e k at in
       let on : AllocTrails = header_trail me q n (i + 1) (address me.geometry (place.Body s p 0)) e k (u + 1) rest in
-      let none : (x : ℕ) → t + taken_by me (Load at) x ≡ t = λ x. with_none t (taken_by me (Load at) x) (load_takes me at (place.Body s p (class_asked q * i)) there x) in
+      let none : (x : ℕ) → t + taken_by me (Load at) x ≡ t = λ x. with_none t (taken_by me (Load at) x) (load_takes me at (place.Body s p (class_asked q * j)) there x) in
       counts_asked me (Load at) (λ x. Chosen (x == 0) free on) t u
       (λ x. counts_chosen me (x == 0) free on (t + taken_by me (Load at) x) (u + used_by me (Load at) x)
       (λ z. block_never me q e k at (t + taken_by me (Load at) x) (u + used_by me (Load at) x))
       (λ z. counts_at me on t (taken_by me (Load at) x) u (used_by me (Load at) x) t (u + 1) (none x)
-      (with_one u (used_by me (Load at) x) (load_uses me at (place.Body s p (class_asked q * i)) there x ∙ cond-false (x == 0) 0 1 z))
+      (with_one u (used_by me (Load at) x) (load_uses me at (place.Body s p (class_asked q * j)) there x ∙ cond-false (x == 0) 0 1 z))
       (counts_header n (i + 1) s p e k t (u + 1) rest l m (omega arith) c)))
 
   -- all headers of a page
@@ -183,17 +176,19 @@ module _ (me : Me) (q : Request) (who : me.who < me.geometry.clients) where
   counts_page : (n p s e k t u : ℕ) (rest : ℕ → AllocTrails) → s < me.geometry.segments → p + n ≤ 16 → ((x : ℕ) → Counts me (rest x) t x) → Counts me (page_trail me q n p s e k u rest) t u
   counts_page zero p s e k t u rest l m c = c u
   counts_page (suc n) p s e k t u rest l m c =
-      let at : ℕ = address me.geometry (place.Page s p) in
-      let there : place_at me.geometry at ≡ place.Page s p = place-address me.geometry (place.Page s p) (page_in s p l (omega arith)) in
+      let j : ℕ = page_at q p in
+      let here : j < 16 = page_below q p (omega arith) in
+      let at : ℕ = address me.geometry (place.Page s j) in
+      let there : place_at me.geometry at ≡ place.Page s j = place-address me.geometry (place.Page s j) (page_in s j l here) in
       let after : ℕ → AllocTrails = λ v. page_trail me q n (p + 1) s e k v rest in
       let short : (v : ℕ) → Counts me (after v) t v = λ v. counts_page n (p + 1) s e k t v rest l (omega arith) c in
-      let classed : AllocTrails = class_trail me q s p e k u after in
-      let headed : AllocTrails = headers_trail me q s p e k u after in
+      let classed : AllocTrails = class_trail me q s j e k u after in
+      let headed : AllocTrails = headers_trail me q s j e k u after in
       counts_asked me (Load at) (λ x. Chosen (x == 0) classed (Chosen (x == class_asked q) headed (after u))) t u
       (λ x. counts_at me (Chosen (x == 0) classed (Chosen (x == class_asked q) headed (after u))) t (taken_by me (Load at) x) u (used_by me (Load at) x) t u
-      (with_none t (taken_by me (Load at) x) (load_takes me at (place.Page s p) there x)) (with_none u (used_by me (Load at) x) (load_uses me at (place.Page s p) there x))
-      (counts_chosen me (x == 0) classed (Chosen (x == class_asked q) headed (after u)) t u (λ z. counts_class s p e k t u after l (omega arith) short)
-      (λ z. counts_chosen me (x == class_asked q) headed (after u) t u (λ y. counts_headers s p e k t u after l (omega arith) short) (λ y. short u))))
+      (with_none t (taken_by me (Load at) x) (load_takes me at (place.Page s j) there x)) (with_none u (used_by me (Load at) x) (load_uses me at (place.Page s j) there x))
+      (counts_chosen me (x == 0) classed (Chosen (x == class_asked q) headed (after u)) t u (λ z. counts_class s j e k t u after l here short)
+      (λ z. counts_chosen me (x == class_asked q) headed (after u) t u (λ y. counts_headers s j e k t u after l here short) (λ y. short u))))
 
   -- the pool has the segment
   segment_in : (s : ℕ) → s < me.geometry.segments → is_in me.geometry (place.Segment s) ≡ true
@@ -236,10 +231,12 @@ module _ (me : Me) (q : Request) (who : me.who < me.geometry.clients) where
   counts_segment (suc n) s e k t u l =
       let after : ℕ → AllocTrails = λ v. segment_trail me q n (s + 1) e k t v in
       let other : AllocTrails = segment_trail me q n (s + 1) e k (t + 1) u in
-      let own : AllocTrails = page_trail me q 16 0 s e k u after in
-      let pages : Counts me own t u = counts_page 16 0 s e k t u after (omega arith) (omega arith) (λ v. counts_segment n (s + 1) e k t v (omega arith)) in
+      let j : ℕ = segment_at me q s in
+      let here : j < me.geometry.segments = segment_below me q s (omega arith) in
+      let own : AllocTrails = page_trail me q 16 0 j e k u after in
+      let pages : Counts me own t u = counts_page 16 0 j e k t u after here (omega arith) (λ v. counts_segment n (s + 1) e k t v (omega arith)) in
       let next : Counts me other (t + 1) u = counts_segment n (s + 1) e k (t + 1) u (omega arith) in
-      counts_owner s t u (Asked (Exchange (address me.geometry (place.Segment s)) 0 (me.who + 1)) (λ y. Chosen (y == 0) own other)) own other (omega arith) (counts_claim s t u own other (omega arith) pages next) pages next
+      counts_owner j t u (Asked (Exchange (address me.geometry (place.Segment j)) 0 (me.who + 1)) (λ y. Chosen (y == 0) own other)) own other here (counts_claim j t u own other here pages next) pages next
 
   -- ---- the own era and the roots count nothing
 

@@ -1,24 +1,15 @@
 -- a block that was made lies in the pool
 use Rattle.std.proofs.Common.{ℕ, ◌<◌, sym, subst, List, ◌⊎◌, inl, inr}
-use Rattle.std.specs.List.{Contains}
 use Rattle.std.proofs.lemmas.List.Elements.{All-contains, Contains-append_left}
+use Rattle.std.specs.List.{Contains}
 use Rattle.shm_words.specs.declared.geometry.Geometry.{Geometry}
-use Rattle.shm_graph.specs.declared.ask.Me.{Me}
-use Rattle.shm_graph.specs.declared.memo.Memo.{Memo}
-use Rattle.shm_graph.specs.declared.memo.Stored.{Stored}
-use Rattle.shm_graph.specs.declared.spot.Spot.{Spot}
+use Rattle.shm_graph.specs.declared.{ask.Me.Me, memo.{Memo.Memo, Stored.Stored}, spot.Spot.Spot}
+use Rattle.shm_graph.specs.{Blocks.{classes, headers, IsBlock, IsLive}, Held.HeldAt, Views.view}
 use Rattle.shm_graph.specs.declared.spot.Spot.TheVariants as spot
-use Rattle.shm_graph.specs.Blocks.{classes, headers, IsBlock, IsLive}
-use Rattle.shm_graph.specs.Held.{HeldAt}
-use Rattle.shm_graph.specs.Views.{view}
-use Rattle.shm_graph.proofs.States.Holders.{InReach, held_live_block, reach_counted}
-use Rattle.shm_graph.proofs.Memos.KnownChange.{KnownHolds}
+use Rattle.shm_graph.proofs.{States.Holders.{InReach, held_live_block, reach_counted}, Memos.KnownChange.KnownHolds}
 use Rattle.shm_graph.proofs.Spots.Spotting.{block_within}
-use Rattle.shm_count.specs.declared.answer.Made.{Made}
-use Rattle.shm_count.specs.Step.Control.{IsInside}
-use Rattle.shm_alloc.specs.declared.request.Request.{Request}
-use Rattle.shm_alloc.specs.Alloc.Control.{tag_asked}
-use Rattle.shm_alloc.specs.Alloc.{MadeGives}
+use Rattle.shm_count.specs.{declared.answer.Made.Made, Step.Control.IsInside}
+use Rattle.shm_alloc.specs.{declared.request.Request.Request, Alloc.{Control.tag_asked, MadeGives}}
 
 -- a block whose tag is known is a block
 tagged_block : (g : Geometry) (w : Spot → ℕ) (r : ℕ → Memo) (c b x : ℕ) → HeldAt g w (view r) → c < g.clients → Contains (r c).known (record { spot = spot.Tag b; value = x }) → IsBlock g (classes w) b

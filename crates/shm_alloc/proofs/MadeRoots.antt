@@ -1,15 +1,10 @@
 -- what an allocation leaves of each root of its identity
 use Rattle.std.proofs.Common.{◌≡◌, ℕ, Bool, true, false, refl, ap, ◌∙◌, cond, eqb, ◌&&◌, List, ◌∷◌}
 use Rattle.std.proofs.lemmas.Bool.{eq-eqb}
-use Rattle.shm_graph.specs.declared.ask.Me.{Me}
-use Rattle.shm_graph.specs.declared.memo.Memo.{Memo}
-use Rattle.shm_graph.specs.declared.memo.Stored.{Stored}
+use Rattle.shm_graph.specs.{declared.{ask.Me.Me, memo.{Memo.Memo, Stored.Stored}}, Views.own_word}
 use Rattle.shm_graph.specs.declared.spot.Spot.TheVariants as spot
-use Rattle.shm_graph.specs.Views.{own_word}
-use Rattle.shm_count.specs.Roots.{root_word}
-use Rattle.shm_count.specs.declared.answer.Made.{Made}
-use Rattle.shm_alloc.specs.declared.point.Goal.{Goal}
-use Rattle.shm_alloc.specs.declared.request.Request.{Request}
+use Rattle.shm_count.specs.{Roots.root_word, declared.answer.Made.Made}
+use Rattle.shm_alloc.specs.declared.{point.Goal.Goal, request.Request.Request}
 use Rattle.shm_alloc.specs.Alloc.{MadeGives, goal_of, more_stored, readied}
 
 -- the second word of a redo record is no root

@@ -19,37 +19,20 @@ pub mod Carrying
 pub mod AsPart
 use Rattle.std.specs.Prelude.{Bool, if◌then◌else◌, true, ◌≡◌, ◌≢◌, ℕ, ◌+◌, ◌-◌, ◌/◌, ◌^◌, ◌<◌, ◌≤◌, ◌==◌, Some, None, Result, Ok, Err, List, [], ◌∷◌, ◌++◌, slice_index}
 use Rattle.std.specs.List.{Contains}
+use Rattle.shm_words.specs.{Layout.{GeometryFits, address}, Redos.{first_word, second_word}}
 use Rattle.shm_words.specs.declared.place.Place.TheVariants as place
-use Rattle.shm_words.specs.Layout.{GeometryFits, address}
-use Rattle.shm_words.specs.Redos.{first_word, second_word}
-use Rattle.shm_graph.specs.declared.ask.Me.{Me}
+use Rattle.shm_graph.specs.declared.{ask.{Me.Me, Ask.TheVariants.Exchange}, memo.{Stored.Stored, Making.Making}}
+use Rattle.shm_graph.specs.{declared.memo.{Memo.Memo, First.TheVariants.{Begun, Committed, Written}, Op.Op}, Asks.Trail}
+use Rattle.shm_graph.specs.{Trails.{Asked, Chosen}, Idle.IsIdle, Tells.{after_all, happens_along}, Views.own_word}
+use Rattle.shm_graph.specs.{MemoAfterStore.{class_read, class_told}, MemoAfterExchange.values_with}
 use Rattle.shm_graph.specs.declared.spot.Spot.TheVariants as spot
-use Rattle.shm_graph.specs.declared.memo.Stored.{Stored}
-use Rattle.shm_graph.specs.declared.memo.Making.{Making}
-use Rattle.shm_graph.specs.declared.memo.Memo.{Memo}
-use Rattle.shm_graph.specs.declared.memo.First.TheVariants.{Begun, Committed, Written}
-use Rattle.shm_graph.specs.declared.memo.Op.{Op}
 use Rattle.shm_graph.specs.declared.memo.Op.TheVariants as op
-use Rattle.shm_graph.specs.declared.ask.Ask.TheVariants.{Exchange}
-use Rattle.shm_graph.specs.Asks.{Trail}
-use Rattle.shm_graph.specs.Trails.{Asked, Chosen}
-use Rattle.shm_graph.specs.Idle.{IsIdle}
-use Rattle.shm_graph.specs.Tells.{after_all, happens_along}
-use Rattle.shm_graph.specs.Views.{own_word}
-use Rattle.shm_graph.specs.MemoAfterStore.{class_read, class_told}
-use Rattle.shm_graph.specs.MemoAfterExchange.{values_with}
 use Rattle.shm_count.specs.declared.answer.Made.{Made}
-use Rattle.shm_alloc.specs.declared.alloc.AllocFault.{AllocFault}
-use Rattle.shm_alloc.specs.declared.alloc.AllocFault.TheVariants.{EraSpent, RootsFull, Full}
-use Rattle.shm_alloc.specs.declared.request.Request.{Request}
-use Rattle.shm_alloc.specs.declared.point.Goal.{Goal}
-use Rattle.shm_alloc.specs.declared.point.Search.{Search}
-use Rattle.shm_alloc.specs.declared.point.AllocPoint.{AllocPoint}
+use Rattle.shm_alloc.specs.declared.alloc.AllocFault.{AllocFault, TheVariants.{EraSpent, RootsFull, Full}}
+use Rattle.shm_alloc.specs.declared.{request.Request.Request, point.{Goal.Goal, Search.Search, AllocPoint.AllocPoint}}
 use Rattle.shm_alloc.specs.declared.point.AllocPoint.TheVariants.{Era, Root, Segment, Claim, Page, Class, Header, Tag, Reference, Plain, More, Redo, Commit, Slot, Close, Over}
-use Rattle.shm_alloc.specs.declared.point.AllocState.{AllocState}
-use Rattle.shm_alloc.specs.declared.point.AllocNext.{AllocNext}
-use Rattle.shm_alloc.specs.declared.point.AllocNext.TheVariants.{Point, Answer}
-use Rattle.shm_alloc.specs.Alloc.Control.{class_asked, tag_asked, redo_asked, AllocInRange, alloc_control}
+use Rattle.shm_alloc.specs.declared.point.{AllocState.AllocState, AllocNext.{AllocNext, TheVariants.{Point, Answer}}}
+use Rattle.shm_alloc.specs.Alloc.Control.{class_asked, tag_asked, redo_asked, segment_at, page_at, AllocInRange, alloc_control}
 use Rattle.shm_alloc.specs.Alloc.Events.{alloc_event, alloc_start, events_at, own_events}
 use Rattle.shm_alloc.specs.Alloc.Asks.{AllocTrails, alloc_trail, root_trail, segment_trail, page_trail, header_trail, block_trail, reference_trail, plain_trail, live_trail, more_trail, commit_trail, slot_trail, close_trail, class_trail}
 use Rattle.shm_calls.specs.Grown.{Grows}
@@ -132,9 +115,9 @@ PointHas me q r0 r Era = Searches r0 r
 PointHas me q r0 r (Root e k) = Searches r0 r × (e ≡ own_word r.own (spot.Era me.who me.who)) × ((j : ℕ) → j < k → own_word r.own (spot.Root me.who j) ≢ 0)
 PointHas me q r0 r (Segment g s) = Searches r0 r × GoalHas me.who r g
 PointHas me q r0 r (Claim g s) = Searches r0 r × GoalHas me.who r g
-PointHas me q r0 r (Page g s p) = Searches r0 r × GoalHas me.who r g × Contains r.owned s.segment
-PointHas me q r0 r (Class g s p) = Searches r0 r × GoalHas me.who r g × Contains r.owned s.segment × Contains r.zeros (spot.Page s.segment p)
-PointHas me q r0 r (Header g s p i) = Searches r0 r × GoalHas me.who r g × Contains r.owned s.segment × (class_read r.facts s.segment p ≡ class_asked q)
+PointHas me q r0 r (Page g s p) = Searches r0 r × GoalHas me.who r g × Contains r.owned (segment_at me q s.segment)
+PointHas me q r0 r (Class g s p) = Searches r0 r × GoalHas me.who r g × Contains r.owned (segment_at me q s.segment) × Contains r.zeros (spot.Page (segment_at me q s.segment) (page_at q p))
+PointHas me q r0 r (Header g s p i) = Searches r0 r × GoalHas me.who r g × Contains r.owned (segment_at me q s.segment) × (class_read r.facts (segment_at me q s.segment) (page_at q p) ≡ class_asked q)
 PointHas me q r0 r (Tag g b) = Searches r0 r × GoalHas me.who r g × Contains r.zeros (spot.Head b) × (class_told me.geometry r.facts b ≡ class_asked q)
 PointHas me q r0 r (Reference g b i) = (r.known ≡ r0.known) × (r.values ≡ r0.values) × GoalHas me.who r g × Prepares me.geometry.wide me.who q b i 0 r
 PointHas me q r0 r (Plain g b i) = (r.known ≡ r0.known) × (r.values ≡ r0.values) × GoalHas me.who r g × Prepares me.geometry.wide me.who q b q.refs i r
@@ -151,13 +134,13 @@ segments_after me q g s used = segment_trail me q (me.geometry.segments - (s.seg
 
 -- what follows where a page has no free block: the pages after it, and then the segments
 abbrev pub pages_after : Me → Request → Goal → Search → ℕ → ℕ → AllocTrails
-pages_after me q g s p used = page_trail me q (15 - p) (p + 1) s.segment g.era g.root used (segments_after me q g s)
+pages_after me q g s p used = page_trail me q (15 - p) (p + 1) (segment_at me q s.segment) g.era g.root used (segments_after me q g s)
 
 -- a segment that is nobody's is claimed
 abbrev pub claim_trail : Me → Request → Goal → Search → AllocTrails
 claim_trail me q g s =
-    Asked (Exchange (address me.geometry (place.Segment s.segment)) 0 (me.who + 1)) (λ y.
-    Chosen (y == 0) (page_trail me q 16 0 s.segment g.era g.root s.used (segments_after me q g s)) (segment_trail me q (me.geometry.segments - (s.segment + 1)) (s.segment + 1) g.era g.root (s.taken + 1) s.used))
+    Asked (Exchange (address me.geometry (place.Segment (segment_at me q s.segment))) 0 (me.who + 1)) (λ y.
+    Chosen (y == 0) (page_trail me q 16 0 (segment_at me q s.segment) g.era g.root s.used (segments_after me q g s)) (segment_trail me q (me.geometry.segments - (s.segment + 1)) (s.segment + 1) g.era g.root (s.taken + 1) s.used))
 
 -- the trails from a point on
 abbrev pub point_trail : Me → Request → AllocPoint → AllocTrails
@@ -165,9 +148,9 @@ point_trail me q Era = alloc_trail me q
 point_trail me q (Root e k) = root_trail me q (16 - k) k e
 point_trail me q (Segment g s) = segment_trail me q (me.geometry.segments - s.segment) s.segment g.era g.root s.taken s.used
 point_trail me q (Claim g s) = claim_trail me q g s
-point_trail me q (Page g s p) = page_trail me q (16 - p) p s.segment g.era g.root s.used (segments_after me q g s)
-point_trail me q (Class g s p) = class_trail me q s.segment p g.era g.root s.used (pages_after me q g s p)
-point_trail me q (Header g s p i) = header_trail me q (128 / class_asked q - i) i (address me.geometry (place.Body s.segment p 0)) g.era g.root s.used (pages_after me q g s p)
+point_trail me q (Page g s p) = page_trail me q (16 - p) p (segment_at me q s.segment) g.era g.root s.used (segments_after me q g s)
+point_trail me q (Class g s p) = class_trail me q (segment_at me q s.segment) (page_at q p) g.era g.root s.used (pages_after me q g s p)
+point_trail me q (Header g s p i) = header_trail me q (128 / class_asked q - i) i (address me.geometry (place.Body (segment_at me q s.segment) (page_at q p) 0)) g.era g.root s.used (pages_after me q g s p)
 point_trail me q (Tag g b) = block_trail me q g.era g.root b
 point_trail me q (Reference g b i) = reference_trail me q (q.refs - i) i g.era g.root b
 point_trail me q (Plain g b i) = plain_trail me q (q.count - i) i g.era g.root b

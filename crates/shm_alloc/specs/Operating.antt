@@ -1,16 +1,10 @@
 -- an allocation as an operation: when it may begin between two calls
 use Rattle.std.proofs.Common.{◌≡◌, sym, ap, subst}
-use Rattle.shm_graph.specs.declared.memo.Memo.{Memo}
-use Rattle.shm_graph.specs.Operations.{IsReady, OperationLaws}
-use Rattle.shm_alloc.specs.declared.point.AllocPoint.{AllocPoint}
-use Rattle.shm_alloc.specs.declared.point.AllocPoint.TheVariants.{Era}
-use Rattle.shm_alloc.specs.declared.point.AllocState.{AllocState}
+use Rattle.shm_graph.specs.{declared.memo.Memo.Memo, Operations.{IsReady, OperationLaws}}
+use Rattle.shm_alloc.specs.declared.point.{AllocPoint.{AllocPoint, TheVariants.Era}, AllocState.AllocState}
 use Rattle.shm_alloc.specs.Alloc.AsPart.{AllocLeaves, alloc_left}
 use Rattle.shm_alloc.specs.Alloc.Control.{AllocInRange, PointFits, RequestFits, alloc_control, is_first, is_over}
-use Rattle.shm_alloc.specs.Alloc.Events.{alloc_event}
-use Rattle.shm_alloc.specs.Alloc.Going.{begins}
-use Rattle.shm_alloc.specs.Alloc.Tells.{alloc_tells}
-use Rattle.shm_alloc.specs.Alloc.{AllocFits, AllocGives}
+use Rattle.shm_alloc.specs.Alloc.{Events.alloc_event, Going.begins, Tells.alloc_tells, AllocFits, AllocGives}
 
 -- a block of at most 16 reference words and 8 plain words may be asked for
 abbrev pub AllocMay : AllocState → Memo → Type 0

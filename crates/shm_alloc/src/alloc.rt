@@ -4,16 +4,12 @@ ghost use Rattle.std.specs.Prelude.{◌≡◌, ◌≢◌, ◌<◌, ◌≤◌, �
 ghost use Rattle.shm_words.specs.Layout.{GeometryFits};
 ghost use Rattle.shm_graph.specs.Laws.{turn_of};
 ghost use Rattle.shm_alloc.specs.Alloc.Control.{PointFits, alloc_ask, alloc_control, alloc_next, answer_of, point_of};
-ghost use Rattle.shm_alloc.specs.Alloc.AsPart.{AllocLeaves};
-ghost use Rattle.shm_alloc.specs.Alloc.Events.{alloc_event};
-ghost use Rattle.shm_alloc.specs.Alloc.{AllocFits, AllocGives};
-ghost use Rattle.shm_alloc.specs.Alloc.Laws.{alloc_laws};
-ghost use Rattle.shm_alloc.specs.Operating.{AllocMay, alloc_operation};
-ghost use Rattle.shm_alloc.specs.declared.point.AllocPoint.TheVariants.{Era};
+ghost use Rattle.shm_alloc.specs.Alloc.{AsPart.AllocLeaves, Events.alloc_event, AllocFits, AllocGives, Laws.alloc_laws};
+ghost use Rattle.shm_alloc.specs.{Operating.{AllocMay, alloc_operation}, declared.point.AllocPoint.TheVariants.Era};
 ghost use Rattle.shm_alloc.specs.declared.point.AllocNext.TheVariants.{Point};
 
 use crate::point::{AllocNext, AllocPoint, AllocState};
-use crate::request::Request;
+use crate::request::{Near, Request};
 use shm_calls::Begin;
 use shm_count::Made;
 use shm_graph::{Ask, Machine, Me, Operation, Site, Turn};
@@ -50,7 +46,7 @@ pub struct Alloc {
     state: AllocState,
     /// The class of the block.
     class: u8,
-    /// While headers are read: where the next one is, and how many blocks its page has behind it.
+    /// While headers are read: where the next one is, and how many blocks behind it in its page are gone to next.
     header: u32,
     left: u8,
 }
@@ -81,6 +77,29 @@ impl Alloc {
         ensures fault { IfErr result (λ e. e ≡ record { refs = refs; plain = length plain.now }) }
         ensures fresh { IfOk result (λ m. (m.me ≡ me) × (m.point ≡ Era)) }
         ensures request { IfOk result (λ m. (m.request.refs ≡ refs) × (m.request.count ≡ length plain.now) × (take (length plain.now) m.request.plain ≡ plain.now)) }
+        ensures near { IfOk result (λ m. m.request.near ≡ record { segment = 0; page = 0; index = 0 }) }
+    {
+        let near = Near {
+            segment: 0,
+            page: 0,
+            index: 0,
+        };
+        Alloc::new_near(me, refs, plain, near)
+    }
+
+    /// The same, where the search for a free block begins near a place.
+    ///
+    /// # Errors
+    ///
+    /// `TooLarge` where more than 16 reference words or more than 8 plain words are asked for.
+    pub fn new_near(me: Me, refs: u8, plain: &[u64], near: Near) -> Result<Alloc, TooLarge>
+        requires geometry { GeometryFits me.geometry }
+        requires who { me.who < me.geometry.clients }
+        ensures refused { is_err result ≡ true ↔ ((16 < refs) ⊎ (8 < length plain.now)) }
+        ensures fault { IfErr result (λ e. e ≡ record { refs = refs; plain = length plain.now }) }
+        ensures fresh { IfOk result (λ m. (m.me ≡ me) × (m.point ≡ Era)) }
+        ensures request { IfOk result (λ m. (m.request.refs ≡ refs) × (m.request.count ≡ length plain.now) × (take (length plain.now) m.request.plain ≡ plain.now)) }
+        ensures near { IfOk result (λ m. m.request.near ≡ near) }
     {
         if refs > 16 || plain.len() > 8 {
             let plain = plain.len();
@@ -92,6 +111,7 @@ impl Alloc {
             refs,
             count: plain.len() as u8,
             plain: words,
+            near,
         };
         Ok(Alloc::asked(me, request))
     }
@@ -158,7 +178,8 @@ impl Alloc {
         } = point
         {
             self.header = self.state.block(search, page, index);
-            self.left = 128 / self.class - 1 - index;
+            let at = self.state.index_at(index);
+            self.left = 128 / self.class - 1 - if at < index { index } else { at };
         }
         self.state.point = point;
     }

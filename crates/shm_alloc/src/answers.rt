@@ -1,16 +1,11 @@
 //! What the trails of an allocation tell: how many word steps it makes, and why it made no block.
 
 ghost use Rattle.std.specs.Prelude.{◌≡◌, ℕ, ◌<◌, ◌≤◌, Result, Err, length};
-ghost use Rattle.shm_graph.specs.declared.memo.Memo.{Memo as AMemo};
-ghost use Rattle.shm_graph.specs.Asks.{Trail};
+ghost use Rattle.shm_graph.specs.{declared.memo.Memo.Memo as AMemo, Asks.Trail, Bounds.alloc_steps};
 ghost use Rattle.shm_count.specs.declared.answer.Made.{Made as AMade};
-ghost use Rattle.shm_alloc.specs.declared.alloc.AllocFault.{AllocFault as AFault};
-ghost use Rattle.shm_alloc.specs.declared.point.AllocState.{AllocState as AState};
-ghost use Rattle.shm_alloc.specs.Alloc.Control.{RequestFits};
-ghost use Rattle.shm_graph.specs.Bounds.{alloc_steps};
-ghost use Rattle.shm_alloc.specs.Alloc.{AllocGives};
-ghost use Rattle.shm_alloc.specs.Alloc.Counts.{taken_in, used_in};
-ghost use Rattle.shm_alloc.specs.declared.alloc.AllocFault.TheVariants.{Full};
+ghost use Rattle.shm_alloc.specs.declared.alloc.AllocFault.{AllocFault as AFault, TheVariants.Full};
+ghost use Rattle.shm_alloc.specs.{declared.point.AllocState.AllocState as AState, Alloc.Control.{RequestFits, turned}};
+ghost use Rattle.shm_alloc.specs.Alloc.{AllocGives, Counts.{taken_in, used_in}};
 
 /// Whatever an allocation has found, it took at most 546 word steps for each segment of the pool, and 46 more, in format 2 47.
 pub fn alloc_bound()
@@ -20,4 +15,10 @@ pub fn alloc_bound()
 /// An allocation that found no free block answers how many segments of others its trail shows, by a load that found another's number or an exchange that found somebody's, and how many blocks in use.
 pub fn alloc_trails()
     ensures { (m : AState) (r0 r : AMemo) (tr : Trail) (taken used : ℕ) → m.me.who < m.me.geometry.clients → AllocGives m r0 r tr (Err (Full taken used)) → (taken ≡ taken_in m.me tr) × (used ≡ used_in m.me tr) }
+{}
+
+/// Without a hint a search goes to segments, pages and blocks in their order; with any hint it goes to each of them.
+pub fn search_goes_to_each()
+    ensures plain { (n j : ℕ) → turned n 0 j ≡ j }
+    ensures each { (n d k : ℕ) → k < n → (j : ℕ) × (j < n) × (turned n d j ≡ k) }
 {}

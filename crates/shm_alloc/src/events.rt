@@ -1,18 +1,12 @@
 //! What an allocation does to the graph of references.
 
 ghost use Rattle.std.specs.Prelude.{◌≡◌, List, Result};
-ghost use Rattle.shm_graph.specs.declared.memo.Memo.{Memo as AMemo};
-ghost use Rattle.shm_graph.specs.declared.run.Move.{Move as AMove};
-ghost use Rattle.shm_graph.specs.Asks.{Trail};
+ghost use Rattle.shm_graph.specs.{declared.{memo.Memo.Memo as AMemo, run.Move.Move as AMove}, Asks.Trail};
 ghost use Rattle.shm_graph.specs.Runs.{State, memos_of};
-ghost use Rattle.shm_count.specs.declared.answer.Made.{Made as AMade};
-ghost use Rattle.shm_count.specs.Calling.{IsCall, happened_in};
-ghost use Rattle.shm_alloc.specs.declared.alloc.AllocFault.{AllocFault as AFault};
-ghost use Rattle.shm_alloc.specs.declared.point.AllocPoint.TheVariants.{Era};
+ghost use Rattle.shm_count.specs.{declared.answer.Made.Made as AMade, Calling.{IsCall, happened_in}};
+ghost use Rattle.shm_alloc.specs.declared.{alloc.AllocFault.AllocFault as AFault, point.AllocPoint.TheVariants.Era};
 ghost use Rattle.shm_alloc.specs.declared.point.AllocState.{AllocState as AState};
-ghost use Rattle.shm_alloc.specs.Alloc.Control.{alloc_control, AllocInRange};
-ghost use Rattle.shm_alloc.specs.Alloc.Events.{own_events};
-ghost use Rattle.shm_alloc.specs.Alloc.{AllocGives, CanAlloc};
+ghost use Rattle.shm_alloc.specs.Alloc.{Control.{alloc_control, AllocInRange}, Events.own_events, AllocGives, CanAlloc};
 
 /// In a run of a pool the own events of an allocation that has answered are one: the block answered becomes live in the root answered;
 /// where it is refused there are none.

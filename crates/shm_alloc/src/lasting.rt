@@ -2,26 +2,15 @@
 
 ghost use Rattle.std.specs.Prelude.{◌≡◌, ◌≢◌, ℕ, ◌<◌, true, false, Bool, List, Result, Ok, IfErr, IfOk};
 ghost use Rattle.std.specs.List.{Contains};
-ghost use Rattle.shm_graph.specs.declared.memo.Memo.{Memo as AMemo};
-ghost use Rattle.shm_graph.specs.declared.spot.Spot.TheVariants.{Root};
-ghost use Rattle.shm_graph.specs.Agents.{recovers};
-ghost use Rattle.shm_graph.specs.Asks.{Trail};
-ghost use Rattle.shm_graph.specs.Events.{Event};
-ghost use Rattle.shm_graph.specs.Operations.{IsHeld};
-ghost use Rattle.shm_graph.specs.Views.{own_word};
-ghost use Rattle.shm_calls.specs.Grown.{Grows, grown};
-ghost use Rattle.shm_calls.specs.Parts.{PartLaws};
-ghost use Rattle.shm_count.specs.declared.answer.Made.{Made as AMade};
-ghost use Rattle.shm_count.specs.declared.point.Aim.TheVariants.{Up};
-ghost use Rattle.shm_count.specs.MadeSteps.{made_up_part};
-ghost use Rattle.shm_count.specs.Roots.{AreRootsReached, root_step, root_word};
-ghost use Rattle.shm_count.specs.Step.Control.{IsInside};
-ghost use Rattle.shm_count.specs.Waiting.{LeavesQueues};
+ghost use Rattle.shm_graph.specs.{declared.{memo.Memo.Memo as AMemo, spot.Spot.TheVariants.Root}, Agents.recovers};
+ghost use Rattle.shm_graph.specs.{Asks.Trail, Events.Event, Operations.IsHeld, Views.own_word};
+ghost use Rattle.shm_calls.specs.{Grown.{Grows, grown}, Parts.PartLaws};
+ghost use Rattle.shm_count.specs.declared.{answer.Made.Made as AMade, point.Aim.TheVariants.Up};
+ghost use Rattle.shm_count.specs.{MadeSteps.made_up_part, Roots.{AreRootsReached, root_step, root_word}};
+ghost use Rattle.shm_count.specs.{Step.Control.IsInside, Waiting.LeavesQueues};
 ghost use Rattle.shm_alloc.specs.declared.alloc.AllocFault.{AllocFault as AFault};
-ghost use Rattle.shm_alloc.specs.declared.point.AllocState.{AllocState as AState};
-ghost use Rattle.shm_alloc.specs.Alloc.Control.{alloc_control};
-ghost use Rattle.shm_alloc.specs.Alloc.{AllocGives, CanAlloc};
-ghost use Rattle.shm_alloc.specs.Alloc.AsPart.{AllocLeaves, alloc_making};
+ghost use Rattle.shm_alloc.specs.{declared.point.AllocState.AllocState as AState, Alloc.Control.alloc_control};
+ghost use Rattle.shm_alloc.specs.Alloc.{AllocGives, CanAlloc, AsPart.{AllocLeaves, alloc_making}};
 
 /// Whatever an allocation answers, the status and the agent are what they were, and what was read of tails and heads stays; a block of
 /// which it answers is one that the call made.

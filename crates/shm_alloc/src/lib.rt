@@ -12,8 +12,8 @@ pub mod request;
 pub mod starts;
 
 pub use alloc::{Alloc, AllocFault, TooLarge};
-pub use answers::{alloc_bound, alloc_trails};
+pub use answers::{alloc_bound, alloc_trails, search_goes_to_each};
 pub use events::alloc_own_events;
 pub use lasting::{alloc_in_call, alloc_keeps, alloc_lasts, alloc_least_root, made_may_be_raised};
 pub use point::{AllocNext, AllocPoint, AllocState, Goal, Search};
-pub use request::Request;
+pub use request::{Near, Request};

@@ -1,13 +1,12 @@
 //! The control of an allocation: which word it asks for, and where it goes by the word found.
 
 ghost use Rattle.std.specs.Prelude.{◌≡◌, ℕ, ◌+◌, ◌*◌, ◌^◌, ◌<◌, ◌≤◌, ◌/◌, false};
-ghost use Rattle.shm_words.specs.Layout.{GeometryFits};
-ghost use Rattle.shm_words.specs.Redos.{first_word, second_word};
+ghost use Rattle.shm_words.specs.{Layout.GeometryFits, Redos.{first_word, second_word}};
 ghost use Rattle.shm_alloc.specs.Alloc.Control.{class_asked, header_made, block_of, is_search, RequestFits, SearchFits, PointFits, AllocInRange};
 ghost use Rattle.shm_alloc.specs.Alloc.Control as control;
 
 use crate::alloc::AllocFault;
-use crate::request::Request;
+use crate::request::{Request, turned};
 use crate::starts::{era_next, first_header, first_page, root_next};
 use shm_count::Made;
 use shm_graph::{Ask, Me, Site};
@@ -132,6 +131,42 @@ pub enum AllocNext {
 }
 
 impl AllocState {
+    /// Which segment of the pool is the one that the search has come to.
+    #[inline(always)]
+    fn segment_at(self, segment: u16) -> u16
+        requires { segment < self.me.geometry.segments }
+        ensures is { result ≡ control.segment_at self.me self.request segment }
+        ensures below { result < self.me.geometry.segments }
+    {
+        turned(
+            self.me.geometry.segments(),
+            self.request.near.segment,
+            segment,
+        )
+    }
+
+    /// Which page of a segment is the one that the search has come to.
+    #[inline(always)]
+    fn page_at(self, page: u8) -> u8
+        requires { page < 16 }
+        ensures is { result ≡ control.page_at self.request page }
+        ensures below { result < 16 }
+    {
+        turned(16, u16::from(self.request.near.page), u16::from(page)) as u8
+    }
+
+    /// Which block of a page is the one that the search has come to.
+    #[inline(always)]
+    pub fn index_at(self, index: u8) -> u8
+        requires request { RequestFits self.request }
+        requires index { index < 128 / class_asked self.request }
+        ensures is { result ≡ control.index_at self.request index }
+        ensures below { result < 128 / class_asked self.request }
+    {
+        let blocks = 128 / u16::from(self.request.class());
+        turned(blocks, u16::from(self.request.near.index), u16::from(index)) as u8
+    }
+
     /// The address of a block: its page's place and its place in the page.
     #[inline(always)]
     pub fn block(self, search: Search, page: u8, index: u8) -> u32
@@ -142,8 +177,9 @@ impl AllocState {
         requires index { index < 128 / class_asked self.request }
         ensures { result ≡ block_of self.me self.request search page index }
     {
-        self.me.geometry.body(search.segment, page)
-            + u32::from(self.request.class()) * u32::from(index)
+        let segment = self.segment_at(search.segment);
+        self.me.geometry.body(segment, self.page_at(page))
+            + u32::from(self.request.class()) * u32::from(self.index_at(index))
     }
 
     /// The word step that comes next.
@@ -161,18 +197,18 @@ impl AllocState {
                 at: geometry.root(who, root),
             },
             AllocPoint::Segment { search, .. } => Ask::Load {
-                at: geometry.segment(search.segment),
+                at: geometry.segment(self.segment_at(search.segment)),
             },
             AllocPoint::Claim { search, .. } => Ask::Exchange {
-                at: geometry.segment(search.segment),
+                at: geometry.segment(self.segment_at(search.segment)),
                 from: 0,
                 to: u64::from(who) + 1,
             },
             AllocPoint::Page { search, page, .. } => Ask::Load {
-                at: geometry.page(search.segment, page),
+                at: geometry.page(self.segment_at(search.segment), self.page_at(page)),
             },
             AllocPoint::Class { search, page, .. } => Ask::Store {
-                at: geometry.page(search.segment, page),
+                at: geometry.page(self.segment_at(search.segment), self.page_at(page)),
                 value: u64::from(self.request.class()),
             },
             AllocPoint::Header {

@@ -1,11 +1,21 @@
 //! What an allocation is asked for.
 
-ghost use Rattle.std.specs.Prelude.{◌≡◌};
+ghost use Rattle.std.specs.Prelude.{◌≡◌, ◌<◌};
 ghost use Rattle.shm_alloc.specs.Alloc.Control.{class_asked, RequestFits};
 ghost use Rattle.shm_alloc.specs.Alloc.Control as control;
 
 use crate::point::{AllocPoint, Goal};
 use shm_words::{Tag, class_of};
+
+/// Where the search for a free block begins: so far behind the first segment, the first page of each segment and the first block of each page.
+///
+/// Zeros are no hint. Any other numbers will do: behind the last one the first one comes, so that each is gone to once.
+#[derive(Clone, Copy, Drop)]
+pub struct Near {
+    pub segment: u16,
+    pub page: u8,
+    pub index: u8,
+}
 
 /// What the new block is to hold.
 #[derive(Clone, Copy, Drop)]
@@ -16,6 +26,24 @@ pub struct Request {
     pub count: u8,
     /// The plain words; those from `count` on mean nothing.
     pub plain: [u64; 8],
+    /// Where the search begins.
+    pub near: Near,
+}
+
+/// Which of `count` is number `index`, where they are counted from number `first` on, and behind the last one from the first on.
+#[inline(always)]
+#[tactic(auto, unfolding(crate::specs::Alloc::Control::turned), using(crate::specs::Turning::turned_below))]
+pub(crate) fn turned(count: u16, first: u16, index: u16) -> u16
+    requires { index < count }
+    ensures is { result ≡ control.turned count first index }
+    ensures below { result < count }
+{
+    if first == 0 {
+        index
+    } else {
+        let at = (u32::from(index) + u32::from(first)) % u32::from(count);
+        at as u16
+    }
 }
 
 impl Request {

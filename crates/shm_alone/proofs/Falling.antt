@@ -1,33 +1,19 @@
 -- events that make nothing take away from the size of the graph
 use Rattle.std.proofs.Common.{◌≡◌, ◌≢◌, ℕ, ◌+◌, ◌<◌, ◌≤◌, Bool, true, false, refl, sym, ◌∙◌, arith, cond, ltb, eqb, inl, inr, ◌&&◌}
-use Rattle.std.proofs.lemmas.Bool.{cases_Bool, and_parts, ltb-true, cond-false}
-use Rattle.std.proofs.lemmas.Bool.Decides.{nat_tests}
-use Rattle.shm_words.specs.declared.geometry.Geometry.{Geometry}
-use Rattle.shm_words.specs.Tags.{tag_refs}
-use Rattle.shm_words.specs.Layout.{GeometryFits, total_of}
+use Rattle.std.proofs.lemmas.Bool.{cases_Bool, and_parts, ltb-true, cond-false, Decides.nat_tests}
+use Rattle.shm_words.specs.{declared.geometry.Geometry.Geometry, Tags.tag_refs, Layout.{GeometryFits, total_of}}
 use Rattle.shm_words.proofs.Placing.{total_in_format}
-use Rattle.shm_graph.specs.declared.ask.Ask.{Ask}
-use Rattle.shm_graph.specs.declared.ask.Ask.TheVariants.{Store, Exchange}
-use Rattle.shm_graph.specs.declared.spot.Spot.{Spot}
+use Rattle.shm_graph.specs.declared.{ask.Ask.{Ask, TheVariants.{Store, Exchange}}, spot.Spot.Spot}
 use Rattle.shm_graph.specs.declared.spot.Spot.TheVariants.{Home, Root, Slot, Head, Tag, Body}
-use Rattle.shm_graph.specs.declared.memo.First.TheVariants.{Begun}
-use Rattle.shm_graph.specs.declared.memo.Second.TheVariants.{Open}
-use Rattle.shm_graph.specs.declared.memo.ChangeStage.TheVariants.{Raising, Lowering}
-use Rattle.shm_graph.specs.declared.memo.Op.{Op}
-use Rattle.shm_graph.specs.declared.memo.Op.TheVariants as op
-use Rattle.shm_graph.specs.declared.memo.Memo.{Memo}
-use Rattle.shm_graph.specs.declared.memo.Step.{Step}
+use Rattle.shm_graph.specs.declared.memo.{First.TheVariants.Begun, Second.TheVariants.Open}
+use Rattle.shm_graph.specs.declared.memo.{ChangeStage.TheVariants.{Raising, Lowering}, Op.Op, Memo.Memo, Step.Step}
 use Rattle.shm_graph.specs.Blocks.{classes, headers}
 use Rattle.shm_graph.specs.Events.{Event, Nothing, Alloc, Up, Down, ChangeUp, ChangeDown, Free, Graph, graph_of, Happens}
-use Rattle.shm_graph.specs.Held.{HeldAt}
-use Rattle.shm_graph.specs.Laws.{event_of, event_by, event_on}
-use Rattle.shm_graph.specs.References.{refs_of}
-use Rattle.shm_graph.specs.Spots.{IsAt, spot_address}
-use Rattle.shm_graph.specs.Views.{View, targets}
-use Rattle.shm_graph.proofs.Spots.SpotPlaces.{at_is_in}
-use Rattle.shm_graph.proofs.Spots.Spotting.{body_block, block_within}
-use Rattle.shm_graph.proofs.States.Counting.{has_place}
-use Rattle.shm_graph.proofs.States.Holders.{held_live_block}
+use Rattle.shm_graph.specs.{Held.HeldAt, Laws.{event_of, event_by, event_on}, References.refs_of}
+use Rattle.shm_graph.specs.{Spots.{IsAt, spot_address}, Views.{View, targets}}
+use Rattle.shm_graph.specs.declared.memo.Op.TheVariants as op
+use Rattle.shm_graph.proofs.Spots.{SpotPlaces.at_is_in, Spotting.{body_block, block_within}}
+use Rattle.shm_graph.proofs.States.{Counting.has_place, Holders.held_live_block}
 use Rattle.shm_alone.specs.Alone.{IsLoss, weight}
 use Rattle.shm_alone.specs.Size.{identities, places, addresses, size_of, IsCounted, IsHeldWithin}
 use Rattle.shm_alone.proofs.Shrinking.{size_most, part_same, down_less, held_less, free_less}

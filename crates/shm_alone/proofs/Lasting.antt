@@ -1,33 +1,17 @@
 -- a call of a machine that works alone on a pool
 use Rattle.std.proofs.Common.{◌≡◌, ℕ, ◌<◌, ◌+◌, ◌*◌, ◌^◌, ◌≤◌, ◌++◌, List, length, true, false, Bool, sym, ap, ◌∙◌, subst, arith, inl, inr}
 use Rattle.std.proofs.lemmas.Bool.{cases_Bool}
-use Rattle.shm_words.specs.declared.geometry.Geometry.{Geometry}
-use Rattle.shm_words.specs.Layout.{GeometryFits}
-use Rattle.shm_graph.specs.declared.ask.Me.{Me}
-use Rattle.shm_graph.specs.declared.spot.Spot.{Spot}
-use Rattle.shm_graph.specs.declared.memo.Memo.{Memo}
-use Rattle.shm_graph.specs.declared.run.Move.{Move}
-use Rattle.shm_graph.specs.declared.run.Start.{Start}
-use Rattle.shm_graph.specs.Asks.{Trail, call_before}
-use Rattle.shm_graph.specs.Events.{Event}
-use Rattle.shm_graph.specs.Laws.{Control, Laws}
-use Rattle.shm_graph.specs.Runs.{Leads, first_state}
-use Rattle.shm_graph.specs.Spots.{see}
-use Rattle.shm_graph.specs.Tells.{Tells, machine_steps}
-use Rattle.shm_graph.specs.Whole.{fits_now}
-use Rattle.shm_calls.specs.declared.calls.Calls.{Calls}
-use Rattle.shm_calls.specs.CallsControl.{calls_control, calls_does, calls_of}
-use Rattle.shm_calls.specs.CallsFit.{CallsFits, CallsGives}
-use Rattle.shm_calls.specs.CallsKeep.{calls_laws, calls_tells}
+use Rattle.shm_words.specs.{declared.geometry.Geometry.Geometry, Layout.GeometryFits}
+use Rattle.shm_graph.specs.declared.{ask.Me.Me, spot.Spot.Spot, memo.Memo.Memo, run.{Move.Move, Start.Start}}
+use Rattle.shm_graph.specs.{Asks.{Trail, call_before}, Events.Event, Laws.{Control, Laws}, Runs.{Leads, first_state}}
+use Rattle.shm_graph.specs.{Spots.see, Tells.{Tells, machine_steps}, Whole.fits_now}
+use Rattle.shm_calls.specs.{declared.calls.Calls.Calls, CallsControl.{calls_control, calls_does, calls_of}}
+use Rattle.shm_calls.specs.{CallsFit.{CallsFits, CallsGives}, CallsKeep.{calls_laws, calls_tells}}
 use Rattle.shm_calls.specs.Plans.{PlanLaws, Planned}
-use Rattle.shm_plain.specs.Pools.{Pool, IsOf, IsRun, MayStep, memo_of, readied}
-use Rattle.shm_plain.specs.Calls.{Ran, Took, state_of, words}
-use Rattle.shm_plain.proofs.OwnTurns.{leads_after}
-use Rattle.shm_plain.proofs.Turning.{ready_run}
-use Rattle.shm_alone.specs.Alone.{pay, left_limit, alone_steps, EndsAlone}
-use Rattle.shm_alone.specs.Size.{size_of, size_limit}
-use Rattle.shm_alone.proofs.Shrinking.{size_small}
-use Rattle.shm_alone.proofs.Paying.{at_most, graph_in}
+use Rattle.shm_plain.specs.{Pools.{Pool, IsOf, IsRun, MayStep, memo_of, readied}, Calls.{Ran, Took, state_of, words}}
+use Rattle.shm_plain.proofs.{OwnTurns.leads_after, Turning.ready_run}
+use Rattle.shm_alone.specs.{Alone.{pay, left_limit, alone_steps, EndsAlone}, Size.{size_of, size_limit}}
+use Rattle.shm_alone.proofs.{Shrinking.size_small, Paying.{at_most, graph_in}}
 
 -- the numbers
 few : (wide : Bool) (n l s x y : ℕ) → n ≤ l + pay * s + 1 → l ≤ left_limit wide → s ≤ size_limit wide → y + n ≡ x → x ≤ y + alone_steps wide
@@ -85,6 +69,6 @@ answers_alone k fits m enough c p q r0 answered x y before may of fit fresh ran 
     ]
 
 -- of a machine that makes the calls of a plan
-pub calls_last : {P C A B : Type 0} (k : Control C B) (q : Planned P C B A) → PlanLaws k q → (alone : Calls P C A B → (Spot → ℕ) → Type 0) (left : Calls P C A B → ℕ) (saved : A → ℕ) → EndsAlone (calls_control k q) (calls_does k q) alone left saved (CallsFits k q)
-    → (p : P) → ((w : Spot → ℕ) → alone (calls_of q p) w) → (GeometryFits (q.me p).geometry → left (calls_of q p) ≤ left_limit (q.me p).geometry.wide) → (calls_control k q).fresh (calls_of q p) ≡ true → Lasts (calls_control k q) (CallsFits k q) (calls_of q p)
-calls_last k q laws alone left saved ends p knows small fresh = lasts (calls_control k q) (CallsFits k q) (CallsGives k q) (calls_laws k q laws) (calls_does k q) (calls_tells k q laws) alone left saved ends (calls_of q p) knows small fresh
+pub calls_last : {P C A B : Type 0} (k : Control C B) (q : Planned P C B A) → PlanLaws k q → (alone : Calls P C A B → (Spot → ℕ) → Type 0) (left : Calls P C A B → ℕ) (saved : A → ℕ) → EndsAlone (calls_control k q.steered) (calls_does k q) alone left saved (CallsFits k q)
+    → (p : P) → ((w : Spot → ℕ) → alone (calls_of q.steered p) w) → (GeometryFits (q.steered.me p).geometry → left (calls_of q.steered p) ≤ left_limit (q.steered.me p).geometry.wide) → (calls_control k q.steered).fresh (calls_of q.steered p) ≡ true → Lasts (calls_control k q.steered) (CallsFits k q) (calls_of q.steered p)
+calls_last k q laws alone left saved ends p knows small fresh = lasts (calls_control k q.steered) (CallsFits k q) (CallsGives k q) (calls_laws k q laws) (calls_does k q) (calls_tells k q laws) alone left saved ends (calls_of q.steered p) knows small fresh

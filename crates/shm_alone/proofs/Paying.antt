@@ -2,29 +2,17 @@
 use Rattle.std.proofs.Common.{◌≡◌, ℕ, ◌+◌, ◌*◌, ◌<◌, ◌≤◌, List, [], ◌∷◌, length, refl, sym, ◌∙◌, subst, arith, false}
 use Rattle.std.specs.Prelude.{None, slice_index}
 use Rattle.shm_words.specs.declared.geometry.Geometry.{Geometry}
-use Rattle.shm_graph.specs.declared.spot.Spot.{Spot}
-use Rattle.shm_graph.specs.declared.ask.Ask.{Ask}
-use Rattle.shm_graph.specs.declared.ask.Me.{Me}
-use Rattle.shm_graph.specs.declared.memo.Memo.{Memo}
-use Rattle.shm_graph.specs.declared.memo.Step.{Step}
-use Rattle.shm_graph.specs.declared.run.Account.{Account}
-use Rattle.shm_graph.specs.declared.run.Move.TheVariants.{Word}
+use Rattle.shm_graph.specs.declared.{spot.Spot.Spot, ask.{Ask.Ask, Me.Me}, memo.{Memo.Memo, Step.Step}}
+use Rattle.shm_graph.specs.declared.run.{Account.Account, Move.TheVariants.Word}
 use Rattle.shm_graph.specs.Asks.{Trail, at_of, seen_of, call_before, words_after, words_set}
 use Rattle.shm_graph.specs.Events.{Event, Graph, graph_of, Happens}
 use Rattle.shm_graph.specs.Laws.{Control, Laws, Frame, Stands, frame_of, framed, step_of, event_on}
-use Rattle.shm_graph.specs.Runs.{Held, Leads, State, state, moved, memos_of}
-use Rattle.shm_graph.specs.Spots.{spot_at, classes_in, see}
-use Rattle.shm_graph.specs.Tells.{Tells, GoesOn, machine_steps}
-use Rattle.shm_graph.specs.Views.{view}
-use Rattle.shm_graph.specs.Whole.{fits_now}
-use Rattle.shm_graph.proofs.Machines.Composing.{outcome_none}
-use Rattle.shm_graph.proofs.Machines.Wholes.{whole_inside, whole_keeps}
-use Rattle.shm_graph.proofs.Runs.CallEventsOf.{memo_here}
-use Rattle.shm_graph.proofs.Runs.Lists.{see-words_set}
-use Rattle.shm_graph.proofs.Spots.Seeing.{classes-see, see-spot}
+use Rattle.shm_graph.specs.{Runs.{Held, Leads, State, state, moved, memos_of}, Spots.{spot_at, classes_in, see}}
+use Rattle.shm_graph.specs.{Tells.{Tells, GoesOn, machine_steps}, Views.view, Whole.fits_now}
+use Rattle.shm_graph.proofs.Machines.{Composing.outcome_none, Wholes.{whole_inside, whole_keeps}}
+use Rattle.shm_graph.proofs.{Runs.{CallEventsOf.memo_here, Lists.see-words_set}, Spots.Seeing.{classes-see, see-spot}}
 use Rattle.shm_plain.specs.Calls.{words}
-use Rattle.shm_alone.specs.Alone.{pay, weight, IsPaid, EndsAlone}
-use Rattle.shm_alone.specs.Size.{size_of, IsHeldWithin}
+use Rattle.shm_alone.specs.{Alone.{pay, weight, IsPaid, EndsAlone}, Size.{size_of, IsHeldWithin}}
 use Rattle.shm_alone.proofs.Falling.{size_falls, among_on}
 
 -- the identity of a pool

@@ -1,13 +1,10 @@
 -- graphs of references that shrink
 use Rattle.std.proofs.Common.{◌≡◌, ◌≢◌, ℕ, ◌+◌, ◌*◌, ◌<◌, ◌≤◌, Bool, true, false, ap, ◌∙◌, sym, subst, arith, eqb, cond}
 use Rattle.std.proofs.lemmas.Bool.{ne_eqb, cond-true}
-use Rattle.shm_graph.specs.declared.spot.Spot.{Spot}
-use Rattle.shm_graph.specs.declared.spot.Spot.TheVariants.{Home, Root, Slot, Body}
+use Rattle.shm_graph.specs.declared.spot.Spot.{Spot, TheVariants.{Home, Root, Slot, Body}}
 use Rattle.shm_graph.specs.Events.{Graph, IsSame, with_target, with_held_over, with_live}
-use Rattle.shm_graph.specs.References.{sum_below, one_if}
-use Rattle.shm_graph.specs.Spots.{same_spot}
-use Rattle.shm_graph.proofs.Spots.Spotting.{same_spot_self}
-use Rattle.shm_graph.proofs.Runs.Lists.{at1_here}
+use Rattle.shm_graph.specs.{References.{sum_below, one_if}, Spots.same_spot}
+use Rattle.shm_graph.proofs.{Spots.Spotting.same_spot_self, Runs.Lists.at1_here}
 use Rattle.shm_alone.specs.Size.{identities, places, addresses, named, homes_named, roots_named, slots_named, bodies_named, size_of, IsCounted, size_limit}
 use Rattle.shm_alone.proofs.Sizes.{sum_most, sum_less, sum_bound}
 

@@ -1,6 +1,5 @@
 -- sums that fall
-use Rattle.std.proofs.Common.{◌≡◌, ℕ, ◌*◌, ◌<◌, ◌≤◌, zero, suc, arith, inl, inr, ap}
-use Rattle.std.proofs.lemmas.Bool.{cases_eq}
+use Rattle.std.proofs.{Common.{◌≡◌, ℕ, ◌*◌, ◌<◌, ◌≤◌, zero, suc, arith, inl, inr, ap}, lemmas.Bool.cases_eq}
 use Rattle.shm_graph.specs.References.{sum_below}
 
 -- a sum of lower numbers is lower

@@ -1,11 +1,7 @@
 -- machines that work alone: no other identity makes a word step meanwhile, so that no exchange fails, and each word step is paid for
 use Rattle.std.specs.Prelude.{◌≡◌, ℕ, ◌+◌, ◌*◌, ◌^◌, ◌<◌, Bool, true, false}
-use Rattle.shm_graph.specs.declared.spot.Spot.{Spot}
-use Rattle.shm_graph.specs.declared.memo.Memo.{Memo}
-use Rattle.shm_graph.specs.Spots.{spot_at}
-use Rattle.shm_graph.specs.Blocks.{classes}
-use Rattle.shm_graph.specs.Asks.{Trail, at_of, seen_of, words_after}
-use Rattle.shm_graph.specs.Events.{Event, Nothing, Alloc, Up, ChangeUp}
+use Rattle.shm_graph.specs.{declared.{spot.Spot.Spot, memo.Memo.Memo}, Spots.spot_at, Blocks.classes}
+use Rattle.shm_graph.specs.{Asks.{Trail, at_of, seen_of, words_after}, Events.{Event, Nothing, Alloc, Up, ChangeUp}}
 use Rattle.shm_graph.specs.Laws.{Control, Frame, Outcome, Stands}
 
 -- how many word steps an event pays for

@@ -2,29 +2,18 @@
 use Rattle.std.proofs.Common.{ℕ, ◌+◌, ◌*◌, ◌-◌, ◌%◌, ◌<◌, ◌≤◌, arith, Bool, true, false, List}
 use Rattle.std.specs.Prelude.{◌==◌, if◌then◌else◌, nat_lt, Some, None, Option, Result, Ok, Err}
 use Rattle.shm_words.specs.Layout.{address_limit}
-use Rattle.shm_graph.specs.declared.memo.Memo.{Memo}
-use Rattle.shm_graph.specs.declared.spot.Spot.{Spot}
+use Rattle.shm_graph.specs.{declared.{memo.Memo.Memo, spot.Spot.Spot}, Asks.Trail, Events.Event, Laws.Outcome}
 use Rattle.shm_graph.specs.declared.spot.Spot.TheVariants as spot
-use Rattle.shm_graph.specs.Asks.{Trail}
-use Rattle.shm_graph.specs.Events.{Event}
-use Rattle.shm_graph.specs.Laws.{Outcome}
-use Rattle.shm_calls.specs.declared.calls.Calls.{Calls}
-use Rattle.shm_calls.specs.declared.or.Or.TheVariants.{First, Second}
-use Rattle.shm_calls.specs.CallsControl.{calls_does}
+use Rattle.shm_calls.specs.{declared.{calls.Calls.Calls, or.Or.TheVariants.{First, Second}}, CallsControl.calls_does}
 use Rattle.shm_calls.specs.CallsFit.{CallsFits}
 use Rattle.shm_count.specs.declared.answer.EraSpent.{EraSpent}
-use Rattle.shm_recover.specs.declared.take_back.BackPoint.{BackPoint}
-use Rattle.shm_recover.specs.declared.take_back.BackPoint.TheVariants.{Tail, Head, Slot, Lower, Tear}
+use Rattle.shm_recover.specs.declared.take_back.BackPoint.{BackPoint, TheVariants.{Tail, Head, Slot, Lower, Tear}}
 use Rattle.shm_recover.specs.declared.take_back.BackState.{BackState}
 use Rattle.shm_recover.specs.TakeBack.Control.{BackAnswer, BackCall, back_after, back_call_at, back_turns, is_last, passed, passed_answer, back_parts, is_first, to_of}
-use Rattle.shm_recover.specs.TakeBack.Laws.{back_laws}
-use Rattle.shm_recover.specs.TakeBack.{BackKnows, back_part, back_plan}
-use Rattle.shm_recover.specs.Machines.Recovering.{take_back}
-use Rattle.shm_alone.specs.Alone.{EndsAlone}
-use Rattle.shm_alone.specs.GiveEnds.{none_over}
+use Rattle.shm_recover.specs.{TakeBack.{Laws.back_laws, BackKnows, back_part, back_plan}, Machines.Recovering.take_back}
+use Rattle.shm_alone.specs.{Alone.EndsAlone, GiveEnds.none_over}
 use Rattle.shm_alone.specs.Lifting.{anything, calls_alone, calls_left, plain_calls_end}
-use Rattle.shm_alone.specs.RootsEnd.{part_alone, part_ends, part_left, part_saved}
-use Rattle.shm_alone.specs.StepEnds.{redo_few}
+use Rattle.shm_alone.specs.{RootsEnd.{part_alone, part_ends, part_left, part_saved}, StepEnds.redo_few}
 
 -- how many word steps come behind the call at a point at most, but for those that events pay: 200 for each queue
 abbrev pub back_rest_at : BackState → BackPoint → ℕ

@@ -1,24 +1,14 @@
 -- segments that are given up, working alone: how many word steps come behind one, and that each is paid for
 use Rattle.std.proofs.Common.{◌≡◌, ◌≢◌, ℕ, ◌+◌, ◌*◌, ◌-◌, ◌<◌, ◌≤◌, refl, arith, Bool, true, false}
-use Rattle.std.specs.Prelude.{◌==◌, if◌then◌else◌, List}
 use Rattle.std.proofs.lemmas.Bool.{eqb-false}
-use Rattle.shm_graph.specs.declared.memo.Memo.{Memo}
-use Rattle.shm_graph.specs.declared.spot.Spot.{Spot}
-use Rattle.shm_graph.specs.Asks.{Trail}
-use Rattle.shm_graph.specs.Events.{Event}
-use Rattle.shm_graph.specs.Laws.{Outcome}
-use Rattle.shm_calls.specs.declared.calls.Calls.{Calls}
-use Rattle.shm_calls.specs.declared.word.Word.{Word}
-use Rattle.shm_calls.specs.CallsControl.{calls_does}
-use Rattle.shm_calls.specs.CallsFit.{CallsFits}
+use Rattle.std.specs.Prelude.{◌==◌, if◌then◌else◌, List}
+use Rattle.shm_graph.specs.{declared.{memo.Memo.Memo, spot.Spot.Spot}, Asks.Trail, Events.Event, Laws.Outcome}
+use Rattle.shm_calls.specs.{declared.{calls.Calls.Calls, word.Word.Word}, CallsControl.calls_does, CallsFit.CallsFits}
 use Rattle.shm_calls.specs.Words.{word_control}
-use Rattle.shm_recover.specs.declared.give_up.GivePoint.{GivePoint}
-use Rattle.shm_recover.specs.declared.give_up.GivePoint.TheVariants.{Look, Give, Status}
+use Rattle.shm_recover.specs.declared.give_up.GivePoint.{GivePoint, TheVariants.{Look, Give, Status}}
 use Rattle.shm_recover.specs.declared.give_up.GiveState.{GiveState}
-use Rattle.shm_recover.specs.GiveUp.Control.{after_word, is_first, next_segment, turns_word}
-use Rattle.shm_recover.specs.GiveUp.Laws.{give_laws}
-use Rattle.shm_recover.specs.GiveUp.{GiveKnows, give_plan}
-use Rattle.shm_recover.specs.Machines.Recovering.{give_up}
+use Rattle.shm_recover.specs.GiveUp.{Control.{after_word, is_first, next_segment, turns_word}, Laws.give_laws}
+use Rattle.shm_recover.specs.{GiveUp.{GiveKnows, give_plan}, Machines.Recovering.give_up}
 use Rattle.shm_alone.specs.Alone.{EndsAlone}
 use Rattle.shm_alone.specs.Lifting.{anything, calls_alone, calls_left, plain_calls_end, word_ends, word_left, word_saved}
 

@@ -1,12 +1,8 @@
 -- a join that works alone ends: it is one word step
 use Rattle.std.proofs.Common.{ℕ, arith}
 use Rattle.shm_graph.specs.declared.spot.Spot.{Spot}
-use Rattle.shm_recover.specs.declared.join.JoinState.{JoinState}
-use Rattle.shm_recover.specs.Join.AsPart.{join_does}
-use Rattle.shm_recover.specs.Join.{JoinFits, join_control}
-use Rattle.shm_alone.specs.Alone.{EndsAlone}
-use Rattle.shm_alone.specs.GiveEnds.{none_over}
-use Rattle.shm_alone.specs.Lifting.{anything}
+use Rattle.shm_recover.specs.{declared.join.JoinState.JoinState, Join.{AsPart.join_does, JoinFits, join_control}}
+use Rattle.shm_alone.specs.{Alone.EndsAlone, GiveEnds.none_over, Lifting.anything}
 
 -- it knows nothing of the words, and has one word step left
 abbrev pub join_alone : JoinState → (Spot → ℕ) → Type 0

@@ -1,32 +1,21 @@
 -- a leaving that works alone ends: how many word steps come behind a call, and that they are paid for
 use Rattle.std.proofs.Common.{◌≡◌, ◌≢◌, ℕ, ◌+◌, ◌*◌, ◌-◌, ◌^◌, ◌<◌, ◌≤◌, refl, arith, Bool, true, false, List}
-use Rattle.std.specs.Prelude.{◌==◌, if◌then◌else◌, Result, Ok, Err}
 use Rattle.std.proofs.lemmas.Bool.{eqb-false}
+use Rattle.std.specs.Prelude.{◌==◌, if◌then◌else◌, Result, Ok, Err}
 use Rattle.shm_words.specs.Layout.{GeometryFits}
 use Rattle.shm_words.proofs.Placing.{segments_few}
-use Rattle.shm_graph.specs.declared.ask.Me.{Me}
-use Rattle.shm_graph.specs.declared.memo.Memo.{Memo}
-use Rattle.shm_graph.specs.declared.spot.Spot.{Spot}
-use Rattle.shm_graph.specs.Asks.{Trail}
-use Rattle.shm_graph.specs.Events.{Event}
+use Rattle.shm_graph.specs.{declared.{ask.Me.Me, memo.Memo.Memo, spot.Spot.Spot}, Asks.Trail, Events.Event}
 use Rattle.shm_graph.specs.Laws.{Outcome}
-use Rattle.shm_calls.specs.declared.calls.Calls.{Calls}
-use Rattle.shm_calls.specs.declared.or.Or.TheVariants.{First, Second}
-use Rattle.shm_calls.specs.CallsControl.{calls_control, calls_does, calls_of}
-use Rattle.shm_calls.specs.CallsFit.{CallsFits}
+use Rattle.shm_calls.specs.declared.{calls.Calls.Calls, or.Or.TheVariants.{First, Second}}
+use Rattle.shm_calls.specs.{CallsControl.{calls_control, calls_does, calls_of}, CallsFit.CallsFits}
 use Rattle.shm_calls.specs.Words.{WordFits, word_control, word_does}
 use Rattle.shm_count.specs.declared.answer.EraSpent.{EraSpent}
-use Rattle.shm_ref.specs.DropRoots.Control.{drop_root}
-use Rattle.shm_ref.specs.DropRoots.{roots_plan}
-use Rattle.shm_recover.specs.declared.leave.LeavePoint.{LeavePoint}
-use Rattle.shm_recover.specs.declared.leave.LeavePoint.TheVariants.{Roots, Look, Give, Status}
+use Rattle.shm_ref.specs.DropRoots.{Control.{drop_root, roots_steered}, roots_plan}
+use Rattle.shm_recover.specs.declared.leave.LeavePoint.{LeavePoint, TheVariants.{Roots, Look, Give, Status}}
 use Rattle.shm_recover.specs.declared.leave.LeaveState.{LeaveState}
-use Rattle.shm_recover.specs.Leave.Control.{LeaveAnswer, LeaveCall, is_roots, leave_after, leave_call_at, leave_next, leave_parts, leave_turns, leaving}
-use Rattle.shm_recover.specs.Leave.Laws.{leave_laws}
-use Rattle.shm_recover.specs.Leave.{LeaveKnows, leave_plan}
-use Rattle.shm_recover.specs.Machines.{leave}
-use Rattle.shm_alone.specs.Alone.{EndsAlone}
-use Rattle.shm_alone.specs.GiveEnds.{none_over}
+use Rattle.shm_recover.specs.Leave.Control.{LeaveAnswer, LeaveCall, is_roots, leave_after, leave_call_at, leave_next, leave_parts, leave_turns, leaving, leave_steered}
+use Rattle.shm_recover.specs.{Leave.{Laws.leave_laws, LeaveKnows, leave_plan}, Machines.leave}
+use Rattle.shm_alone.specs.{Alone.EndsAlone, GiveEnds.none_over}
 use Rattle.shm_alone.specs.Lifting.{anything, calls_alone, calls_left, or_alone, or_ends, or_left, or_saved, plain_calls_end, word_ends, word_left, word_saved}
 use Rattle.shm_alone.specs.RootsEnd.{roots_alone, roots_end, roots_left, roots_saved}
 
@@ -99,11 +88,11 @@ leave_ends =
     plain_calls_end leave_parts leave_plan leave_call_alone leave_call_left leave_call_saved leave_rest none_over leave_laws
     (record {
       parts = λ m.
-          or_ends (calls_control drop_root roots_plan) word_control (CallsFits drop_root roots_plan) (WordFits (is_roots m.point)) (calls_does drop_root roots_plan) word_does roots_alone anything roots_left word_left roots_saved word_saved roots_end (word_ends (is_roots m.point));
+          or_ends (calls_control drop_root roots_steered) word_control (CallsFits drop_root roots_plan) (WordFits (is_roots m.point)) (calls_does drop_root roots_plan) word_does roots_alone anything roots_left word_left roots_saved word_saved roots_end (word_ends (is_roots m.point));
       begins = λ m. begins m m.point;
       pays = λ m r0 rs r tr t es ds a h g held agent. leave_paid m m.point a r0 rs r tr t es ds h g;
     })
 
 -- before its first word step it has few left
-pub leave_few : (me : Me) → GeometryFits me.geometry → leave_left (calls_of leave_plan (leaving me)) ≤ 2 ^ 30
+pub leave_few : (me : Me) → GeometryFits me.geometry → leave_left (calls_of leave_steered (leaving me)) ≤ 2 ^ 30
 leave_few me f = let s = segments_few me.geometry f in omega arith

@@ -1,34 +1,21 @@
 -- the second half of a change, as a recoverer that works alone makes it, ends: its exchange finds the header that it read
 use Rattle.std.proofs.Common.{◌≡◌, ℕ, ◌+◌, ◌≤◌, refl, sym, ap, ◌∙◌, subst, arith, Bool, true, false, cond, eqb, List, []}
-use Rattle.std.specs.Prelude.{◌==◌, if◌then◌else◌, nat_lt}
 use Rattle.std.proofs.lemmas.Bool.{eq-eqb}
+use Rattle.std.specs.Prelude.{◌==◌, if◌then◌else◌, nat_lt}
 use Rattle.shm_words.specs.Headers.{header_of}
-use Rattle.shm_graph.specs.declared.ask.Ask.{Ask}
-use Rattle.shm_graph.specs.declared.memo.Memo.{Memo}
-use Rattle.shm_graph.specs.declared.spot.Spot.{Spot}
-use Rattle.shm_graph.specs.declared.spot.Spot.TheVariants.{Head}
-use Rattle.shm_graph.specs.Asks.{Trail, at_of, seen_of, words_after}
-use Rattle.shm_graph.specs.Blocks.{classes}
-use Rattle.shm_graph.specs.Events.{ChangeDown, Event, Nothing}
-use Rattle.shm_graph.specs.Laws.{Frame, Stands}
-use Rattle.shm_graph.specs.Spots.{spot_at}
-use Rattle.shm_graph.specs.Tells.{after_all}
-use Rattle.shm_calls.specs.declared.calls.Calls.{Calls}
-use Rattle.shm_calls.specs.declared.word.Word.{Word}
-use Rattle.shm_calls.specs.CallsControl.{calls_control, calls_does}
-use Rattle.shm_calls.specs.CallsFit.{CallsFits}
-use Rattle.shm_calls.specs.Grown.{Grows}
-use Rattle.shm_calls.specs.Words.{WordFits, word_control, word_does}
+use Rattle.shm_graph.specs.declared.{ask.Ask.Ask, memo.Memo.Memo, spot.Spot.{Spot, TheVariants.Head}}
+use Rattle.shm_graph.specs.{Asks.{Trail, at_of, seen_of, words_after}, Blocks.classes}
+use Rattle.shm_graph.specs.{Events.{ChangeDown, Event, Nothing}, Laws.{Frame, Stands}, Spots.spot_at, Tells.after_all}
+use Rattle.shm_calls.specs.{declared.{calls.Calls.Calls, word.Word.Word}, CallsControl.{calls_control, calls_does}}
+use Rattle.shm_calls.specs.{CallsFit.CallsFits, Grown.Grows, Words.{WordFits, word_control, word_does}}
 use Rattle.shm_count.specs.Step.BeforeExchange.{row_spot}
 use Rattle.shm_steps.specs.WordParts.{former_event}
 use Rattle.shm_recover.specs.declared.mend_lower.MendLowerPoint.{MendLowerPoint}
 use Rattle.shm_recover.specs.declared.mend_lower.MendLowerPoint.TheVariants.{Header, Row, Show, Exchange, Close}
 use Rattle.shm_recover.specs.declared.mend_lower.MendLowerState.{MendLowerState}
-use Rattle.shm_recover.specs.MendLower.Control.{found, lowering_ask, lowering_call}
-use Rattle.shm_recover.specs.MendLower.Headers.{half_block}
-use Rattle.shm_recover.specs.MendLower.{HasFound, LoweringKnows, lowering_part, lowering_plan}
-use Rattle.shm_alone.specs.Alone.{EndsAlone, IsLoss}
-use Rattle.shm_alone.specs.GiveEnds.{none_over}
+use Rattle.shm_recover.specs.MendLower.Control.{found, lowering_ask, lowering_call, lowering_steered}
+use Rattle.shm_recover.specs.MendLower.{Headers.half_block, HasFound, LoweringKnows, lowering_part, lowering_plan}
+use Rattle.shm_alone.specs.{Alone.{EndsAlone, IsLoss}, GiveEnds.none_over}
 use Rattle.shm_alone.specs.Lifting.{GoesOn, anything, calls_alone, calls_end, calls_left, event_ends, fewer_end, word_ends, word_left, word_saved}
 
 -- ---- what is known, and what is left
@@ -136,7 +123,7 @@ lower_part_ends m y = go y
     go Close = plain false
 
 -- the second half of a change made alone ends
-pub lower_ends : EndsAlone (calls_control word_control lowering_plan) (calls_does word_control lowering_plan) lower_alone lower_left none_over (CallsFits word_control lowering_plan)
+pub lower_ends : EndsAlone (calls_control word_control lowering_steered) (calls_does word_control lowering_plan) lower_alone lower_left none_over (CallsFits word_control lowering_plan)
 lower_ends =
     calls_end word_control lowering_plan anything word_left word_saved lower_stands lower_rest none_over
     (record {

@@ -1,35 +1,23 @@
 -- a mending that works alone ends: how many word steps come behind a call, and that they are paid for
 use Rattle.std.proofs.Common.{ℕ, ◌+◌, ◌%◌, ◌^◌, ◌≤◌, arith, Bool, true, false, List}
 use Rattle.std.specs.Prelude.{if◌then◌else◌, Option, Some, None}
-use Rattle.shm_words.specs.declared.redo.Redo.{Redo as ARedo}
+use Rattle.shm_words.specs.{declared.redo.Redo.Redo as ARedo, Redos.redo_of}
 use Rattle.shm_words.specs.declared.redo.Redo.TheVariants as redos
-use Rattle.shm_words.specs.Redos.{redo_of}
-use Rattle.shm_graph.specs.declared.memo.Memo.{Memo}
-use Rattle.shm_graph.specs.declared.spot.Spot.{Spot}
-use Rattle.shm_graph.specs.Asks.{Trail}
-use Rattle.shm_graph.specs.Bounds.{redo_steps}
-use Rattle.shm_graph.specs.Events.{Event}
+use Rattle.shm_graph.specs.{declared.{memo.Memo.Memo, spot.Spot.Spot}, Asks.Trail, Bounds.redo_steps, Events.Event}
 use Rattle.shm_graph.specs.Laws.{Outcome}
-use Rattle.shm_calls.specs.declared.calls.Calls.{Calls}
-use Rattle.shm_calls.specs.declared.or.Or.TheVariants.{First, Second}
-use Rattle.shm_calls.specs.CallsControl.{calls_control, calls_does}
-use Rattle.shm_calls.specs.CallsFit.{CallsFits}
-use Rattle.shm_calls.specs.Either.{OrFits, or_control, or_does}
-use Rattle.shm_calls.specs.Words.{WordFits, word_control, word_does}
-use Rattle.shm_count.specs.declared.commit_test.Commit.{Commit}
-use Rattle.shm_count.specs.declared.commit_test.Commit.TheVariants.{Committed, NotCommitted}
-use Rattle.shm_count.specs.CommitTest.{testing_plan}
+use Rattle.shm_calls.specs.declared.{calls.Calls.Calls, or.Or.TheVariants.{First, Second}}
+use Rattle.shm_calls.specs.{CallsControl.{calls_control, calls_does}, CallsFit.CallsFits}
+use Rattle.shm_calls.specs.{Either.{OrFits, or_control, or_does}, Words.{WordFits, word_control, word_does}}
+use Rattle.shm_count.specs.declared.commit_test.Commit.{Commit, TheVariants.{Committed, NotCommitted}}
+use Rattle.shm_count.specs.CommitTest.{testing_plan, Control.testing_steered}
 use Rattle.shm_recover.specs.declared.mend.MendPoint.{MendPoint}
 use Rattle.shm_recover.specs.declared.mend.MendPoint.TheVariants.{Dead, Era, Redo, More, Test, Slot, Close, Lower, Unlatch}
 use Rattle.shm_recover.specs.declared.mend.MendState.{MendState}
 use Rattle.shm_recover.specs.Mend.Control.{MendAnswer, MendCall, found, found_by, is_dead, is_first, is_second, mend_after, mend_call, mend_parts, mend_turns, tested_at}
-use Rattle.shm_recover.specs.Mend.Laws.{mend_laws}
-use Rattle.shm_recover.specs.Mend.Machines.{mend}
-use Rattle.shm_recover.specs.Mend.{mend_part, mend_plan}
-use Rattle.shm_recover.specs.MendLower.{lowering_plan}
-use Rattle.shm_recover.specs.MendUnlatch.{unlatching_plan}
-use Rattle.shm_alone.specs.Alone.{EndsAlone}
-use Rattle.shm_alone.specs.GiveEnds.{none_over}
+use Rattle.shm_recover.specs.{Mend.{Laws.mend_laws, Machines.mend, mend_part, mend_plan}, MendLower.lowering_plan}
+use Rattle.shm_recover.specs.{MendLower.Control.lowering_steered, MendUnlatch.unlatching_plan}
+use Rattle.shm_recover.specs.MendUnlatch.Control.{unlatching_steered}
+use Rattle.shm_alone.specs.{Alone.EndsAlone, GiveEnds.none_over}
 use Rattle.shm_alone.specs.Lifting.{anything, calls_alone, calls_left, or_alone, or_ends, or_left, or_saved, plain_calls_end, word_ends, word_left, word_saved}
 use Rattle.shm_alone.specs.LowerEnds.{lower_alone, lower_ends, lower_left}
 use Rattle.shm_alone.specs.TestEnds.{test_ends, test_rest, test_saved}
@@ -126,17 +114,17 @@ mend_paid m Unlatch (Second (Second (First a))) rs r t ds g = absurd g
 -- its calls end alone
 mend_part_ends : (m : MendState) → EndsAlone mend_parts (mend_part m m.point).does mend_call_alone mend_call_left mend_call_saved (mend_part m m.point).fits
 mend_part_ends m =
-    or_ends word_control (or_control (calls_control word_control testing_plan) (or_control (calls_control word_control lowering_plan) (calls_control word_control unlatching_plan)))
+    or_ends word_control (or_control (calls_control word_control testing_steered) (or_control (calls_control word_control lowering_steered) (calls_control word_control unlatching_steered)))
     (WordFits (is_dead m.point)) (OrFits (CallsFits word_control testing_plan) (OrFits (CallsFits word_control lowering_plan) (CallsFits word_control unlatching_plan)))
     word_does (or_does (calls_does word_control testing_plan) (or_does (calls_does word_control lowering_plan) (calls_does word_control unlatching_plan)))
     anything (or_alone (calls_alone anything anything) (or_alone lower_alone unlatch_alone)) word_left (or_left (calls_left word_left test_rest) (or_left lower_left unlatch_left)) word_saved (or_saved test_saved (or_saved none_over none_over))
     (word_ends (is_dead m.point))
-    (or_ends (calls_control word_control testing_plan) (or_control (calls_control word_control lowering_plan) (calls_control word_control unlatching_plan))
+    (or_ends (calls_control word_control testing_steered) (or_control (calls_control word_control lowering_steered) (calls_control word_control unlatching_steered))
     (CallsFits word_control testing_plan) (OrFits (CallsFits word_control lowering_plan) (CallsFits word_control unlatching_plan))
     (calls_does word_control testing_plan) (or_does (calls_does word_control lowering_plan) (calls_does word_control unlatching_plan))
     (calls_alone anything anything) (or_alone lower_alone unlatch_alone) (calls_left word_left test_rest) (or_left lower_left unlatch_left) test_saved (or_saved none_over none_over)
     test_ends
-    (or_ends (calls_control word_control lowering_plan) (calls_control word_control unlatching_plan) (CallsFits word_control lowering_plan) (CallsFits word_control unlatching_plan)
+    (or_ends (calls_control word_control lowering_steered) (calls_control word_control unlatching_steered) (CallsFits word_control lowering_plan) (CallsFits word_control unlatching_plan)
     (calls_does word_control lowering_plan) (calls_does word_control unlatching_plan) lower_alone unlatch_alone lower_left unlatch_left none_over none_over lower_ends unlatch_ends))
 
 -- a call begins with what it knows of the words

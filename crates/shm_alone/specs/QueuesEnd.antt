@@ -2,42 +2,26 @@
 use Rattle.std.proofs.Common.{◌≡◌, ℕ, ◌+◌, ◌-◌, ◌*◌, ◌%◌, ◌<◌, ◌≤◌, arith, Bool, true, false, refl, List}
 use Rattle.std.proofs.lemmas.Bool.Decides.{nat_tests}
 use Rattle.std.specs.Prelude.{◌==◌, nat_lt, if◌then◌else◌, Some, None, Result, Ok, Err}
-use Rattle.shm_graph.specs.declared.ask.Me.{Me}
-use Rattle.shm_graph.specs.declared.spot.Spot.{Spot}
-use Rattle.shm_graph.specs.declared.spot.Spot.TheVariants as spot
-use Rattle.shm_graph.specs.declared.memo.Memo.{Memo}
-use Rattle.shm_graph.specs.Asks.{Trail}
-use Rattle.shm_graph.specs.Events.{Event}
+use Rattle.shm_graph.specs.{declared.{ask.Me.Me, spot.Spot.Spot, memo.Memo.Memo}, Asks.Trail, Events.Event}
 use Rattle.shm_graph.specs.Laws.{Outcome}
-use Rattle.shm_calls.specs.declared.calls.Calls.{Calls}
-use Rattle.shm_calls.specs.declared.or.Or.TheVariants.{First, Second}
-use Rattle.shm_calls.specs.CallsControl.{calls_control, calls_does, calls_of}
-use Rattle.shm_calls.specs.CallsFit.{CallsFits}
-use Rattle.shm_calls.specs.Either.{OrFits, or_does}
-use Rattle.shm_calls.specs.Words.{WordFits, word_control, word_does}
-use Rattle.shm_count.specs.declared.answer.EraSpent.{EraSpent}
-use Rattle.shm_count.specs.Step.Events.{step_event}
-use Rattle.shm_count.specs.StepsAt.{DownFitsAt}
-use Rattle.shm_count.specs.Tear.Events.{tear_event}
-use Rattle.shm_count.specs.Tear.{TearFits}
-use Rattle.shm_queue.specs.declared.answer.TakeFault.{TakeFault}
-use Rattle.shm_queue.specs.declared.answer.TakeFault.TheVariants as fault
-use Rattle.shm_queue.specs.declared.drain.DrainPoint.{DrainPoint}
-use Rattle.shm_queue.specs.declared.drain.DrainPoint.TheVariants.{Status, Item}
-use Rattle.shm_queue.specs.declared.drain.DrainState.{DrainState}
-use Rattle.shm_queue.specs.declared.take.TakePoint.{TakePoint}
-use Rattle.shm_queue.specs.declared.take.TakePoint.TheVariants.{Head, Tail, Slot, Lower, Store, Tear}
+use Rattle.shm_graph.specs.declared.spot.Spot.TheVariants as spot
+use Rattle.shm_calls.specs.declared.{calls.Calls.Calls, or.Or.TheVariants.{First, Second}}
+use Rattle.shm_calls.specs.{CallsControl.{calls_control, calls_does, calls_of}, CallsFit.CallsFits}
+use Rattle.shm_calls.specs.{Either.{OrFits, or_does}, Words.{WordFits, word_control, word_does}}
+use Rattle.shm_count.specs.{declared.answer.EraSpent.EraSpent, Step.Events.step_event, StepsAt.DownFitsAt}
+use Rattle.shm_count.specs.Tear.{Events.tear_event, TearFits}
+use Rattle.shm_queue.specs.declared.{answer.TakeFault.TakeFault, drain.DrainPoint.DrainPoint}
+use Rattle.shm_queue.specs.declared.drain.{DrainPoint.TheVariants.{Status, Item}, DrainState.DrainState}
+use Rattle.shm_queue.specs.declared.take.TakePoint.{TakePoint, TheVariants.{Head, Tail, Slot, Lower, Store, Tear}}
 use Rattle.shm_queue.specs.declared.take.TakeState.{TakeState}
-use Rattle.shm_queue.specs.Drain.Control.{DrainAnswer, DrainCall, TakeCalls, drain_call_at, drain_parts, draining, first_from, is_status, next_from, take_control, turned, turned_answer}
-use Rattle.shm_queue.specs.Drain.{drain_part, drain_plan}
-use Rattle.shm_queue.specs.Drain.Laws.{drain_laws}
-use Rattle.shm_queue.specs.Take.Control.{TakeAnswer, take_call_at, take_parts, taking, is_head}
-use Rattle.shm_queue.specs.Take.{take_part, take_plan}
-use Rattle.shm_queue.specs.Take.Laws.{take_laws}
+use Rattle.shm_queue.specs.Drain.Control.{DrainAnswer, DrainCall, TakeCalls, drain_call_at, drain_parts, draining, first_from, is_status, next_from, take_control, turned, turned_answer, drain_steered}
+use Rattle.shm_queue.specs.Drain.{drain_part, drain_plan, Laws.drain_laws}
+use Rattle.shm_queue.specs.Take.Control.{TakeAnswer, take_call_at, take_parts, taking, is_head, take_steered}
+use Rattle.shm_queue.specs.Take.{take_part, take_plan, Laws.take_laws}
+use Rattle.shm_queue.specs.declared.answer.TakeFault.TheVariants as fault
 use Rattle.shm_alone.specs.Alone.{EndsAlone}
 use Rattle.shm_alone.specs.Lifting.{Pays, anything, calls_alone, calls_left, fewer_end, or_alone, or_ends, or_left, or_saved, plain_calls_end, word_ends, word_left, word_saved}
-use Rattle.shm_alone.specs.RootsEnd.{by_test, part_alone, part_ends, part_left, part_saved}
-use Rattle.shm_alone.specs.StepEnds.{redo_few}
+use Rattle.shm_alone.specs.{RootsEnd.{by_test, part_alone, part_ends, part_left, part_saved}, StepEnds.redo_few}
 
 -- ---- a take
 
@@ -115,10 +99,10 @@ take_ends =
     })
 
 -- before its first word step it has this many left, and knows what it has to
-pub take_begin : (me : Me) (s : ℕ) → take_left (calls_of take_plan (taking me s)) ≡ 13
+pub take_begin : (me : Me) (s : ℕ) → take_left (calls_of take_steered (taking me s)) ≡ 13
 take_begin me s = omega arith
 
-pub take_ready : (me : Me) (s : ℕ) (w : Spot → ℕ) → take_alone (calls_of take_plan (taking me s)) w
+pub take_ready : (me : Me) (s : ℕ) (w : Spot → ℕ) → take_alone (calls_of take_steered (taking me s)) w
 take_ready me s w = (tt, tt)
 
 -- ---- a drain
@@ -154,7 +138,7 @@ drain_left = calls_left drain_call_left drain_plan_rest
 
 -- what is left before the next call
 abbrev drain_due : DrainState → ℕ
-drain_due m = drain_call_left (drain_plan.call m) + drain_plan_rest m
+drain_due m = drain_call_left (drain_steered.call m) + drain_plan_rest m
 
 -- a sender that it turns to is paid by what was left
 turns_to : (m : DrainState) (s n : ℕ) → (s < m.me.geometry.clients → 13 + 13 * (m.me.geometry.clients - s) ≤ n) → Outcome (turned_answer m s) (drain_due (turned m s) ≤ n) (λ x. drain_saved x ≤ n)
@@ -199,7 +183,7 @@ drain_parts_end m =
     (or_ends word_control take_control (WordFits first) (CallsFits take_parts take_plan) word_does (calls_does take_parts take_plan) anything take_alone word_left take_left word_saved take_saved (word_ends first) take_ends)
 
 -- a drain that works alone ends
-pub drain_ends : EndsAlone (calls_control drain_parts drain_plan) (calls_does drain_parts drain_plan) drain_alone drain_left drain_saved (CallsFits drain_parts drain_plan)
+pub drain_ends : EndsAlone (calls_control drain_parts drain_steered) (calls_does drain_parts drain_plan) drain_alone drain_left drain_saved (CallsFits drain_parts drain_plan)
 drain_ends =
     plain_calls_end drain_parts drain_plan drain_call_alone drain_call_left drain_call_saved drain_plan_rest drain_saved (drain_laws take_laws)
     (record {
@@ -209,8 +193,8 @@ drain_ends =
     })
 
 -- before its first word step it has this many left, and knows what it has to
-pub drain_begin : (me : Me) → drain_left (calls_of drain_plan (draining me)) ≡ 13 * me.geometry.clients + 14
+pub drain_begin : (me : Me) → drain_left (calls_of drain_steered (draining me)) ≡ 13 * me.geometry.clients + 14
 drain_begin me = omega arith
 
-pub drain_ready : (me : Me) (w : Spot → ℕ) → drain_alone (calls_of drain_plan (draining me)) w
+pub drain_ready : (me : Me) (w : Spot → ℕ) → drain_alone (calls_of drain_steered (draining me)) w
 drain_ready me w = (tt, tt)

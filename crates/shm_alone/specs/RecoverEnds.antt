@@ -2,45 +2,23 @@
 use Rattle.std.proofs.Common.{ℕ, ◌+◌, ◌*◌, ◌≤◌, arith, Bool, true, false, List}
 use Rattle.std.specs.Prelude.{◌==◌, if◌then◌else◌, Result, Ok, Err}
 use Rattle.shm_words.specs.Layout.{GeometryFits, segments_most}
-use Rattle.shm_graph.specs.declared.ask.Me.{Me}
-use Rattle.shm_graph.specs.declared.memo.Memo.{Memo}
-use Rattle.shm_graph.specs.declared.spot.Spot.{Spot}
-use Rattle.shm_graph.specs.Asks.{Trail}
-use Rattle.shm_graph.specs.Bounds.{redo_steps}
-use Rattle.shm_graph.specs.Events.{Event}
-use Rattle.shm_graph.specs.Laws.{Outcome}
-use Rattle.shm_calls.specs.declared.calls.Calls.{Calls}
-use Rattle.shm_calls.specs.declared.or.Or.TheVariants.{First, Second}
-use Rattle.shm_calls.specs.CallsControl.{calls_does, calls_of}
-use Rattle.shm_calls.specs.CallsFit.{CallsFits}
-use Rattle.shm_calls.specs.Either.{OrFits, or_control, or_does}
-use Rattle.shm_calls.specs.Words.{word_control}
+use Rattle.shm_graph.specs.{declared.{ask.Me.Me, memo.Memo.Memo, spot.Spot.Spot}, Asks.Trail, Bounds.redo_steps}
+use Rattle.shm_graph.specs.{Events.Event, Laws.Outcome}
+use Rattle.shm_calls.specs.declared.{calls.Calls.Calls, or.Or.TheVariants.{First, Second}}
+use Rattle.shm_calls.specs.{CallsControl.{calls_does, calls_of}, CallsFit.CallsFits}
+use Rattle.shm_calls.specs.{Either.{OrFits, or_control, or_does}, Words.word_control}
 use Rattle.shm_count.specs.declared.answer.EraSpent.{EraSpent}
-use Rattle.shm_ref.specs.DropRoots.Control.{drop_root}
-use Rattle.shm_ref.specs.DropRoots.Laws.{roots_laws}
-use Rattle.shm_ref.specs.DropRoots.{roots_plan}
+use Rattle.shm_ref.specs.DropRoots.{Control.drop_root, Laws.roots_laws, roots_plan}
 use Rattle.shm_recover.specs.declared.recover.RecoverPoint.{RecoverPoint}
 use Rattle.shm_recover.specs.declared.recover.RecoverPoint.TheVariants.{Mend, Roots, Back, Takes, Scan, Give}
-use Rattle.shm_recover.specs.declared.recover.RecoverState.{RecoverState}
-use Rattle.shm_recover.specs.FinishTakes.Laws.{finish_laws}
-use Rattle.shm_recover.specs.FinishTakes.{finish_plan}
-use Rattle.shm_recover.specs.GiveUp.Laws.{give_laws}
-use Rattle.shm_recover.specs.GiveUp.{give_plan}
-use Rattle.shm_recover.specs.Mend.Control.{mend_parts}
-use Rattle.shm_recover.specs.Mend.Laws.{mend_laws}
-use Rattle.shm_recover.specs.Mend.{mend_plan}
+use Rattle.shm_recover.specs.{declared.recover.RecoverState.RecoverState, FinishTakes.{Laws.finish_laws, finish_plan}}
+use Rattle.shm_recover.specs.{GiveUp.{Laws.give_laws, give_plan}, Mend.{Control.mend_parts, Laws.mend_laws, mend_plan}}
 use Rattle.shm_recover.specs.Machines.Recovering.{recover}
-use Rattle.shm_recover.specs.Recover.Control.{RecoverAnswer, RecoverCall, back_control, finish_control, give_control, mend_control, recover_after, recover_call_at, recover_parts, recover_turns, recovering, roots_control, scan_control}
-use Rattle.shm_recover.specs.Recover.Laws.{recover_laws}
-use Rattle.shm_recover.specs.Recover.{recover_part, recover_plan}
-use Rattle.shm_recover.specs.Scan.Control.{scan_parts}
-use Rattle.shm_recover.specs.Scan.Laws.{scan_laws}
-use Rattle.shm_recover.specs.Scan.{scan_plan}
-use Rattle.shm_recover.specs.TakeBack.Control.{back_parts}
-use Rattle.shm_recover.specs.TakeBack.Laws.{back_laws}
+use Rattle.shm_recover.specs.Recover.Control.{RecoverAnswer, RecoverCall, back_control, finish_control, give_control, mend_control, recover_after, recover_call_at, recover_parts, recover_turns, recovering, roots_control, scan_control, recover_steered}
+use Rattle.shm_recover.specs.{Recover.{Laws.recover_laws, recover_part, recover_plan}, Scan.Control.scan_parts}
+use Rattle.shm_recover.specs.{Scan.{Laws.scan_laws, scan_plan}, TakeBack.{Control.back_parts, Laws.back_laws}}
 use Rattle.shm_recover.specs.TakeBack.{back_plan}
-use Rattle.shm_alone.specs.Alone.{EndsAlone, left_limit}
-use Rattle.shm_alone.specs.BackEnds.{back_alone, back_ends, back_left}
+use Rattle.shm_alone.specs.{Alone.{EndsAlone, left_limit}, BackEnds.{back_alone, back_ends, back_left}}
 use Rattle.shm_alone.specs.GiveEnds.{give_alone, give_ends, give_left, none_over}
 use Rattle.shm_alone.specs.Lifting.{anything, calls_alone, calls_left, or_alone, or_ends, or_left, or_saved, plain_calls_end}
 use Rattle.shm_alone.specs.MendEnds.{mend_alone, mend_ends, mend_left}
@@ -184,5 +162,5 @@ few false n g c s = omega arith
 few true n g c s = omega arith
 
 -- before its first word step it has few left
-pub recover_few : (me : Me) → GeometryFits me.geometry → recover_left (calls_of recover_plan (recovering me)) ≤ left_limit me.geometry.wide
+pub recover_few : (me : Me) → GeometryFits me.geometry → recover_left (calls_of recover_steered (recovering me)) ≤ left_limit me.geometry.wide
 recover_few me f = let n = few me.geometry.wide me.geometry.clients me.geometry.segments f.clients f.segments in omega arith

@@ -3,36 +3,19 @@ use Rattle.std.proofs.Common.{◌≡◌, ◌≢◌, ℕ, ◌+◌, ◌-◌, ◌*�
 use Rattle.std.proofs.lemmas.Bool.{eqb-false}
 use Rattle.std.specs.Prelude.{◌==◌, if◌then◌else◌, Some, None, Result, Ok, Err}
 use Rattle.shm_words.specs.Layout.{address_limit}
-use Rattle.shm_graph.specs.declared.ask.Me.{Me}
-use Rattle.shm_graph.specs.declared.spot.Spot.{Spot}
-use Rattle.shm_graph.specs.declared.spot.Spot.TheVariants.{Root}
-use Rattle.shm_graph.specs.declared.memo.Memo.{Memo}
-use Rattle.shm_graph.specs.Asks.{Trail}
-use Rattle.shm_graph.specs.Events.{Event}
-use Rattle.shm_graph.specs.Laws.{Outcome}
-use Rattle.shm_calls.specs.declared.calls.Calls.{Calls}
-use Rattle.shm_calls.specs.declared.or.Or.TheVariants.{First, Second}
-use Rattle.shm_calls.specs.CallsControl.{calls_control, calls_does, calls_of}
-use Rattle.shm_calls.specs.CallsFit.{CallsFits}
-use Rattle.shm_calls.specs.Either.{OrFits, or_control, or_does}
-use Rattle.shm_calls.specs.Words.{WordFits, word_control, word_does}
-use Rattle.shm_count.specs.declared.answer.EraSpent.{EraSpent}
-use Rattle.shm_count.specs.Step.Events.{step_event}
-use Rattle.shm_count.specs.Step.Machines.{down_control}
-use Rattle.shm_count.specs.StepsAt.{DownFitsAt}
-use Rattle.shm_count.specs.Tear.Control.{tear_control}
-use Rattle.shm_count.specs.Tear.Events.{tear_event}
-use Rattle.shm_count.specs.Tear.{TearFits}
-use Rattle.shm_ref.specs.declared.drop_root.DropPoint.{DropPoint}
-use Rattle.shm_ref.specs.declared.drop_root.DropPoint.TheVariants.{Load, Lower, Tear}
-use Rattle.shm_ref.specs.declared.drop_root.DropState.{DropState}
-use Rattle.shm_ref.specs.declared.drop_roots.RootsState.{RootsState}
-use Rattle.shm_ref.specs.DropRoot.Control.{DropAnswer, DropCall, drop_call_at, drop_parts, dropping, is_load}
-use Rattle.shm_ref.specs.DropRoot.{DropKnows, drop_plan}
-use Rattle.shm_ref.specs.DropRoot.Laws.{drop_laws}
-use Rattle.shm_ref.specs.DropRoots.Control.{RootsCall, drop_root, dropping_roots, roots_call}
-use Rattle.shm_ref.specs.DropRoots.{roots_plan}
-use Rattle.shm_ref.specs.DropRoots.Laws.{roots_laws}
+use Rattle.shm_graph.specs.{declared.{ask.Me.Me, spot.Spot.{Spot, TheVariants.Root}, memo.Memo.Memo}, Asks.Trail}
+use Rattle.shm_graph.specs.{Events.Event, Laws.Outcome}
+use Rattle.shm_calls.specs.declared.{calls.Calls.Calls, or.Or.TheVariants.{First, Second}}
+use Rattle.shm_calls.specs.{CallsControl.{calls_control, calls_does, calls_of}, CallsFit.CallsFits}
+use Rattle.shm_calls.specs.{Either.{OrFits, or_control, or_does}, Words.{WordFits, word_control, word_does}}
+use Rattle.shm_count.specs.{declared.answer.EraSpent.EraSpent, Step.{Events.step_event, Machines.down_control}}
+use Rattle.shm_count.specs.{StepsAt.DownFitsAt, Tear.{Control.tear_control, Events.tear_event, TearFits}}
+use Rattle.shm_ref.specs.declared.drop_root.DropPoint.{DropPoint, TheVariants.{Load, Lower, Tear}}
+use Rattle.shm_ref.specs.declared.{drop_root.DropState.DropState, drop_roots.RootsState.RootsState}
+use Rattle.shm_ref.specs.DropRoot.Control.{DropAnswer, DropCall, drop_call_at, drop_parts, dropping, is_load, drop_steered}
+use Rattle.shm_ref.specs.DropRoot.{DropKnows, drop_plan, Laws.drop_laws}
+use Rattle.shm_ref.specs.DropRoots.Control.{RootsCall, drop_root, dropping_roots, roots_call, roots_steered}
+use Rattle.shm_ref.specs.DropRoots.{roots_plan, Laws.roots_laws}
 use Rattle.shm_alone.specs.Alone.{EndsAlone}
 use Rattle.shm_alone.specs.Lifting.{Pays, anything, calls_alone, calls_left, or_alone, or_ends, or_left, or_saved, plain_calls_end, word_ends, word_left, word_saved}
 use Rattle.shm_alone.specs.StepEnds.{down_ends_at, redo_few, step_alone, step_left, step_saved}
@@ -117,10 +100,10 @@ drop_ends =
     })
 
 -- before its first word step it has this many left, and knows what it has to
-pub drop_begin : (me : Me) (k : ℕ) → drop_left (calls_of drop_plan (dropping me k)) ≡ 11
+pub drop_begin : (me : Me) (k : ℕ) → drop_left (calls_of drop_steered (dropping me k)) ≡ 11
 drop_begin me k = omega arith
 
-pub drop_ready : (me : Me) (k : ℕ) (w : Spot → ℕ) → drop_alone (calls_of drop_plan (dropping me k)) w
+pub drop_ready : (me : Me) (k : ℕ) (w : Spot → ℕ) → drop_alone (calls_of drop_steered (dropping me k)) w
 drop_ready me k w = (tt, tt)
 
 -- ---- a drop of all roots
@@ -155,7 +138,7 @@ roots_pays m (Ok z) low = root_pays m (drop_saved (Ok z)) low (m.root == 15) (eq
 roots_pays m (Err e) low = omega arith
 
 -- a drop of all roots that works alone ends
-pub roots_end : EndsAlone (calls_control drop_root roots_plan) (calls_does drop_root roots_plan) roots_alone roots_left roots_saved (CallsFits drop_root roots_plan)
+pub roots_end : EndsAlone (calls_control drop_root roots_steered) (calls_does drop_root roots_plan) roots_alone roots_left roots_saved (CallsFits drop_root roots_plan)
 roots_end =
     plain_calls_end drop_root roots_plan drop_alone drop_left drop_saved roots_rest roots_saved roots_laws
     (record {
@@ -165,8 +148,8 @@ roots_end =
     })
 
 -- before its first word step it has this many left, and knows what it has to
-pub roots_begin : (me : Me) → roots_left (calls_of roots_plan (dropping_roots me)) ≡ 176
+pub roots_begin : (me : Me) → roots_left (calls_of roots_steered (dropping_roots me)) ≡ 176
 roots_begin me = omega arith
 
-pub roots_ready : (me : Me) (w : Spot → ℕ) → roots_alone (calls_of roots_plan (dropping_roots me)) w
+pub roots_ready : (me : Me) (w : Spot → ℕ) → roots_alone (calls_of roots_steered (dropping_roots me)) w
 roots_ready me w = ((tt, tt), tt)

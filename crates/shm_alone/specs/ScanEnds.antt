@@ -1,33 +1,18 @@
 -- a scan that works alone: how many word steps come behind a call, and that they are paid for
 use Rattle.std.proofs.Common.{◌≡◌, ℕ, ◌+◌, ◌*◌, ◌-◌, ◌%◌, ◌^◌, ◌<◌, ◌≤◌, refl, arith, Bool, true, false, List}
-use Rattle.std.specs.Prelude.{◌==◌, if◌then◌else◌, nat_lt, Some, None, Option, Result, Ok, Err}
 use Rattle.std.proofs.lemmas.Bool.{ltb-false, ltb-true}
-use Rattle.shm_graph.specs.declared.memo.Memo.{Memo}
-use Rattle.shm_graph.specs.declared.spot.Spot.{Spot}
-use Rattle.shm_graph.specs.Asks.{Trail}
-use Rattle.shm_graph.specs.Events.{Event}
-use Rattle.shm_graph.specs.Laws.{Outcome}
-use Rattle.shm_calls.specs.declared.calls.Calls.{Calls}
-use Rattle.shm_calls.specs.declared.or.Or.TheVariants.{First, Second}
-use Rattle.shm_calls.specs.CallsControl.{calls_does}
-use Rattle.shm_calls.specs.CallsFit.{CallsFits}
-use Rattle.shm_calls.specs.Either.{OrFits, or_does}
-use Rattle.shm_calls.specs.Grown.{Grows}
+use Rattle.std.specs.Prelude.{◌==◌, if◌then◌else◌, nat_lt, Some, None, Option, Result, Ok, Err}
+use Rattle.shm_graph.specs.{declared.{memo.Memo.Memo, spot.Spot.Spot}, Asks.Trail, Events.Event, Laws.Outcome}
+use Rattle.shm_calls.specs.{declared.{calls.Calls.Calls, or.Or.TheVariants.{First, Second}}, CallsControl.calls_does}
+use Rattle.shm_calls.specs.{CallsFit.CallsFits, Either.{OrFits, or_does}, Grown.Grows}
 use Rattle.shm_calls.specs.Words.{WordFits, word_control, word_does}
-use Rattle.shm_count.specs.declared.answer.EraSpent.{EraSpent}
-use Rattle.shm_count.specs.Tear.Control.{tear_control}
-use Rattle.shm_count.specs.Tear.Events.{tear_event}
-use Rattle.shm_count.specs.Tear.{TearFits}
-use Rattle.shm_recover.specs.declared.scan.ScanPoint.{ScanPoint}
-use Rattle.shm_recover.specs.declared.scan.ScanPoint.TheVariants.{Page, Header, Tear}
+use Rattle.shm_count.specs.{declared.answer.EraSpent.EraSpent, Tear.{Control.tear_control, Events.tear_event, TearFits}}
+use Rattle.shm_recover.specs.declared.scan.ScanPoint.{ScanPoint, TheVariants.{Page, Header, Tear}}
 use Rattle.shm_recover.specs.declared.scan.ScanState.{ScanState}
 use Rattle.shm_recover.specs.Scan.Control.{ScanAnswer, ScanCall, block_answer, block_passed, is_first, is_last, is_lost, page_answer, page_passed, scan_after, scan_call_at, scan_parts, scan_turns}
-use Rattle.shm_recover.specs.Scan.Laws.{scan_laws}
-use Rattle.shm_recover.specs.Scan.Words.{by_class}
-use Rattle.shm_recover.specs.Scan.{IsIn, ScanKnows, scan_part, scan_plan}
+use Rattle.shm_recover.specs.Scan.{Laws.scan_laws, Words.by_class, IsIn, ScanKnows, scan_part, scan_plan}
 use Rattle.shm_recover.specs.Machines.Recovering.{scan}
-use Rattle.shm_alone.specs.Alone.{EndsAlone}
-use Rattle.shm_alone.specs.GiveEnds.{none_over}
+use Rattle.shm_alone.specs.{Alone.EndsAlone, GiveEnds.none_over}
 use Rattle.shm_alone.specs.Lifting.{anything, calls_alone, calls_left, fewer_end, or_alone, or_ends, or_left, or_saved, plain_calls_end, word_ends, word_left, word_saved}
 use Rattle.shm_alone.specs.TearEnds.{tear_alone, tear_ends, tear_left, tear_saved}
 

@@ -1,10 +1,8 @@
 -- how big a graph of references is: what an event that makes nothing takes away from
 use Rattle.std.specs.Prelude.{ℕ, ◌+◌, ◌^◌, ◌<◌, Bool, true, false, ◌==◌, if◌then◌else◌}
 use Rattle.shm_words.specs.Layout.{place_limit}
-use Rattle.shm_graph.specs.declared.spot.Spot.{Spot}
-use Rattle.shm_graph.specs.declared.spot.Spot.TheVariants.{Home, Root, Slot, Body}
-use Rattle.shm_graph.specs.Events.{Graph, Event, ChangeDown}
-use Rattle.shm_graph.specs.References.{sum_below, one_if}
+use Rattle.shm_graph.specs.declared.spot.Spot.{Spot, TheVariants.{Home, Root, Slot, Body}}
+use Rattle.shm_graph.specs.{Events.{Graph, Event, ChangeDown}, References.{sum_below, one_if}}
 
 -- how many identities a pool has at most
 unfoldable pub identities : ℕ

@@ -1,38 +1,21 @@
 -- a step down that works alone ends: no exchange of it fails, and the reference that is lost pays for what is left of it, and leaves 200 word steps over
 use Rattle.std.proofs.Common.{◌≡◌, ℕ, ◌+◌, ◌*◌, ◌<◌, ◌≤◌, sym, ap, ◌∙◌, subst, arith, Bool, true, false, eqb, ltb}
-use Rattle.std.specs.Prelude.{if◌then◌else◌, Result, Ok, Err}
-use Rattle.std.specs.Option.{option_map}
 use Rattle.std.proofs.lemmas.Bool.{true≢false, eq-eqb}
+use Rattle.std.specs.{Prelude.{if◌then◌else◌, Result, Ok, Err}, Option.option_map}
 use Rattle.shm_words.specs.Headers.{header_of}
-use Rattle.shm_graph.specs.declared.ask.Ask.{Ask}
-use Rattle.shm_graph.specs.declared.ask.Me.{Me}
-use Rattle.shm_graph.specs.declared.memo.Memo.{Memo}
-use Rattle.shm_graph.specs.declared.spot.Spot.{Spot}
-use Rattle.shm_graph.specs.declared.spot.Spot.TheVariants.{Head}
-use Rattle.shm_graph.specs.Asks.{Trail, at_of, seen_of, words_after}
-use Rattle.shm_graph.specs.Blocks.{classes}
-use Rattle.shm_graph.specs.Bounds.{redo_steps}
-use Rattle.shm_graph.specs.Laws.{Frame, Outcome, Stands}
-use Rattle.shm_graph.specs.Spots.{spot_at}
+use Rattle.shm_graph.specs.declared.{ask.{Ask.Ask, Me.Me}, memo.Memo.Memo, spot.Spot.{Spot, TheVariants.Head}}
+use Rattle.shm_graph.specs.{Asks.{Trail, at_of, seen_of, words_after}, Blocks.classes, Bounds.redo_steps}
+use Rattle.shm_graph.specs.{Laws.{Frame, Outcome, Stands}, Spots.spot_at}
 use Rattle.shm_graph.proofs.StepKinds.Loads.{choice}
-use Rattle.shm_count.specs.declared.answer.EraSpent.{EraSpent}
-use Rattle.shm_count.specs.declared.answer.UpFault.TheVariants as fault
-use Rattle.shm_count.specs.declared.point.Aim.{Aim}
-use Rattle.shm_count.specs.declared.point.Aim.TheVariants.{Up, Down, Change}
-use Rattle.shm_count.specs.declared.point.Half.{Half}
-use Rattle.shm_count.specs.declared.point.Half.TheVariants.{First, Second}
-use Rattle.shm_count.specs.declared.point.StepPoint.{StepPoint}
-use Rattle.shm_count.specs.declared.point.StepPoint.TheVariants as point
-use Rattle.shm_count.specs.declared.point.StepState.{StepState}
-use Rattle.shm_count.specs.declared.point.StepNext.{StepNext}
-use Rattle.shm_count.specs.declared.point.StepNext.TheVariants.{Point, Answer}
+use Rattle.shm_count.specs.declared.{answer.EraSpent.EraSpent, point.Aim.{Aim, TheVariants.{Up, Down, Change}}}
+use Rattle.shm_count.specs.declared.point.{Half.{Half, TheVariants.{First, Second}}, StepPoint.StepPoint}
+use Rattle.shm_count.specs.declared.point.{StepState.StepState, StepNext.{StepNext, TheVariants.{Point, Answer}}}
 use Rattle.shm_count.specs.Step.Control.{PartFits, PointFits, answer_of, block_at, era_next, first_next, header_next, is_over, last_era, point_of, row_address, row_next, step_ask_at, step_next_at}
-use Rattle.shm_count.specs.Step.Events.{step_event, step_event_at}
-use Rattle.shm_count.specs.Step.Headers.{half_block}
-use Rattle.shm_count.specs.Step.Machines.{down_answer, down_control, is_down}
-use Rattle.shm_count.specs.Step.BeforeExchange.{row_spot}
-use Rattle.shm_count.specs.Step.{CanStep, PointHolds}
-use Rattle.shm_count.specs.StepsAt.{DownFitsAt}
+use Rattle.shm_count.specs.Step.{Events.{step_event, step_event_at}, Headers.half_block}
+use Rattle.shm_count.specs.Step.{Machines.{down_answer, down_control, is_down}, BeforeExchange.row_spot}
+use Rattle.shm_count.specs.{Step.{CanStep, PointHolds}, StepsAt.DownFitsAt}
+use Rattle.shm_count.specs.declared.answer.UpFault.TheVariants as fault
+use Rattle.shm_count.specs.declared.point.StepPoint.TheVariants as point
 use Rattle.shm_alone.specs.Alone.{pay, IsLoss, weight, IsPaid, EndsAlone}
 
 -- ---- what is known, and what is left

@@ -1,25 +1,15 @@
 -- takes that are finished, working alone: how many word steps come behind one, and that they are paid for
 use Rattle.std.proofs.Common.{ℕ, ◌+◌, ◌*◌, ◌-◌, ◌<◌, ◌≤◌, arith, Bool, true, false, List}
 use Rattle.std.specs.Prelude.{◌==◌, if◌then◌else◌, nat_lt, Some, None, Option}
-use Rattle.shm_graph.specs.declared.memo.Memo.{Memo}
-use Rattle.shm_graph.specs.declared.spot.Spot.{Spot}
-use Rattle.shm_graph.specs.Asks.{Trail}
-use Rattle.shm_graph.specs.Events.{Event}
-use Rattle.shm_graph.specs.Laws.{Outcome}
-use Rattle.shm_calls.specs.declared.calls.Calls.{Calls}
-use Rattle.shm_calls.specs.declared.word.Word.{Word}
-use Rattle.shm_calls.specs.CallsControl.{calls_does}
-use Rattle.shm_calls.specs.CallsFit.{CallsFits}
+use Rattle.shm_graph.specs.{declared.{memo.Memo.Memo, spot.Spot.Spot}, Asks.Trail, Events.Event, Laws.Outcome}
+use Rattle.shm_calls.specs.{declared.{calls.Calls.Calls, word.Word.Word}, CallsControl.calls_does, CallsFit.CallsFits}
 use Rattle.shm_calls.specs.Words.{word_control}
-use Rattle.shm_recover.specs.declared.finish_takes.FinishPoint.{FinishPoint}
-use Rattle.shm_recover.specs.declared.finish_takes.FinishPoint.TheVariants.{Head, Tail, Slot, Store}
+use Rattle.shm_recover.specs.declared.finish_takes.FinishPoint.{FinishPoint, TheVariants.{Head, Tail, Slot, Store}}
 use Rattle.shm_recover.specs.declared.finish_takes.FinishState.{FinishState}
 use Rattle.shm_recover.specs.FinishTakes.Control.{after_word, is_first, is_last, passed, passed_answer, turns_word}
-use Rattle.shm_recover.specs.FinishTakes.Laws.{finish_laws}
-use Rattle.shm_recover.specs.FinishTakes.{FinishKnows, finish_plan}
+use Rattle.shm_recover.specs.FinishTakes.{Laws.finish_laws, FinishKnows, finish_plan}
 use Rattle.shm_recover.specs.Machines.Recovering.{finish_takes}
-use Rattle.shm_alone.specs.Alone.{EndsAlone}
-use Rattle.shm_alone.specs.GiveEnds.{none_over}
+use Rattle.shm_alone.specs.{Alone.EndsAlone, GiveEnds.none_over}
 use Rattle.shm_alone.specs.Lifting.{anything, calls_alone, calls_left, plain_calls_end, word_ends, word_left, word_saved}
 
 -- how many word steps come behind the one at a point at most: four for each queue

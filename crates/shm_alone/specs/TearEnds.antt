@@ -1,40 +1,23 @@
 -- a tear-down that works alone ends: the loss of each reference and the freeing of each block pay for what comes before the next of them
 use Rattle.std.proofs.Common.{◌≡◌, ℕ, ◌+◌, ◌-◌, ◌*◌, ◌%◌, ◌<◌, arith, Bool, true, false, eqb, ltb, List}
-use Rattle.std.specs.Prelude.{Result, Ok, Err}
 use Rattle.std.proofs.lemmas.Bool.{true≢false}
-use Rattle.shm_words.specs.declared.tag.Tag.{Tag as ATag}
-use Rattle.shm_words.specs.Layout.{address_limit}
-use Rattle.shm_words.specs.Tags.{TagFits}
-use Rattle.shm_graph.specs.declared.ask.Ask.{Ask}
-use Rattle.shm_graph.specs.declared.ask.Me.{Me}
-use Rattle.shm_graph.specs.declared.memo.Memo.{Memo}
-use Rattle.shm_graph.specs.declared.spot.Spot.{Spot}
-use Rattle.shm_graph.specs.declared.spot.Spot.TheVariants.{Body}
-use Rattle.shm_graph.specs.Asks.{Trail, at_of, seen_of, words_after}
-use Rattle.shm_graph.specs.Blocks.{classes}
-use Rattle.shm_graph.specs.Events.{Event}
-use Rattle.shm_graph.specs.Laws.{Frame, Outcome, Stands}
-use Rattle.shm_graph.specs.Spots.{spot_at}
-use Rattle.shm_graph.specs.Tells.{happens_along}
+use Rattle.std.specs.Prelude.{Result, Ok, Err}
+use Rattle.shm_words.specs.{declared.tag.Tag.Tag as ATag, Layout.address_limit, Tags.TagFits}
+use Rattle.shm_graph.specs.declared.{ask.{Ask.Ask, Me.Me}, memo.Memo.Memo, spot.Spot.{Spot, TheVariants.Body}}
+use Rattle.shm_graph.specs.{Asks.{Trail, at_of, seen_of, words_after}, Blocks.classes, Events.Event}
+use Rattle.shm_graph.specs.{Laws.{Frame, Outcome, Stands}, Spots.spot_at, Tells.happens_along}
 use Rattle.shm_graph.proofs.StepKinds.Loads.{choice}
-use Rattle.shm_count.specs.declared.answer.EraSpent.{EraSpent}
-use Rattle.shm_count.specs.declared.answer.UpFault.{UpFault}
+use Rattle.shm_count.specs.declared.{answer.{EraSpent.EraSpent, UpFault.UpFault}, point.StepNext.StepNext}
+use Rattle.shm_count.specs.declared.tear_point.{TearPoint.TearPoint, TearState.TearState, TearNext.TearNext}
+use Rattle.shm_count.specs.{declared.tear_point.TearNext.TheVariants.{Go, Answer}, Step.Events.step_event_at}
+use Rattle.shm_count.specs.Tear.Control.{word_address, tag_read, word_or_free, relinked, entered_next, word_next, lowered_next, freed_next, down_next, tear_ask_at, tear_next_at, point_of, answer_of, is_over, tear_control, TearPointFits}
+use Rattle.shm_count.specs.Tear.{Events.{tear_event, tear_event_at, tear_start}, Laws.{IsRunning, fit_runs}}
+use Rattle.shm_count.specs.Tear.{Ranges.read_fits, TearHolds, TearFits}
 use Rattle.shm_count.specs.declared.point.Aim.TheVariants as aims
 use Rattle.shm_count.specs.declared.point.StepPoint.TheVariants as step
-use Rattle.shm_count.specs.declared.point.StepNext.{StepNext}
 use Rattle.shm_count.specs.declared.point.StepNext.TheVariants as next
-use Rattle.shm_count.specs.declared.tear_point.TearPoint.{TearPoint}
 use Rattle.shm_count.specs.declared.tear_point.TearPoint.TheVariants as point
-use Rattle.shm_count.specs.declared.tear_point.TearState.{TearState}
-use Rattle.shm_count.specs.declared.tear_point.TearNext.{TearNext}
-use Rattle.shm_count.specs.declared.tear_point.TearNext.TheVariants.{Go, Answer}
 use Rattle.shm_count.specs.Step.Control as steps
-use Rattle.shm_count.specs.Step.Events.{step_event_at}
-use Rattle.shm_count.specs.Tear.Control.{word_address, tag_read, word_or_free, relinked, entered_next, word_next, lowered_next, freed_next, down_next, tear_ask_at, tear_next_at, point_of, answer_of, is_over, tear_control, TearPointFits}
-use Rattle.shm_count.specs.Tear.Events.{tear_event, tear_event_at, tear_start}
-use Rattle.shm_count.specs.Tear.Laws.{IsRunning, fit_runs}
-use Rattle.shm_count.specs.Tear.Ranges.{read_fits}
-use Rattle.shm_count.specs.Tear.{TearHolds, TearFits}
 use Rattle.shm_alone.specs.Alone.{pay, IsLoss, weight, EndsAlone}
 use Rattle.shm_alone.specs.StepEnds.{point_alone, point_left, redo_few, StepGoes, down_owes}
 

@@ -1,22 +1,15 @@
 -- a commit test that works alone ends: it loads the header, and at most one word of each row
 use Rattle.std.proofs.Common.{◌≡◌, ℕ, ◌+◌, ◌-◌, ◌<◌, ◌≤◌, arith, Bool, true, false, cond, eqb, refl}
-use Rattle.std.specs.Prelude.{nat_lt, Some, None}
 use Rattle.std.proofs.lemmas.Bool.{ltb-true}
-use Rattle.shm_graph.specs.declared.ask.Me.{Me}
-use Rattle.shm_graph.specs.Laws.{Outcome}
-use Rattle.shm_graph.specs.MemoAfterRead.{next_row}
-use Rattle.shm_calls.specs.CallsControl.{calls_does}
-use Rattle.shm_calls.specs.CallsFit.{CallsFits}
-use Rattle.shm_calls.specs.Words.{word_control}
-use Rattle.shm_count.specs.declared.commit_test.Commit.{Commit}
-use Rattle.shm_count.specs.declared.commit_test.Commit.TheVariants.{Committed, NotCommitted}
-use Rattle.shm_count.specs.declared.commit_test.Proof.TheVariants as proof
-use Rattle.shm_count.specs.declared.commit_test.TestingPoint.{TestingPoint}
-use Rattle.shm_count.specs.declared.commit_test.TestingPoint.TheVariants.{Header, Row}
+use Rattle.std.specs.Prelude.{nat_lt, Some, None}
+use Rattle.shm_graph.specs.{declared.ask.Me.Me, Laws.Outcome, MemoAfterRead.next_row}
+use Rattle.shm_calls.specs.{CallsControl.calls_does, CallsFit.CallsFits, Words.word_control}
+use Rattle.shm_count.specs.declared.commit_test.Commit.{Commit, TheVariants.{Committed, NotCommitted}}
+use Rattle.shm_count.specs.declared.commit_test.TestingPoint.{TestingPoint, TheVariants.{Header, Row}}
 use Rattle.shm_count.specs.declared.commit_test.TestingState.{TestingState}
 use Rattle.shm_count.specs.CommitTest.Control.{is_header, is_shown, test_after, test_next, test_step, test_turns}
-use Rattle.shm_count.specs.CommitTest.Machines.{commit_test}
-use Rattle.shm_count.specs.CommitTest.{testing_plan}
+use Rattle.shm_count.specs.CommitTest.{Machines.commit_test, testing_plan}
+use Rattle.shm_count.specs.declared.commit_test.Proof.TheVariants as proof
 use Rattle.shm_alone.specs.Alone.{EndsAlone}
 use Rattle.shm_alone.specs.Lifting.{anything, bare_calls_end, calls_alone, calls_left, word_ends, word_left, word_saved}
 

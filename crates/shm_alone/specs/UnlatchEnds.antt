@@ -1,20 +1,15 @@
 -- giving a latch back, as a recoverer that works alone does, ends: how many word steps come behind one, and that each is paid for
 use Rattle.std.proofs.Common.{ℕ, ◌+◌, ◌-◌, ◌%◌, ◌≤◌, arith, Bool, true, false}
 use Rattle.std.specs.Prelude.{◌==◌, if◌then◌else◌, Some, None}
-use Rattle.shm_graph.specs.declared.spot.Spot.{Spot}
-use Rattle.shm_graph.specs.Laws.{Outcome}
-use Rattle.shm_calls.specs.declared.calls.Calls.{Calls}
-use Rattle.shm_calls.specs.declared.word.Word.{Word}
-use Rattle.shm_calls.specs.CallsControl.{calls_control, calls_does}
-use Rattle.shm_calls.specs.CallsFit.{CallsFits}
-use Rattle.shm_calls.specs.Words.{word_control}
+use Rattle.shm_graph.specs.{declared.spot.Spot.Spot, Laws.Outcome}
+use Rattle.shm_calls.specs.{declared.{calls.Calls.Calls, word.Word.Word}, CallsControl.{calls_control, calls_does}}
+use Rattle.shm_calls.specs.{CallsFit.CallsFits, Words.word_control}
 use Rattle.shm_recover.specs.declared.mend_unlatch.MendUnlatchPoint.{MendUnlatchPoint}
 use Rattle.shm_recover.specs.declared.mend_unlatch.MendUnlatchPoint.TheVariants.{Whose, Look, Give, Back}
 use Rattle.shm_recover.specs.declared.mend_unlatch.MendUnlatchState.{MendUnlatchState}
-use Rattle.shm_recover.specs.MendUnlatch.Control.{is_whose, unlatching_after, unlatching_turns}
+use Rattle.shm_recover.specs.MendUnlatch.Control.{is_whose, unlatching_after, unlatching_turns, unlatching_steered}
 use Rattle.shm_recover.specs.MendUnlatch.{unlatching_plan}
-use Rattle.shm_alone.specs.Alone.{EndsAlone}
-use Rattle.shm_alone.specs.GiveEnds.{none_over}
+use Rattle.shm_alone.specs.{Alone.EndsAlone, GiveEnds.none_over}
 use Rattle.shm_alone.specs.Lifting.{anything, bare_calls_end, calls_alone, calls_left, word_ends, word_left, word_saved}
 
 -- how many word steps come behind the one at a point at most
@@ -50,7 +45,7 @@ unlatch_paid m Give n = omega arith
 unlatch_paid m Back n = omega arith
 
 -- giving a latch back alone ends
-pub unlatch_ends : EndsAlone (calls_control word_control unlatching_plan) (calls_does word_control unlatching_plan) unlatch_alone unlatch_left none_over (CallsFits word_control unlatching_plan)
+pub unlatch_ends : EndsAlone (calls_control word_control unlatching_steered) (calls_does word_control unlatching_plan) unlatch_alone unlatch_left none_over (CallsFits word_control unlatching_plan)
 unlatch_ends =
     bare_calls_end word_control unlatching_plan anything word_left word_saved unlatch_rest none_over
     (record { parts = λ m. word_ends (is_whose m.point); begins = λ m w. tt; pays = λ m n. unlatch_paid m m.point n })

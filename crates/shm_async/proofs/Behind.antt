@@ -1,40 +1,26 @@
 -- a recoverer that comes behind agents that were cut, and what it leaves
 use Rattle.std.proofs.Common.{◌≡◌, ℕ, ◌^◌, ◌<◌, Bool, true, false, cond, List, [], ◌∷◌, ◌++◌, append-nil, length, inr, refl, sym, ap, ◌∙◌, subst, arith}
 use Rattle.std.specs.Prelude.{slice_index}
-use Rattle.shm_graph.specs.declared.ask.Me.{Me}
-use Rattle.shm_graph.specs.declared.memo.Agent.{Agent}
-use Rattle.shm_graph.specs.declared.memo.Fate.{Fate}
-use Rattle.shm_graph.specs.declared.memo.Fate.TheVariants.{Acts, Died, Ended}
-use Rattle.shm_graph.specs.declared.memo.Kind.TheVariants.{Recoverer}
-use Rattle.shm_graph.specs.declared.memo.Seen.{Seen}
-use Rattle.shm_graph.specs.declared.memo.Status.TheVariants.{Gone}
-use Rattle.shm_graph.specs.declared.memo.Step.{Step}
-use Rattle.shm_graph.specs.declared.run.Account.{Account}
-use Rattle.shm_graph.specs.declared.run.LoggedLine.{LoggedLine}
-use Rattle.shm_graph.specs.Agents.{acts, acts_by, fallen, last_agent, with_last}
-use Rattle.shm_graph.specs.Held.{is_loose}
+use Rattle.shm_graph.specs.declared.{ask.Me.Me, memo.{Agent.Agent, Fate.{Fate, TheVariants.{Acts, Died, Ended}}}}
+use Rattle.shm_graph.specs.declared.memo.{Kind.TheVariants.Recoverer, Seen.Seen, Status.TheVariants.Gone, Step.Step}
+use Rattle.shm_graph.specs.declared.run.{Account.Account, LoggedLine.LoggedLine}
+use Rattle.shm_graph.specs.{Agents.{acts, acts_by, fallen, last_agent, with_last}, Held.is_loose}
 use Rattle.shm_graph.specs.Runs.{account_after, account_died, account_entered, begun_by, is_dead, told_by, told_left}
 use Rattle.shm_graph.proofs.Memos.MemoSteps.{last-append}
 use Rattle.shm_count.specs.Roots.{member}
 use Rattle.shm_recover.specs.Recover.Control.{recover_line}
 use Rattle.shm_replay.specs.Closings.{SameTable}
-use Rattle.shm_script.specs.Logged.{Logged}
-use Rattle.shm_script.specs.Values.{Scripted}
+use Rattle.shm_script.specs.{Logged.Logged, Values.Scripted}
 use Rattle.shm_agents.specs.Agents.{IsFold}
 use Rattle.shm_agents.specs.Courses.{AreAgents, AreCommandsTold, AreRecoverers, AreScriptAgents, HasLived, IsAside}
-use Rattle.shm_agents.specs.Cuts.{AreCut}
-use Rattle.shm_agents.specs.Logs.{AreUnspent, BeganWith, IsLogOf, begun_first, steps_first}
+use Rattle.shm_agents.specs.{Cuts.AreCut, Logs.{AreUnspent, BeganWith, IsLogOf, begun_first, steps_first}}
 use Rattle.shm_agents.specs.Turns.{lives_of}
 use Rattle.shm_agents.proofs.Courses.{agents_more, told_aside}
 use Rattle.shm_agents.proofs.Growing.{began_more, begun_end, first_more, log_on, with_last-end}
-use Rattle.shm_pool.specs.Calls.{Going, Shown, accounts_by}
-use Rattle.shm_pool.specs.Tokens.{Its}
-use Rattle.shm_team.specs.declared.left.Left.{Left}
-use Rattle.shm_team.specs.Dones.{IsFinished}
-use Rattle.shm_team.specs.Lefts.{IsGivenBack, account_in, is_corpse}
+use Rattle.shm_pool.specs.{Calls.{Going, Shown, accounts_by}, Tokens.Its}
+use Rattle.shm_team.specs.{declared.left.Left.Left, Dones.IsFinished, Lefts.{IsGivenBack, account_in, is_corpse}}
 use Rattle.shm_team.specs.Visits.{AreAside, HasRun}
-use Rattle.shm_team.proofs.Calling.{going_agents}
-use Rattle.shm_team.proofs.Telling.{aside_told}
+use Rattle.shm_team.proofs.{Calling.going_agents, Telling.aside_told}
 use Rattle.shm_async.specs.Cancelled.{IsCutLog}
 use Rattle.shm_async.proofs.Cuts.{lived_died}
 

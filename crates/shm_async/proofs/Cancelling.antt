@@ -1,33 +1,21 @@
 -- agents at a post that are given up
 use Rattle.std.proofs.Common.{◌≡◌, ℕ, ◌+◌, ◌<◌, Bool, true, false, cond, List, [], ◌∷◌, length, length-append, inl, refl, sym, ap, ◌∙◌, subst, arith, true≢false}
-use Rattle.shm_graph.specs.declared.ask.Me.{Me}
-use Rattle.shm_graph.specs.declared.memo.Agent.{Agent}
-use Rattle.shm_graph.specs.declared.run.Account.{Account}
-use Rattle.shm_graph.specs.declared.memo.Fate.TheVariants.{Acts}
-use Rattle.shm_graph.specs.declared.memo.Kind.TheVariants.{Recoverer}
-use Rattle.shm_graph.specs.declared.run.Start.{Start}
-use Rattle.shm_graph.specs.Agents.{acts, acts_by, fallen, last_agent, steps_made, steps_of, with_last}
-use Rattle.shm_graph.specs.Held.{is_loose}
+use Rattle.shm_graph.specs.declared.{ask.Me.Me, memo.{Agent.Agent, Fate.TheVariants.Acts, Kind.TheVariants.Recoverer}}
+use Rattle.shm_graph.specs.declared.run.{Account.Account, Start.Start}
+use Rattle.shm_graph.specs.{Agents.{acts, acts_by, fallen, last_agent, steps_made, steps_of, with_last}, Held.is_loose}
 use Rattle.shm_graph.specs.Runs.{account_died, fell_by, told_left}
 use Rattle.shm_graph.proofs.Memos.MemoSteps.{steps_died}
 use Rattle.shm_count.specs.Roots.{member}
-use Rattle.shm_script.specs.declared.log.End.TheVariants.{Died}
-use Rattle.shm_script.specs.declared.log.Entry.{Entry}
-use Rattle.shm_script.specs.Logged.{Logged}
-use Rattle.shm_script.specs.Values.{Scripted}
+use Rattle.shm_script.specs.{declared.log.{End.TheVariants.Died, Entry.Entry}, Logged.Logged, Values.Scripted}
 use Rattle.shm_agents.specs.declared.agents.Standing.TheVariants.{AtWork, Gone}
 use Rattle.shm_agents.specs.Agents.{Fallen, Fresh, IsFold, Mended, Mending, Parted, Playing, Plays, Stage, Stands, end_or, logged, one_agent}
-use Rattle.shm_agents.specs.Courses.{AreCommandsTold}
-use Rattle.shm_agents.specs.Cuts.{IsCut, IsCutOff, IsUnbegun, account_cut}
-use Rattle.shm_agents.specs.Logs.{AreUnspent, IsLogOf, steps_first}
-use Rattle.shm_agents.specs.TurnsLeft.{deaths, turns_given}
+use Rattle.shm_agents.specs.{Courses.AreCommandsTold, Cuts.{IsCut, IsCutOff, IsUnbegun, account_cut}}
+use Rattle.shm_agents.specs.{Logs.{AreUnspent, IsLogOf, steps_first}, TurnsLeft.{deaths, turns_given}}
 use Rattle.shm_agents.proofs.Loose.{has_table}
 use Rattle.shm_pool.specs.Tokens.{IsOut}
-use Rattle.shm_team.specs.declared.done.Finish.{Finish}
-use Rattle.shm_team.specs.Lefts.{IsGivenBack, account_in, is_corpse}
+use Rattle.shm_team.specs.{declared.done.Finish.Finish, Lefts.{IsGivenBack, account_in, is_corpse}}
 use Rattle.shm_team.proofs.Finishing.{is_me}
-use Rattle.shm_async.specs.Cancelled.{HasCancelled, IsCorpseBy, LogFits}
-use Rattle.shm_async.specs.Polled.{AtPost, StandAt}
+use Rattle.shm_async.specs.{Cancelled.{HasCancelled, IsCorpseBy, LogFits}, Polled.{AtPost, StandAt}}
 use Rattle.shm_async.proofs.Cuts.{cut_given}
 
 -- what a cut leaves of the pool, whether an agent acted or none

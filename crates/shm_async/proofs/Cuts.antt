@@ -1,25 +1,16 @@
 -- the turns that were given to agents that were cut, by the lives that they had
 use Rattle.std.proofs.Common.{◌≡◌, ℕ, ◌+◌, ◌<◌, Bool, true, false, cond, List, [], ◌∷◌, take, length, inl, inr, refl, sym, ap, ◌∙◌, subst, arith, true≢false}
+use Rattle.std.proofs.lemmas.{List.length-take-le, Option.slice_get_within}
 use Rattle.std.specs.Prelude.{if◌then◌else◌, Some, slice_get}
-use Rattle.std.proofs.lemmas.List.{length-take-le}
-use Rattle.std.proofs.lemmas.Option.{slice_get_within}
-use Rattle.shm_graph.specs.declared.memo.Agent.{Agent}
-use Rattle.shm_graph.specs.declared.memo.Fate.{Fate}
-use Rattle.shm_graph.specs.declared.run.Account.{Account}
-use Rattle.shm_graph.specs.declared.run.Start.{Start}
-use Rattle.shm_graph.specs.Agents.{acts, acts_by, last_agent, steps_of}
-use Rattle.shm_graph.specs.Runs.{account_died, is_dead}
+use Rattle.shm_graph.specs.declared.{memo.{Agent.Agent, Fate.Fate}, run.{Account.Account, Start.Start}}
+use Rattle.shm_graph.specs.{Agents.{acts, acts_by, last_agent, steps_of}, Runs.{account_died, is_dead}}
 use Rattle.shm_graph.proofs.Memos.MemoSteps.{last-append}
-use Rattle.shm_script.specs.declared.line.Line.{Line}
-use Rattle.shm_script.specs.Values.{Scripted}
+use Rattle.shm_script.specs.{declared.line.Line.Line, Values.Scripted}
 use Rattle.shm_agents.specs.declared.agents.Standing.TheVariants.{AtWork, Dead, Gone}
 use Rattle.shm_agents.specs.Agents.{Fallen, Fresh, IsFallen, Mended, Mending, Parted, Playing, Plays, Stage, Stands}
-use Rattle.shm_agents.specs.Courses.{AreAgents, AreRecoverers, HasLived}
-use Rattle.shm_agents.specs.Cuts.{account_cut}
-use Rattle.shm_agents.specs.Turns.{lives_of}
+use Rattle.shm_agents.specs.{Courses.{AreAgents, AreRecoverers, HasLived}, Cuts.account_cut, Turns.lives_of}
 use Rattle.shm_agents.specs.TurnsLeft.{deaths, turns_given, turns_of}
-use Rattle.shm_agents.proofs.Given.{given_died}
-use Rattle.shm_agents.proofs.Standing.{fell_quiet}
+use Rattle.shm_agents.proofs.{Given.given_died, Standing.fell_quiet}
 use Rattle.shm_async.specs.Limited.{AreGiven}
 
 -- ---- agents that died, each after the word steps of its life

@@ -1,32 +1,19 @@
 -- agents that are polled under a limit, until they are cut
 use Rattle.std.proofs.Common.{◌≡◌, ℕ, zero, suc, ◌+◌, ◌*◌, ◌-◌, ◌^◌, ◌<◌, ◌≤◌, Bool, true, false, cond, zero-add, inl, refl, sym, ap, ◌∙◌, subst, arith}
 use Rattle.std.specs.Prelude.{Option, Some, None}
-use Rattle.shm_graph.specs.declared.ask.Life.{Life}
-use Rattle.shm_graph.specs.declared.run.Account.{Account}
-use Rattle.shm_graph.specs.Agents.{acts}
-use Rattle.shm_graph.specs.Held.{is_loose}
+use Rattle.shm_graph.specs.{declared.{ask.Life.Life, run.Account.Account}, Agents.acts, Held.is_loose}
 use Rattle.shm_graph.specs.Runs.{account_died, first_account}
 use Rattle.shm_replay.proofs.Starting.{script_client}
-use Rattle.shm_script.specs.Logged.{Logged}
-use Rattle.shm_script.specs.Values.{Scripted, Traced}
-use Rattle.shm_agents.specs.Agents.{IsFold}
-use Rattle.shm_agents.specs.Cuts.{account_cut}
-use Rattle.shm_agents.specs.Turns.{script_in}
-use Rattle.shm_agents.specs.TurnsLeft.{turns_given}
+use Rattle.shm_script.specs.{Logged.Logged, Values.{Scripted, Traced}}
+use Rattle.shm_agents.specs.{Agents.IsFold, Cuts.account_cut, Turns.script_in, TurnsLeft.turns_given}
 use Rattle.shm_pool.specs.Tokens.{Its, Token}
-use Rattle.shm_team.specs.declared.done.Done.{Done}
-use Rattle.shm_team.specs.declared.done.Finish.{Finish}
-use Rattle.shm_team.specs.declared.left.Left.TheVariants.{Vacant, Corpse}
-use Rattle.shm_team.specs.Dones.{IsDone}
-use Rattle.shm_team.specs.Lefts.{account_in}
+use Rattle.shm_team.specs.declared.{done.{Done.Done, Finish.Finish}, left.Left.TheVariants.{Vacant, Corpse}}
+use Rattle.shm_team.specs.{Dones.IsDone, Lefts.account_in}
 use Rattle.shm_async.specs.Cancelled.{HasCancelled, IsCancelled, IsCutLog}
 use Rattle.shm_async.specs.LimitedMembers.{HasRoom, IsDue, IsLimitedDone, IsMending, IsPending, IsSpent, LimitedBy, WasCut}
-use Rattle.shm_async.specs.Members.{IsAtWork}
-use Rattle.shm_async.specs.Polled.{AtPost, Course, HasTurned, IsNew, IsPolled}
+use Rattle.shm_async.specs.{Members.IsAtWork, Polled.{AtPost, Course, HasTurned, IsNew, IsPolled}}
 use Rattle.shm_async.specs.Rescued.{HasStepped, IsStarted, Rescue, rescuing_first}
-use Rattle.shm_async.proofs.Gathering.{given_done, some_of}
-use Rattle.shm_async.proofs.Giving.{may_give}
-use Rattle.shm_async.proofs.Recovering.{none_stepped}
+use Rattle.shm_async.proofs.{Gathering.{given_done, some_of}, Giving.may_give, Recovering.none_stepped}
 
 some_none : (a : Finish) → ◌≡◌ {A = Option Finish} (Some a) None → ⊥
 some_none a e = cc

@@ -2,14 +2,11 @@
 use Rattle.std.proofs.Common.{◌≡◌, ◌≢◌, ℕ, zero, suc, ◌+◌, ◌<◌, ◌≤◌, Option, Some, None, refl, sym, ap, ◌∙◌, subst, arith}
 use Rattle.std.specs.Prelude.{MatchOption}
 use Rattle.shm_graph.specs.declared.ask.Me.{Me}
-use Rattle.shm_agents.specs.declared.agents.Standing.TheVariants.{AtWork}
-use Rattle.shm_agents.specs.Agents.{Playing, Stands}
+use Rattle.shm_agents.specs.{declared.agents.Standing.TheVariants.AtWork, Agents.{Playing, Stands}}
 use Rattle.shm_agents.specs.TurnsLeft.{turns_by, turns_given}
-use Rattle.shm_pool.specs.Posts.{IsPosted}
-use Rattle.shm_pool.specs.Tokens.{Its, Token}
+use Rattle.shm_pool.specs.{Posts.IsPosted, Tokens.{Its, Token}}
 use Rattle.shm_script.specs.Values.{Scripted}
-use Rattle.shm_team.specs.declared.done.Finish.{Finish}
-use Rattle.shm_team.specs.Lefts.{account_in}
+use Rattle.shm_team.specs.{declared.done.Finish.Finish, Lefts.account_in}
 use Rattle.shm_async.specs.Finished.{HasFinished}
 use Rattle.shm_async.specs.Polled.{AtPost, Course, HasGiven, HasTurned, IsPolled, MayGive, StandAt, WentOn, course_of}
 

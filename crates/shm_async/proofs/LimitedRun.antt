@@ -1,25 +1,17 @@
 -- a pool that is settled where all is done under a limit is a run of the trace with the scripts as they were cut
 use Rattle.std.proofs.Common.{◌≡◌, ◌≢◌, ℕ, zero, suc, ◌+◌, ◌<◌, ◌≤◌, ◌⊎◌, Bool, true, false, eqb, List, [], ◌∷◌, ◌++◌, length, inl, inr, refl, sym, ap, ◌∙◌, subst, arith}
-use Rattle.std.specs.List.{AllByRecursion}
-use Rattle.std.specs.Prelude.{Option, Some, None, slice_get, slice_index_or}
 use Rattle.std.proofs.lemmas.Bool.{cond-false, cond-true, eq-eqb, eqb-true, ne_eqb, true≢false}
-use Rattle.shm_graph.specs.declared.run.Account.{Account}
-use Rattle.shm_graph.specs.declared.run.Move.{Move}
-use Rattle.shm_graph.specs.Runs.{account_at}
+use Rattle.std.specs.{List.AllByRecursion, Prelude.{Option, Some, None, slice_get, slice_index_or}}
+use Rattle.shm_graph.specs.{declared.run.{Account.Account, Move.Move}, Runs.account_at}
 use Rattle.shm_plain.specs.Pools.{pool}
-use Rattle.shm_agents.specs.Turns.{script_in}
-use Rattle.shm_agents.specs.TurnsLeft.{turns_given}
+use Rattle.shm_agents.specs.{Turns.script_in, TurnsLeft.turns_given}
 use Rattle.shm_pool.specs.Tokens.{End, Its}
 use Rattle.shm_replay.specs.Replays.{start_of}
 use Rattle.shm_replay.proofs.WholeRun.{all_at, script_at}
-use Rattle.shm_script.specs.Logged.{Logged}
-use Rattle.shm_script.specs.Ranges.{AreApart, IsTrace, ScriptFits}
-use Rattle.shm_script.specs.Values.{Scripted, Traced}
-use Rattle.shm_team.specs.declared.done.Done.{Done}
-use Rattle.shm_team.specs.declared.left.Left.{Left}
+use Rattle.shm_script.specs.{Logged.Logged, Ranges.{AreApart, IsTrace, ScriptFits}, Values.{Scripted, Traced}}
+use Rattle.shm_team.specs.declared.{done.Done.Done, left.Left.Left}
 use Rattle.shm_team.specs.Dones.{AreDones, AreGivenBack, IsDone, IsDoneBy, log_of, logs_done, logs_in}
-use Rattle.shm_team.specs.Lefts.{IsGivenBack, account_in, is_corpse}
-use Rattle.shm_team.specs.Rans.{HasSettled}
+use Rattle.shm_team.specs.{Lefts.{IsGivenBack, account_in, is_corpse}, Rans.HasSettled}
 use Rattle.shm_team.proofs.Settled.{team_run_of}
 use Rattle.shm_async.specs.Limited.{AreLimited, IsCutTo, IsLimitedRun, IsWithin}
 use Rattle.shm_async.specs.LimitedMembers.{AreLimitedDones, EachFrom, IsLimitedDone, LimitedBy}

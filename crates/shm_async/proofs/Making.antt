@@ -1,18 +1,12 @@
 -- the agents of a script before their first turn
 use Rattle.std.proofs.Common.{◌≡◌, ◌^◌, ◌<◌, true, [], ◌∷◌, length, length-append, sym, ap, ◌∙◌, subst, arith}
 use Rattle.shm_words.specs.declared.geometry.Geometry.{Geometry}
-use Rattle.shm_graph.specs.declared.ask.Me.{Me}
-use Rattle.shm_graph.specs.declared.memo.Fate.TheVariants.{Ended}
-use Rattle.shm_graph.specs.declared.memo.Kind.TheVariants.{Recoverer}
-use Rattle.shm_graph.specs.declared.run.Account.{Account}
-use Rattle.shm_graph.specs.declared.run.Start.{Start}
-use Rattle.shm_graph.specs.Runs.{first_account}
-use Rattle.shm_script.specs.Ranges.{ScriptFits}
-use Rattle.shm_script.specs.Values.{Scripted}
+use Rattle.shm_graph.specs.declared.{ask.Me.Me, memo.{Fate.TheVariants.Ended, Kind.TheVariants.Recoverer}}
+use Rattle.shm_graph.specs.{declared.run.{Account.Account, Start.Start}, Runs.first_account}
+use Rattle.shm_script.specs.{Ranges.ScriptFits, Values.Scripted}
 use Rattle.shm_agents.specs.declared.agents.Standing.TheVariants.{AtWork}
 use Rattle.shm_agents.specs.Agents.{Fallen, Fresh, Mended, Mending, Parted, Playing, Plays, Stage, Stands, one_agent}
-use Rattle.shm_pool.specs.Posts.{IsPosted}
-use Rattle.shm_pool.specs.Tokens.{Its, Token}
+use Rattle.shm_pool.specs.{Posts.IsPosted, Tokens.{Its, Token}}
 use Rattle.shm_async.specs.Polled.{StandAt}
 
 -- what is said of agents that have been made for a script

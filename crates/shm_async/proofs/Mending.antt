@@ -1,44 +1,30 @@
 -- the recovery of an identity that was cut, poll by poll
 use Rattle.std.proofs.Common.{◌≡◌, ℕ, ◌+◌, ◌^◌, ◌<◌, ◌≤◌, Bool, true, false, cond, List, [], ◌∷◌, ◌++◌, length, length-append, inl, inr, refl, sym, ap, ◌∙◌, subst, arith, true≢false, Result}
 use Rattle.std.specs.Prelude.{IfErr, Option, Some, None, Ok, Err}
-use Rattle.shm_graph.specs.declared.ask.Life.{Life}
-use Rattle.shm_graph.specs.declared.memo.Agent.{Agent}
-use Rattle.shm_graph.specs.declared.memo.Fate.TheVariants.{Died, Ended}
-use Rattle.shm_graph.specs.declared.memo.Kind.TheVariants.{Client, Recoverer}
-use Rattle.shm_graph.specs.declared.memo.Status.TheVariants.{Gone}
-use Rattle.shm_graph.specs.declared.memo.Step.{Step}
-use Rattle.shm_graph.specs.declared.run.Account.{Account}
-use Rattle.shm_graph.specs.Agents.{acts, steps_made, steps_of}
+use Rattle.shm_graph.specs.declared.{ask.Life.Life, memo.{Agent.Agent, Fate.TheVariants.{Died, Ended}}}
+use Rattle.shm_graph.specs.declared.memo.{Kind.TheVariants.{Client, Recoverer}, Status.TheVariants.Gone, Step.Step}
+use Rattle.shm_graph.specs.{declared.run.Account.Account, Agents.{acts, steps_made, steps_of}}
 use Rattle.shm_graph.specs.Runs.{Stood, account_died, account_entered, is_dead}
 use Rattle.shm_graph.proofs.Memos.MemoSteps.{steps_died, steps_entered}
-use Rattle.shm_recover.specs.Machines.Recovering.{recover}
-use Rattle.shm_recover.specs.Recover.Control.{recover_line}
+use Rattle.shm_recover.specs.{Machines.Recovering.recover, Recover.Control.recover_line}
 use Rattle.shm_replay.specs.Closings.{SameTable}
 use Rattle.shm_replay.proofs.Starting.{script_client}
 use Rattle.shm_script.specs.Values.{Scripted, Traced}
-use Rattle.shm_agents.specs.Courses.{HasLived}
-use Rattle.shm_agents.specs.TurnsLeft.{deaths, turns_of}
-use Rattle.shm_agents.proofs.Growing.{steps_of-end}
-use Rattle.shm_agents.proofs.OwnEras.{own_most}
-use Rattle.shm_pool.specs.declared.token.Cause.{Cause}
-use Rattle.shm_pool.specs.declared.token.Cause.TheVariants as cause
-use Rattle.shm_pool.specs.declared.token.Stopped.{Stopped}
-use Rattle.shm_pool.specs.Calls.{Calls, Ending, Ongoing, Shown, accounts_by, fresh_after, shown}
-use Rattle.shm_pool.specs.Rescues.{Rescuing}
+use Rattle.shm_agents.specs.{Courses.HasLived, TurnsLeft.{deaths, turns_of}}
+use Rattle.shm_agents.proofs.{Growing.steps_of-end, OwnEras.own_most}
+use Rattle.shm_pool.specs.declared.token.{Cause.Cause, Stopped.Stopped}
+use Rattle.shm_pool.specs.{Calls.{Calls, Ending, Ongoing, Shown, accounts_by, fresh_after, shown}, Rescues.Rescuing}
 use Rattle.shm_pool.specs.Tokens.{Its, Token}
+use Rattle.shm_pool.specs.declared.token.Cause.TheVariants as cause
 use Rattle.shm_pool.proofs.Calling.{tells}
-use Rattle.shm_team.specs.declared.left.Left.{Left}
-use Rattle.shm_team.specs.declared.left.Left.TheVariants.{Vacant, Corpse}
-use Rattle.shm_team.specs.Dones.{IsFinished}
-use Rattle.shm_team.specs.Lefts.{IsGivenBack, account_in, is_corpse}
-use Rattle.shm_team.specs.Visits.{HasRun}
+use Rattle.shm_team.specs.{declared.left.Left.{Left, TheVariants.{Vacant, Corpse}}, Dones.IsFinished}
+use Rattle.shm_team.specs.{Lefts.{IsGivenBack, account_in, is_corpse}, Visits.HasRun}
 use Rattle.shm_team.proofs.Visiting.{ends_gone, run_first}
 use Rattle.shm_async.specs.declared.limited.Cut.{Cut}
 use Rattle.shm_async.specs.LimitedMembers.{HasRoom, IsLimitedDone, LimitedBy, IsMending, WasCut, left_of}
 use Rattle.shm_async.specs.Rescued.{HasPolled, HasRescued, HasSpent, HasStepped, IsOver, Rescue, StopsBy, account_by, answered_by, is_answer, rescuing_first, token_by}
 use Rattle.shm_async.proofs.Behind.{HasFollowed, finished_behind, followed_died, followed_run, recoverer_by}
-use Rattle.shm_async.proofs.Cuts.{lives_given}
-use Rattle.shm_async.proofs.Recovering.{begun_account, stepped_then}
+use Rattle.shm_async.proofs.{Cuts.lives_given, Recovering.{begun_account, stepped_then}}
 
 -- ---- it goes on
 

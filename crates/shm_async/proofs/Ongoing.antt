@@ -1,8 +1,6 @@
 -- the steps of one call, some of which were made before others
 use Rattle.std.proofs.Common.{◌≡◌, ℕ, Bool, true, false, List, [], ◌∷◌, ◌++◌, append_assoc, length, length-append, refl, sym, ap, ◌∙◌, subst, arith}
-use Rattle.shm_graph.specs.declared.memo.Step.{Step}
-use Rattle.shm_graph.specs.declared.run.Account.{Account}
-use Rattle.shm_graph.specs.Runs.{account_after}
+use Rattle.shm_graph.specs.{declared.{memo.Step.Step, run.Account.Account}, Runs.account_after}
 use Rattle.shm_pool.specs.Calls.{Calls, Ending, Going, IsBy, Ongoing, Shown, accounts_by, fresh_after}
 use Rattle.shm_pool.specs.Rescues.{Rescuing}
 use Rattle.shm_async.specs.Rescued.{CallsOn}

@@ -1,45 +1,22 @@
 -- word steps of a recovery that is polled
 use Rattle.std.proofs.Common.{◌≡◌, ℕ, zero, suc, ◌+◌, ◌<◌, ◌≤◌, ◌⊎◌, Bool, true, false, [], ◌∷◌, inl, inr, refl, sym, ap, ◌∙◌, subst, arith, true≢false}
 use Rattle.std.specs.Prelude.{None, Some, Ok, Err}
-use Rattle.shm_calls.specs.CallsFit.{CallsFits, CallsGives}
-use Rattle.shm_calls.specs.CallsKeep.{calls_laws}
-use Rattle.shm_count.specs.declared.answer.EraSpent.{EraSpent}
-use Rattle.shm_count.specs.Steady.{SameTable as SameMap}
-use Rattle.shm_graph.specs.declared.ask.Life.{Life}
-use Rattle.shm_graph.specs.declared.ask.Me.{Me}
-use Rattle.shm_graph.specs.declared.ask.Turn.{Turn}
-use Rattle.shm_graph.specs.declared.ask.Turn.TheVariants.{More, Done}
-use Rattle.shm_graph.specs.declared.memo.Memo.{Memo}
-use Rattle.shm_graph.specs.declared.memo.Status.TheVariants.{Gone}
-use Rattle.shm_graph.specs.declared.memo.Step.{Step}
-use Rattle.shm_graph.specs.declared.run.Account.{Account}
-use Rattle.shm_graph.specs.declared.spot.Spot.TheVariants.{Era}
-use Rattle.shm_graph.specs.Agents.{acts, steps_made}
-use Rattle.shm_graph.specs.Asks.{call_before}
-use Rattle.shm_graph.specs.Changes.{asked_spot}
-use Rattle.shm_graph.specs.Laws.{Laws, Stays, is_died, is_some, step_of}
-use Rattle.shm_graph.specs.Runs.{account_after, account_at}
-use Rattle.shm_graph.specs.Views.{own_word}
-use Rattle.shm_graph.specs.Whole.{fits_now, gives_now}
-use Rattle.shm_graph.proofs.Machines.Composing.{none_of, some_of}
-use Rattle.shm_graph.proofs.Memos.MemoSteps.{steps_on}
+use Rattle.shm_calls.specs.{CallsFit.{CallsFits, CallsGives}, CallsKeep.calls_laws}
+use Rattle.shm_count.specs.{declared.answer.EraSpent.EraSpent, Steady.SameTable as SameMap}
+use Rattle.shm_graph.specs.declared.{ask.{Life.Life, Me.Me, Turn.{Turn, TheVariants.{More, Done}}}, memo.Memo.Memo}
+use Rattle.shm_graph.specs.declared.{memo.{Status.TheVariants.Gone, Step.Step}, run.Account.Account}
+use Rattle.shm_graph.specs.{declared.spot.Spot.TheVariants.Era, Agents.{acts, steps_made}, Asks.call_before}
+use Rattle.shm_graph.specs.{Changes.asked_spot, Laws.{Laws, Stays, is_died, is_some, step_of}}
+use Rattle.shm_graph.specs.{Runs.{account_after, account_at}, Views.own_word, Whole.{fits_now, gives_now}}
+use Rattle.shm_graph.proofs.{Machines.Composing.{none_of, some_of}, Memos.MemoSteps.steps_on}
 use Rattle.shm_ref.specs.DropRoots.Laws.{roots_laws}
-use Rattle.shm_recover.specs.FinishTakes.Laws.{finish_laws}
-use Rattle.shm_recover.specs.GiveUp.Laws.{give_laws}
-use Rattle.shm_recover.specs.Machines.Recovering.{recover}
-use Rattle.shm_recover.specs.Mend.Laws.{mend_laws}
-use Rattle.shm_recover.specs.Recover.Control.{recover_parts}
-use Rattle.shm_recover.specs.Recover.Laws.{recover_laws}
-use Rattle.shm_recover.specs.Recover.{recover_plan}
-use Rattle.shm_recover.specs.Scan.Laws.{scan_laws}
-use Rattle.shm_recover.specs.TakeBack.Laws.{back_laws}
+use Rattle.shm_recover.specs.{FinishTakes.Laws.finish_laws, GiveUp.Laws.give_laws, Machines.Recovering.recover}
+use Rattle.shm_recover.specs.{Mend.Laws.mend_laws, Recover.{Control.recover_parts, Laws.recover_laws, recover_plan}}
+use Rattle.shm_recover.specs.{Scan.Laws.scan_laws, TakeBack.Laws.back_laws}
 use Rattle.shm_recover.proofs.Steady.{recover_steady}
 use Rattle.shm_replay.specs.Closings.{SameTable}
-use Rattle.shm_pool.specs.Endings.{Answer}
-use Rattle.shm_pool.specs.Rescues.{RecoverMachine, Rescuing, account_of}
-use Rattle.shm_pool.specs.Tokens.{Its}
-use Rattle.shm_pool.proofs.Calling.{goes_on, is_over}
-use Rattle.shm_pool.proofs.Rescuing.{Stepped, account_who}
+use Rattle.shm_pool.specs.{Endings.Answer, Rescues.{RecoverMachine, Rescuing, account_of}, Tokens.Its}
+use Rattle.shm_pool.proofs.{Calling.{goes_on, is_over}, Rescuing.{Stepped, account_who}}
 use Rattle.shm_async.specs.Rescued.{CallsOn, GoesOn, HasSpent, HasStepped, account_by}
 use Rattle.shm_async.proofs.Ongoing.{calls_then}
 

@@ -1,24 +1,13 @@
 -- what is given where the agents of a script are given up
 use Rattle.std.specs.Prelude.{◌≡◌, ℕ, ◌<◌, Bool, true, false, Option, Some, None, List, []}
-use Rattle.shm_graph.specs.declared.run.Account.{Account}
-use Rattle.shm_graph.specs.Agents.{steps_made}
-use Rattle.shm_graph.specs.Held.{is_loose}
-use Rattle.shm_graph.specs.Runs.{told_left}
+use Rattle.shm_graph.specs.{declared.run.Account.Account, Agents.steps_made, Held.is_loose, Runs.told_left}
 use Rattle.shm_count.specs.Roots.{member}
-use Rattle.shm_script.specs.declared.log.End.TheVariants.{Died}
-use Rattle.shm_script.specs.Logged.{Logged}
-use Rattle.shm_script.specs.Values.{Scripted}
-use Rattle.shm_agents.specs.Agents.{IsFold}
-use Rattle.shm_agents.specs.Courses.{AreAgents, AreCommandsTold}
-use Rattle.shm_agents.specs.Cuts.{AreCut, account_cut}
-use Rattle.shm_agents.specs.Logs.{AreUnspent, IsLogOf, steps_first}
-use Rattle.shm_agents.specs.Turns.{lives_of}
-use Rattle.shm_agents.specs.TurnsLeft.{turns_given}
+use Rattle.shm_script.specs.{declared.log.End.TheVariants.Died, Logged.Logged, Values.Scripted}
+use Rattle.shm_agents.specs.{Agents.IsFold, Courses.{AreAgents, AreCommandsTold}, Cuts.{AreCut, account_cut}}
+use Rattle.shm_agents.specs.{Logs.{AreUnspent, IsLogOf, steps_first}, Turns.lives_of, TurnsLeft.turns_given}
 use Rattle.shm_pool.specs.Tokens.{Its}
-use Rattle.shm_team.specs.declared.done.Finish.{Finish}
-use Rattle.shm_team.specs.Lefts.{IsGivenBack, account_in, is_corpse}
-use Rattle.shm_async.specs.Limited.{AreGiven}
-use Rattle.shm_async.specs.Polled.{AtPost}
+use Rattle.shm_team.specs.{declared.done.Finish.Finish, Lefts.{IsGivenBack, account_in, is_corpse}}
+use Rattle.shm_async.specs.{Limited.AreGiven, Polled.AtPost}
 
 -- The log of a client that was cut after so many turns, by what is accounted for of the identity: where it had ended or died before the cut it is what it was, and otherwise it died after the word steps that it had made
 pub record IsCutLog (p : Its) (s : Scripted) (turns : ℕ) (e : Account) (l : Logged) : Type 0 where

@@ -1,14 +1,9 @@
 -- what clients that are polled leave of a trace, each of which is cut after so many turns
 use Rattle.std.specs.Prelude.{◌≡◌, ℕ, ◌+◌, ◌<◌, ◌≤◌, ◌⊎◌, Some, List, [], ◌∷◌, length, take}
-use Rattle.shm_graph.specs.declared.run.Account.{Account}
-use Rattle.shm_graph.specs.Agents.{steps_of}
-use Rattle.shm_graph.specs.Runs.{account_at}
+use Rattle.shm_graph.specs.{declared.run.Account.Account, Agents.steps_of, Runs.account_at}
 use Rattle.shm_plain.specs.Pools.{Pool}
-use Rattle.shm_script.specs.Logged.{Logged}
-use Rattle.shm_script.specs.Values.{Scripted, Traced}
-use Rattle.shm_agents.specs.Cuts.{AreCut}
-use Rattle.shm_agents.specs.Turns.{lives_of}
-use Rattle.shm_agents.specs.TurnsLeft.{deaths, turns_of}
+use Rattle.shm_script.specs.{Logged.Logged, Values.{Scripted, Traced}}
+use Rattle.shm_agents.specs.{Cuts.AreCut, Turns.lives_of, TurnsLeft.{deaths, turns_of}}
 use Rattle.shm_team.specs.Rans.{HasAgents, IsTeamRun}
 
 -- Of agents with all these lives those that came before a cut made so many word steps each, by so many turns, and one was left: the last of them acted; or it had died, and the next one had made no word step

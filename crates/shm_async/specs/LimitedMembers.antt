@@ -1,32 +1,15 @@
 -- the identities of a trace under a limit, each of which is polled so many times at most, and then cut, and recovered
 use Rattle.std.specs.Prelude.{◌≡◌, ℕ, suc, ◌+◌, ◌*◌, ◌-◌, ◌^◌, ◌<◌, ◌≤◌, ◌⊎◌, true, false, Option, Some, None, Result, Ok, Err, List, [], ◌∷◌, length, slice_index_or}
-use Rattle.shm_graph.specs.declared.run.Account.{Account}
-use Rattle.shm_graph.specs.Agents.{acts}
-use Rattle.shm_graph.specs.Held.{is_loose}
-use Rattle.shm_graph.specs.Runs.{account_died}
-use Rattle.shm_agents.specs.Agents.{IsFold}
-use Rattle.shm_agents.specs.Logs.{AreUnspent}
-use Rattle.shm_agents.specs.Turns.{script_in}
-use Rattle.shm_agents.specs.TurnsLeft.{turns_given}
-use Rattle.shm_pool.specs.declared.token.Stopped.{Stopped}
-use Rattle.shm_pool.specs.Rescues.{Rescuing}
-use Rattle.shm_pool.specs.Tokens.{Its, Token}
-use Rattle.shm_script.specs.Logged.{Logged}
-use Rattle.shm_script.specs.Values.{Scripted, Traced}
-use Rattle.shm_team.specs.declared.done.Done.{Done}
-use Rattle.shm_team.specs.declared.left.Left.{Left}
-use Rattle.shm_team.specs.declared.left.Left.TheVariants.{Vacant, Corpse}
-use Rattle.shm_team.specs.Dones.{IsDoneBy}
+use Rattle.shm_graph.specs.{declared.run.Account.Account, Agents.acts, Held.is_loose, Runs.account_died}
+use Rattle.shm_agents.specs.{Agents.IsFold, Logs.AreUnspent, Turns.script_in, TurnsLeft.turns_given}
+use Rattle.shm_pool.specs.{declared.token.Stopped.Stopped, Rescues.Rescuing, Tokens.{Its, Token}}
+use Rattle.shm_script.specs.{Logged.Logged, Values.{Scripted, Traced}}
+use Rattle.shm_team.specs.{declared.{done.Done.Done, left.Left.{Left, TheVariants.{Vacant, Corpse}}}, Dones.IsDoneBy}
 use Rattle.shm_team.specs.Lefts.{IsGivenBack, account_in}
-use Rattle.shm_async.specs.declared.limited.Cut.{Cut}
-use Rattle.shm_async.specs.declared.limited.LimitedMember.{LimitedMember}
+use Rattle.shm_async.specs.declared.limited.{Cut.Cut, LimitedMember.LimitedMember}
 use Rattle.shm_async.specs.declared.limited.LimitedMember.TheVariants.{Works, Recovers, Finished}
-use Rattle.shm_async.specs.declared.limits.LimitedMembers.{LimitedMembers}
-use Rattle.shm_async.specs.Cancelled.{IsCutLog}
-use Rattle.shm_async.specs.Limited.{IsCutTo}
-use Rattle.shm_async.specs.Members.{IsAtWork}
-use Rattle.shm_async.specs.Polled.{Course}
-use Rattle.shm_async.specs.Rescued.{HasStepped, rescuing_first}
+use Rattle.shm_async.specs.{declared.limits.LimitedMembers.LimitedMembers, Cancelled.IsCutLog, Limited.IsCutTo}
+use Rattle.shm_async.specs.{Members.IsAtWork, Polled.Course, Rescued.{HasStepped, rescuing_first}}
 
 -- the own era of an identity has room for so many turns more, and for a recovery behind them
 abbrev pub HasRoom : Its → ℕ → Type 0
@@ -89,13 +72,13 @@ pub record IsLimitedDone (t : Traced) (p : Its) (c turns : ℕ) (d : Done) : Typ
   pub limited : LimitedBy turns (account_in d.left) (script_in t.scripts c) script
   pub by : IsDoneBy script p c d.log d.left
 
-abbrev pub IsLimitedMember : Traced → Its → ℕ → ℕ → ℕ → LimitedMember → Type 0
+abbrev pub IsLimitedMember : {A : Type 0} → Traced → Its → ℕ → ℕ → ℕ → LimitedMember A → Type 0
 IsLimitedMember t p c turns left (Works f) = IsDue t p c turns left f
 IsLimitedMember t p c turns left (Recovers k) = IsMending t p c turns k
 IsLimitedMember t p c turns left (Finished d) = IsLimitedDone t p c turns d
 
 -- none of them is out
-abbrev pub IsLimitedHere : Traced → Its → ℕ → ℕ → ℕ → Option LimitedMember → Type 0
+abbrev pub IsLimitedHere : {A : Type 0} → Traced → Its → ℕ → ℕ → ℕ → Option (LimitedMember A) → Type 0
 IsLimitedHere t p c turns left None = ⊥
 IsLimitedHere t p c turns left (Some m) = IsLimitedMember t p c turns left m
 
@@ -105,17 +88,17 @@ left_of (Ok t) = Vacant t
 left_of (Err s) = Corpse s.corpse
 
 -- identities that are all here, by number
-abbrev pub AreLimitedHere : Traced → Its → ℕ → ℕ → List (Option LimitedMember) → Type 0
+abbrev pub AreLimitedHere : {A : Type 0} → Traced → Its → ℕ → ℕ → List (Option (LimitedMember A)) → Type 0
 AreLimitedHere t p turns left ms = (c : ℕ) → c < length ms → IsLimitedHere t p c turns left (slice_index_or ms c None)
 
 -- how many polls it takes at most, where its agents have so many left
-abbrev pub polls_left : ℕ → LimitedMember → ℕ
+abbrev pub polls_left : {A : Type 0} → ℕ → LimitedMember A → ℕ
 polls_left left (Works f) = left + 2 ^ 40 + 1
 polls_left left (Recovers k) = k.recovery.life.left + 1
 polls_left left (Finished d) = 0
 
 -- all identities of the trace, by number
-pub record AreLimited (t : Traced) (p : Its) (turns : ℕ) (x : LimitedMembers) : Type 0 where
+pub record AreLimited {A : Type 0} (t : Traced) (p : Its) (turns : ℕ) (x : LimitedMembers A) : Type 0 where
   pub pool : x.pool.now ≡ p
   pub quota : 1 ≤ x.q
   pub many : length x.members.items ≡ t.clients

@@ -4,9 +4,7 @@ use Rattle.shm_agents.specs.Turns.{script_in}
 use Rattle.shm_pool.specs.Tokens.{Its}
 use Rattle.shm_script.specs.Values.{Traced}
 use Rattle.shm_team.specs.Dones.{IsDone}
-use Rattle.shm_async.specs.declared.members.Member.{Member}
-use Rattle.shm_async.specs.declared.members.Member.TheVariants.{Works, Finished}
-use Rattle.shm_async.specs.Polled.{AtPost, Course}
+use Rattle.shm_async.specs.{declared.members.Member.{Member, TheVariants.{Works, Finished}}, Polled.{AtPost, Course}}
 
 -- the agents of the script of the identity c, which are at their post in the pool p
 pub record IsAtWork (t : Traced) (p : Its) (c : ℕ) (f : Course) : Type 0 where
@@ -15,16 +13,16 @@ pub record IsAtWork (t : Traced) (p : Its) (c : ℕ) (f : Course) : Type 0 where
   pub is : f.site ≡ Some site
   pub of : site.post.of ≡ p
 
-abbrev pub IsMember : Traced → Its → ℕ → Member → Type 0
+abbrev pub IsMember : {A : Type 0} → Traced → Its → ℕ → Member A → Type 0
 IsMember t p c (Works f) = IsAtWork t p c f
 IsMember t p c (Finished d) = IsDone t p c d
 
 -- none of them is out
-abbrev pub IsHere : Traced → Its → ℕ → Option Member → Type 0
+abbrev pub IsHere : {A : Type 0} → Traced → Its → ℕ → Option (Member A) → Type 0
 IsHere t p c None = ⊥
 IsHere t p c (Some m) = IsMember t p c m
 
 -- all identities of the trace, by number
-pub record AreMembers (t : Traced) (p : Its) (ms : List (Option Member)) : Type 0 where
+pub record AreMembers {A : Type 0} (t : Traced) (p : Its) (ms : List (Option (Member A))) : Type 0 where
   pub many : length ms ≡ t.clients
   pub here : (c : ℕ) → c < t.clients → IsHere t p c (slice_index_or ms c None)

@@ -1,15 +1,11 @@
 -- the agents of an identity that are polled, and what a poll leaves
 use Rattle.std.specs.Prelude.{◌≡◌, ℕ, ◌+◌, ◌<◌, ◌≤◌, Option, Some, None, MatchOption}
-use Rattle.futures.specs.declared.task.Poll.{Poll}
-use Rattle.futures.specs.declared.task.Poll.TheVariants.{Ready, Pending}
-use Rattle.shm_agents.specs.declared.agents.Standing.TheVariants.{AtWork}
-use Rattle.shm_agents.specs.Agents.{Playing, Stands}
+use Rattle.futures.specs.declared.task.Poll.{Poll, TheVariants.{Ready, Pending}}
+use Rattle.shm_agents.specs.{declared.agents.Standing.TheVariants.AtWork, Agents.{Playing, Stands}}
 use Rattle.shm_agents.specs.TurnsLeft.{turns_by, turns_given}
-use Rattle.shm_pool.specs.Posts.{IsPosted}
-use Rattle.shm_pool.specs.Tokens.{Token}
+use Rattle.shm_pool.specs.{Posts.IsPosted, Tokens.Token}
 use Rattle.shm_script.specs.Values.{Scripted}
-use Rattle.shm_team.specs.declared.done.Finish.{Finish}
-use Rattle.shm_team.specs.Lefts.{account_in}
+use Rattle.shm_team.specs.{declared.done.Finish.Finish, Lefts.account_in}
 use Rattle.shm_async.specs.Finished.{HasFinished}
 
 -- agents at their post

@@ -1,28 +1,16 @@
 -- the recovery of an identity that is polled, and what a poll of it leaves
 use Rattle.std.specs.Prelude.{◌≡◌, ℕ, ◌+◌, ◌-◌, ◌^◌, ◌<◌, ◌≤◌, ◌⊎◌, Bool, true, false, Option, Some, None, MatchOption, IfOk, Result, Ok, Err}
-use Rattle.shm_calls.specs.CallsControl.{calls_of}
-use Rattle.shm_calls.specs.CallsFit.{CallsFits, CallsGives}
-use Rattle.shm_graph.specs.declared.ask.Life.{Life}
-use Rattle.shm_graph.specs.declared.memo.Memo.{Memo}
-use Rattle.shm_graph.specs.declared.memo.Status.TheVariants.{Gone}
-use Rattle.shm_graph.specs.declared.run.Account.{Account}
-use Rattle.shm_graph.specs.declared.spot.Spot.TheVariants.{Era}
-use Rattle.shm_graph.specs.Agents.{steps_made}
-use Rattle.shm_graph.specs.Views.{own_word}
+use Rattle.shm_calls.specs.{CallsControl.calls_of, CallsFit.{CallsFits, CallsGives}}
+use Rattle.shm_graph.specs.declared.{ask.Life.Life, memo.{Memo.Memo, Status.TheVariants.Gone}, run.Account.Account}
+use Rattle.shm_graph.specs.{declared.spot.Spot.TheVariants.Era, Agents.steps_made, Views.own_word}
 use Rattle.shm_graph.specs.Whole.{fits_now, gives_now}
-use Rattle.shm_pool.specs.declared.token.Cause.{Cause}
+use Rattle.shm_pool.specs.{declared.token.{Cause.Cause, Stopped.Stopped}, Calls.{Calls, Ongoing, shown}, Endings.spent}
+use Rattle.shm_pool.specs.{Rescues.{RecoverMachine, Rescuing, account_of}, Tokens.{Its, Token, me_of}}
 use Rattle.shm_pool.specs.declared.token.Cause.TheVariants as cause
-use Rattle.shm_pool.specs.declared.token.Stopped.{Stopped}
-use Rattle.shm_pool.specs.Calls.{Calls, Ongoing, shown}
-use Rattle.shm_pool.specs.Endings.{spent}
-use Rattle.shm_pool.specs.Rescues.{RecoverMachine, Rescuing, account_of}
-use Rattle.shm_pool.specs.Tokens.{Its, Token, me_of}
 use Rattle.shm_recover.specs.Machines.Recovering.{recover}
-use Rattle.shm_recover.specs.Recover.Control.{recover_parts, recovering as recovery}
-use Rattle.shm_recover.specs.Recover.{recover_plan}
+use Rattle.shm_recover.specs.Recover.{Control.{recover_parts, recovering as recovery, recover_steered}, recover_plan}
 use Rattle.shm_replay.specs.Closings.{SameTable}
-use Rattle.shm_async.specs.declared.recovery.Over.{Over}
-use Rattle.shm_async.specs.declared.recovery.Over.TheVariants.{Recovered, Stopped as StoppedBy}
+use Rattle.shm_async.specs.declared.recovery.Over.{Over, TheVariants.{Recovered, Stopped as StoppedBy}}
 
 -- what contracts see of it: its pool, how many turns each poll gives, what is left of the recoverer's life, and the identity that is recovered, none once a poll was ready
 pub record Rescue : Type 0 where
@@ -56,7 +44,7 @@ IsRescue f = (1 ≤ f.quota) × MayGoOn f.pool f.rescuer
 
 -- a recovery of the corpse t before its first word step
 abbrev pub rescuing_first : Token → Rescuing
-rescuing_first t = record { of = t.of; seat = t.account; begun = false; machine = calls_of recover_plan (recovery (me_of t.of t.account)); done = false }
+rescuing_first t = record { of = t.of; seat = t.account; begun = false; machine = calls_of recover_steered (recovery (me_of t.of t.account)); done = false }
 
 -- it is that of the corpse t, with a life of n word steps, before the first of them
 pub record IsStarted (t : Token) (q n : ℕ) (f : Rescue) : Type 0 where

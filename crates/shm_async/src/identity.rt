@@ -3,21 +3,20 @@
 ghost use Rattle.std.specs.Prelude.{◌≡◌, ◌≢◌, ◌<◌, ◌≤◌, ◌^◌, ⊤, IfOk, IfErr, true};
 ghost use Rattle.shm_graph.specs.Runs.{first_account};
 ghost use Rattle.shm_agents.specs.Agents.{Stands};
-ghost use Rattle.shm_script.specs.Ranges.{ScriptFits};
-ghost use Rattle.shm_script.specs.Values.{Scripted as AScript};
-ghost use Rattle.shm_async.specs.Cancelled.{HasCancelled, IsCancelled};
-ghost use Rattle.shm_async.specs.Finished.{HasFinished};
+ghost use Rattle.shm_script.specs.{Ranges.ScriptFits, Values.Scripted as AScript};
+ghost use Rattle.shm_async.specs.{Cancelled.{HasCancelled, IsCancelled}, Finished.HasFinished};
 ghost use Rattle.shm_async.specs.Polled.{HasGiven, IsNew, IsPolled, MayGive, StandAt, given_by};
-ghost use Rattle.futures.specs.Poll.{IfReady, OnPending};
-ghost use Rattle.futures.specs.Task.{Covers, Keeps};
-ghost use Rattle.shm_team.specs.declared.done.Finish.{Finish as AFinish};
-ghost use Rattle.shm_team.specs.Lefts.{account_in};
+ghost use Rattle.futures.specs.{Poll.{IfReady, OnPending}, Task.{Covers, Keeps}};
+ghost use Rattle.shm_team.specs.{declared.done.Finish.Finish as AFinish, Lefts.account_in};
 
 use crate::finish::NewStop;
 use futures::Future;
 use futures::task::{Context, Poll};
-use shm_agents::agents::{Agents, Standing};
+use shm_agents::agents::Standing;
 use shm_graph::Me;
+use shm_play::cast::Cast;
+use shm_play::play::Play;
+use shm_play::players::Players;
 use shm_pool::{Post, SharedPool, Vacant};
 use shm_script::Script;
 use shm_team::{Finish, Left, hand_back};
@@ -26,12 +25,12 @@ use std::marker::Model;
 
 /// The agents of a script, at their post.
 #[derive(Drop)]
-pub(crate) struct Site<'p> {
-    pub(crate) agents: Agents,
+pub(crate) struct Site<'p, A: Play> {
+    pub(crate) agents: Players<A>,
     pub(crate) post: Post<'p>,
 }
 
-impl<'p> Model for Site<'p> {
+impl<'p, A: Play> Model for Site<'p, A> {
     ghost use Rattle.shm_async.specs.Polled.{AtPost};
 
     ghost Value = { AtPost };
@@ -40,15 +39,18 @@ impl<'p> Model for Site<'p> {
 }
 
 /// The agents of an identity, of which each poll gives them a number of turns.
+pub type IdentityFuture<'p> = CourseFuture<'p, Cast>;
+
+/// The same, whoever plays them.
 #[derive(Drop)]
-pub struct IdentityFuture<'p> {
+pub struct CourseFuture<'p, A: Play> {
     script: &'p Script,
     q: u32,
     /// None once a poll was ready.
-    site: Option<Site<'p>>,
+    site: Option<Site<'p, A>>,
 }
 
-impl<'p> Model for IdentityFuture<'p> {
+impl<'p, A: Play> Model for CourseFuture<'p, A> {
     ghost use Rattle.shm_async.specs.Polled.{Course, IsCourse, course_of};
 
     ghost Value = { Course };
@@ -58,7 +60,7 @@ impl<'p> Model for IdentityFuture<'p> {
     ghost invariant = { λ f. IsCourse (course_of f.script.now f.q f.site) };
 }
 
-impl<'p> IdentityFuture<'p> {
+impl<'p, A: Play> CourseFuture<'p, A> {
     /// The agents of a script before their first turn, of which each poll gives them `q`. It takes the memory of the log.
     ///
     /// # Errors
@@ -70,7 +72,7 @@ impl<'p> IdentityFuture<'p> {
         token: Vacant,
         script: &'p Script,
         q: u32,
-    ) -> Result<IdentityFuture<'p>, NewStop>
+    ) -> Result<CourseFuture<'p, A>, NewStop>
         requires turns { 1 ≤ q }
         requires of { token.of ≡ pool.now }
         requires first { token.account ≡ first_account token.of.start token.account.who }
@@ -82,8 +84,8 @@ impl<'p> IdentityFuture<'p> {
         ensures same { IfErr result (λ s. s.token ≡ token) }
     {
         let me = Me::new(pool.geometry(), token.client());
-        match Agents::new(alloc, me, 0, script) {
-            Ok(agents) => Ok(IdentityFuture::of(pool, agents, token, script, q)),
+        match Players::<A>::new(alloc, me, 0, script) {
+            Ok(agents) => Ok(CourseFuture::of(pool, agents, token, script, q)),
             Err(cause) => Err(NewStop { token, cause }),
         }
     }
@@ -91,11 +93,11 @@ impl<'p> IdentityFuture<'p> {
     /// The agents of an identity before their first turn, of which each poll gives them `q`. The script is theirs.
     pub(crate) fn of(
         pool: &'p SharedPool,
-        agents: Agents,
+        agents: Players<A>,
         token: Vacant,
         script: &'p Script,
         q: u32,
-    ) -> IdentityFuture<'p>
+    ) -> CourseFuture<'p, A>
         requires turns { 1 ≤ q }
         requires of { token.of ≡ pool.now }
         requires first { token.account ≡ first_account token.of.start token.account.who }
@@ -105,7 +107,7 @@ impl<'p> IdentityFuture<'p> {
         ensures { IsNew token script.now q result }
     {
         let post = Post::new(pool, token);
-        IdentityFuture {
+        CourseFuture {
             script,
             q,
             site: Some(Site { agents, post }),
@@ -131,13 +133,13 @@ impl<'p> IdentityFuture<'p> {
     pub fn cancel(self) -> Option<Finish>
         ensures { IsCancelled self.entry.script self.entry.site result }
     {
-        let IdentityFuture { script, q: _, site } = self;
+        let CourseFuture { script, q: _, site } = self;
         Some(cut(script, site?))
     }
 }
 
 /// The log and the token, where the agents are given up.
-fn cut(script: &Script, site: Site<'_>) -> Finish
+fn cut<A: Play>(script: &Script, site: Site<'_, A>) -> Finish
     requires stand { StandAt script.now site }
     requires left { site.agents.standing ≡ Standing.AtWork }
     ensures { HasCancelled site.entry.post.of script.now site.entry.post.account result }
@@ -158,7 +160,7 @@ fn cut(script: &Script, site: Site<'_>) -> Finish
 }
 
 /// Gives the agents `q` turns, or fewer where none of them is left.
-fn give(script: &Script, q: u32, site: &mut Site<'_>)
+fn give<A: Play>(script: &Script, q: u32, site: &mut Site<'_, A>)
     requires turns { 1 ≤ q }
     requires stand { StandAt script.now site.old }
     requires left { site.old.agents.standing ≡ Standing.AtWork }
@@ -172,7 +174,7 @@ fn give(script: &Script, q: u32, site: &mut Site<'_>)
 }
 
 /// The log and the token, where no agent is left.
-fn finish_at(site: Site<'_>) -> Finish
+fn finish_at<A: Play>(site: Site<'_, A>) -> Finish
     requires stand { (s : AScript) × StandAt s site }
     requires rests { site.agents.standing ≢ Standing.AtWork }
     ensures finished { (s : AScript) → StandAt s site.entry → HasFinished site.entry.post.of s result }
@@ -182,7 +184,7 @@ fn finish_at(site: Site<'_>) -> Finish
     hand_back(agents, post)
 }
 
-impl<'p> Future for IdentityFuture<'p> {
+impl<'p, A: Play> Future for CourseFuture<'p, A> {
     type Output = Finish;
 
     ghost gives = { MayGive };

@@ -7,9 +7,10 @@ ghost use Rattle.shm_script.specs.Values.{Traced as ATrace};
 ghost use Rattle.shm_team.specs.Jobs.{IsJob};
 ghost use Rattle.shm_async.specs.LimitedMembers.{IsDue, IsLimitedDone, IsLimitedMember, IsMending, IsPending, IsSpent, left_of, polls_left};
 
-use crate::identity::IdentityFuture;
+use crate::identity::CourseFuture;
 use crate::members::done_of;
 use crate::recovery::RecoveryFuture;
+use shm_play::play::Play;
 use shm_pool::{SharedPool, Stopped, Vacant};
 use shm_script::{Log, Trace};
 use shm_team::{Done, Finish, Job, Left};
@@ -19,8 +20,8 @@ const LIFE: u64 = 1 << 40;
 
 /// An identity of a trace: its agents have turns left; or they were cut, and it is recovered; or all is done.
 #[derive(Drop)]
-pub(crate) enum LimitedMember<'p> {
-    Works(IdentityFuture<'p>),
+pub(crate) enum LimitedMember<'p, A: Play> {
+    Works(CourseFuture<'p, A>),
     Recovers(Cut<'p>),
     Finished(Done),
 }
@@ -32,9 +33,14 @@ pub(crate) struct Cut<'p> {
     recovery: RecoveryFuture<'p>,
 }
 
-impl<'p> LimitedMember<'p> {
+impl<'p, A: Play> LimitedMember<'p, A> {
     /// The identity of a job, before its first turn. A poll gives it `q` turns.
-    pub(crate) fn of(pool: &'p SharedPool, trace: &'p Trace, job: Job, q: u32) -> LimitedMember<'p>
+    pub(crate) fn of(
+        pool: &'p SharedPool,
+        trace: &'p Trace,
+        job: Job<A>,
+        q: u32,
+    ) -> LimitedMember<'p, A>
         requires turns { 1 ≤ q }
         requires job { IsJob trace.now pool.now job.token.account.who job }
         ensures { (limit : ℕ) → 0 < limit → pool.now.start.first_era + q * limit ≤ 2 ^ 46 → IsLimitedMember trace.now pool.now job.token.account.who (q * limit) limit result }
@@ -47,7 +53,7 @@ impl<'p> LimitedMember<'p> {
             }),
             Some(agents) => {
                 let at = agents.script();
-                LimitedMember::Works(IdentityFuture::of(pool, agents, token, &trace.scripts[at], q))
+                LimitedMember::Works(CourseFuture::of(pool, agents, token, &trace.scripts[at], q))
             }
         }
     }
@@ -58,7 +64,7 @@ impl<'p> LimitedMember<'p> {
     }
 
     /// It is polled, unless all is done. With the last of the polls that are left its agents are cut, unless none of them is left.
-    pub(crate) fn polled(self, pool: &'p SharedPool, q: u32, left: u32) -> LimitedMember<'p>
+    pub(crate) fn polled(self, pool: &'p SharedPool, q: u32, left: u32) -> LimitedMember<'p, A>
         requires turns { 1 ≤ q }
         requires member { (t : ATrace) × (c : ℕ) × (turns : ℕ) × IsLimitedMember t pool.now c turns left self }
         ensures member { (t : ATrace) (c turns : ℕ) → IsLimitedMember t pool.now c turns left self.entry → IsLimitedMember t pool.now c turns (left - 1) result }
@@ -90,12 +96,12 @@ impl<'p> LimitedMember<'p> {
 }
 
 /// The agents get the turns of a poll.
-fn worked<'p>(
+fn worked<'p, A: Play>(
     pool: &'p SharedPool,
     q: u32,
     left: u32,
-    mut future: IdentityFuture<'p>,
-) -> LimitedMember<'p>
+    mut future: CourseFuture<'p, A>,
+) -> LimitedMember<'p, A>
     requires turns { 1 ≤ q }
     requires due { (t : ATrace) × (c : ℕ) × (turns : ℕ) × IsDue t pool.now c turns left future }
     ensures member { (t : ATrace) (c turns : ℕ) → IsDue t pool.now c turns left future.entry → IsLimitedMember t pool.now c turns (left - 1) result }
@@ -108,12 +114,12 @@ fn worked<'p>(
 }
 
 /// Agents of which one is left after the first of so many polls: they wait for the next one, and with the last one they are cut.
-fn after_poll<'p>(
+fn after_poll<'p, A: Play>(
     pool: &'p SharedPool,
     q: u32,
     left: u32,
-    future: IdentityFuture<'p>,
-) -> LimitedMember<'p>
+    future: CourseFuture<'p, A>,
+) -> LimitedMember<'p, A>
     requires turns { 1 ≤ q }
     requires some { 0 < left }
     requires pending { (t : ATrace) × (c : ℕ) × (turns : ℕ) × IsPending t pool.now c turns left future }
@@ -128,7 +134,7 @@ fn after_poll<'p>(
 }
 
 /// The agents are cut that have had all their turns, and the identity is recovered. A poll of it gives `q` turns.
-fn cut_off<'p>(pool: &'p SharedPool, q: u32, future: IdentityFuture<'p>) -> Cut<'p>
+fn cut_off<'p, A: Play>(pool: &'p SharedPool, q: u32, future: CourseFuture<'p, A>) -> Cut<'p>
     requires turns { 1 ≤ q }
     requires spent { (t : ATrace) × (c : ℕ) × (turns : ℕ) × IsSpent t pool.now c turns future }
     ensures mending { (t : ATrace) (c turns : ℕ) → IsSpent t pool.now c turns future.entry → IsMending t pool.now c turns result }
@@ -148,7 +154,7 @@ fn cut_off<'p>(pool: &'p SharedPool, q: u32, future: IdentityFuture<'p>) -> Cut<
 }
 
 /// The recovery gets the turns of a poll.
-fn mended(cut: Cut<'_>) -> LimitedMember<'_>
+fn mended<A: Play>(cut: Cut<'_>) -> LimitedMember<'_, A>
     requires { (t : ATrace) × (p : APool) × (c : ℕ) × (turns : ℕ) × IsMending t p c turns cut }
     ensures member { (t : ATrace) (p : APool) (c turns left : ℕ) → IsMending t p c turns cut.entry → IsLimitedMember t p c turns left result }
     ensures fewer { (left : ℕ) → polls_left left result < cut.entry.recovery.life.left + 1 }

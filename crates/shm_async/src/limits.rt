@@ -9,6 +9,7 @@ ghost use Rattle.shm_async.specs.LimitedMembers.{AreLimited, AreLimitedDones, Ar
 use crate::limited::LimitedMember;
 use crate::polls::Rounds;
 use counted_slot::Fits;
+use shm_play::play::Play;
 use shm_pool::SharedPool;
 use shm_script::Trace;
 use shm_team::{Done, Job};
@@ -24,20 +25,20 @@ pub(crate) struct Limit<'p> {
 
 /// The identities of a trace, of which a poll gives each `q` turns. After `left` polls those are cut that have turns left.
 #[derive(Drop)]
-pub(crate) struct LimitedMembers<'p> {
+pub(crate) struct LimitedMembers<'p, A: Play> {
     pub(crate) pool: &'p SharedPool,
     pub(crate) q: u32,
     pub(crate) left: u32,
-    pub(crate) members: Vec<Option<LimitedMember<'p>>>,
+    pub(crate) members: Vec<Option<LimitedMember<'p, A>>>,
 }
 
-impl<'p> Fits for LimitedMembers<'p> {
+impl<'p, A: Play> Fits for LimitedMembers<'p, A> {
     type Tag = Limit<'p>;
 
     ghost fits = { λ w x. AreLimited w.trace.now w.pool.now w.turns x };
 }
 
-impl<'p> Rounds for LimitedMembers<'p> {
+impl<'p, A: Play> Rounds for LimitedMembers<'p, A> {
     fn round(&mut self) -> bool {
         let more = poll_each(self.pool, self.q, self.left, &mut self.members);
         self.left = self.left.saturating_sub(1);
@@ -46,13 +47,13 @@ impl<'p> Rounds for LimitedMembers<'p> {
 }
 
 /// The identities of a trace before their first turns.
-fn all_limited<'p>(
+fn all_limited<'p, A: Play>(
     alloc: Global,
     pool: &'p SharedPool,
     trace: &'p Trace,
-    jobs: Vec<Job>,
+    jobs: Vec<Job<A>>,
     q: u32,
-) -> Result<Vec<Option<LimitedMember<'p>>>, AllocError>
+) -> Result<Vec<Option<LimitedMember<'p, A>>>, AllocError>
     requires turns { 1 ≤ q }
     requires many { length jobs.items ≡ trace.now.clients }
     requires jobs { AreJobs trace.now pool.now 0 jobs.items }
@@ -67,11 +68,11 @@ fn all_limited<'p>(
 }
 
 /// Polls an identity that is here, and tells whether anything is left of it.
-fn poll_one<'p>(
+fn poll_one<'p, A: Play>(
     pool: &'p SharedPool,
     q: u32,
     left: u32,
-    slot: &mut Option<LimitedMember<'p>>,
+    slot: &mut Option<LimitedMember<'p, A>>,
 ) -> bool
     requires turns { 1 ≤ q }
     requires here { (t : ATrace) × (c : ℕ) × (turns : ℕ) × IsLimitedHere t pool.now c turns left slot.old }
@@ -89,11 +90,11 @@ fn poll_one<'p>(
 }
 
 /// Polls each identity once, in order, and tells whether anything is left of one of them.
-fn poll_each<'p>(
+fn poll_each<'p, A: Play>(
     pool: &'p SharedPool,
     q: u32,
     left: u32,
-    members: &mut [Option<LimitedMember<'p>>],
+    members: &mut [Option<LimitedMember<'p, A>>],
 ) -> bool
     requires turns { 1 ≤ q }
     requires here { (t : ATrace) × (turns : ℕ) × AreLimitedHere t pool.now turns left members.old }
@@ -106,16 +107,16 @@ fn poll_each<'p>(
     more
 }
 
-impl<'p> LimitedMembers<'p> {
+impl<'p, A: Play> LimitedMembers<'p, A> {
     /// Those of a trace before their first turns. A poll gives each of them `q` turns, and after `limit` polls those are cut that have turns left.
     pub(crate) fn of(
         alloc: Global,
         pool: &'p SharedPool,
         trace: &'p Trace,
-        jobs: Vec<Job>,
+        jobs: Vec<Job<A>>,
         q: u32,
         limit: u32,
-    ) -> Result<LimitedMembers<'p>, AllocError>
+    ) -> Result<LimitedMembers<'p, A>, AllocError>
         requires turns { 1 ≤ q }
         requires polls { 1 ≤ limit }
         requires room { HasRoom pool.now (q * limit) }
@@ -153,7 +154,12 @@ impl<'p> LimitedMembers<'p> {
 }
 
 /// Makes all that is left of an identity that is here.
-fn finish<'p>(pool: &'p SharedPool, q: u32, left: u32, slot: Option<LimitedMember<'p>>) -> Done
+fn finish<'p, A: Play>(
+    pool: &'p SharedPool,
+    q: u32,
+    left: u32,
+    slot: Option<LimitedMember<'p, A>>,
+) -> Done
     requires turns { 1 ≤ q }
     requires here { (t : ATrace) × (c : ℕ) × (turns : ℕ) × IsLimitedHere t pool.now c turns left slot }
     ensures { (t : ATrace) (c turns : ℕ) → IsLimitedHere t pool.now c turns left slot.entry → IsLimitedDone t pool.now c turns result }

@@ -4,12 +4,11 @@ ghost use Rattle.std.specs.Prelude.{◌≡◌, ◌≢◌, ◌≤◌, ℕ, None, 
 ghost use Rattle.shm_pool.specs.Tokens.{Its as APool};
 ghost use Rattle.shm_replay.specs.Replays.{start_of};
 ghost use Rattle.shm_script.specs.Values.{Traced as ATrace};
-ghost use Rattle.shm_team.specs.Dones.{AreDones, IsDone};
-ghost use Rattle.shm_team.specs.Jobs.{AreJobs, IsJob};
-ghost use Rattle.shm_async.specs.Members.{AreMembers, IsAtWork, IsHere, IsMember};
-ghost use Rattle.shm_async.specs.Polled.{MayGive};
+ghost use Rattle.shm_team.specs.{Dones.{AreDones, IsDone}, Jobs.{AreJobs, IsJob}};
+ghost use Rattle.shm_async.specs.{Members.{AreMembers, IsAtWork, IsHere, IsMember}, Polled.MayGive};
 
-use crate::identity::IdentityFuture;
+use crate::identity::CourseFuture;
+use shm_play::play::Play;
 use shm_pool::SharedPool;
 use shm_script::Trace;
 use shm_team::{Done, Finish, Job, Left};
@@ -17,8 +16,8 @@ use std::alloc::{AllocError, Global};
 
 /// An identity of a trace: its agents have turns left, or all is done.
 #[derive(Drop)]
-pub(crate) enum Member<'p> {
-    Works(IdentityFuture<'p>),
+pub(crate) enum Member<'p, A: Play> {
+    Works(CourseFuture<'p, A>),
     Finished(Done),
 }
 
@@ -33,9 +32,9 @@ pub(crate) fn done_of(finish: Finish) -> Done
     }
 }
 
-impl<'p> Member<'p> {
+impl<'p, A: Play> Member<'p, A> {
     /// The identity of a job, before its first turn.
-    fn of(pool: &'p SharedPool, trace: &'p Trace, job: Job, q: u32) -> Member<'p>
+    fn of(pool: &'p SharedPool, trace: &'p Trace, job: Job<A>, q: u32) -> Member<'p, A>
         requires turns { 1 ≤ q }
         requires job { IsJob trace.now pool.now job.token.account.who job }
         ensures { IsMember trace.now pool.now job.token.account.who result }
@@ -48,7 +47,7 @@ impl<'p> Member<'p> {
             }),
             Some(agents) => {
                 let at = agents.script();
-                Member::Works(IdentityFuture::of(pool, agents, token, &trace.scripts[at], q))
+                Member::Works(CourseFuture::of(pool, agents, token, &trace.scripts[at], q))
             }
         }
     }
@@ -59,7 +58,7 @@ impl<'p> Member<'p> {
     }
 
     /// It is polled, unless all is done.
-    fn polled(self) -> Member<'p>
+    fn polled(self) -> Member<'p, A>
         ensures { (t : ATrace) (p : APool) (c : ℕ) → IsMember t p c self.entry → IsMember t p c result }
     {
         match self {
@@ -81,7 +80,7 @@ impl<'p> Member<'p> {
 }
 
 /// The agents get the turns of one poll.
-fn turned(mut future: IdentityFuture<'_>) -> Member<'_>
+fn turned<A: Play>(mut future: CourseFuture<'_, A>) -> Member<'_, A>
     ensures { (t : ATrace) (p : APool) (c : ℕ) → IsAtWork t p c future.entry → IsMember t p c result }
 {
     match future.advance() {
@@ -91,7 +90,7 @@ fn turned(mut future: IdentityFuture<'_>) -> Member<'_>
 }
 
 /// Makes all turns that are left.
-fn run_out(mut future: IdentityFuture<'_>) -> Finish
+fn run_out<A: Play>(mut future: CourseFuture<'_, A>) -> Finish
     requires { future.site ≢ None }
     ensures { MayGive future.entry result }
 {
@@ -104,13 +103,13 @@ fn run_out(mut future: IdentityFuture<'_>) -> Finish
 }
 
 /// The identities of a trace before their first turns.
-pub(crate) fn all_members<'p>(
+pub(crate) fn all_members<'p, A: Play>(
     alloc: Global,
     pool: &'p SharedPool,
     trace: &'p Trace,
-    jobs: Vec<Job>,
+    jobs: Vec<Job<A>>,
     q: u32,
-) -> Result<Vec<Option<Member<'p>>>, AllocError>
+) -> Result<Vec<Option<Member<'p, A>>>, AllocError>
     requires turns { 1 ≤ q }
     requires many { length jobs.items ≡ trace.now.clients }
     requires jobs { AreJobs trace.now pool.now 0 jobs.items }
@@ -124,7 +123,7 @@ pub(crate) fn all_members<'p>(
 }
 
 /// Polls an identity that is here, and tells whether it has turns left.
-fn poll_one(slot: &mut Option<Member<'_>>) -> bool
+fn poll_one<A: Play>(slot: &mut Option<Member<'_, A>>) -> bool
     ensures { (t : ATrace) (p : APool) (c : ℕ) → IsHere t p c slot.old → IsHere t p c slot.new }
 {
     match slot.take() {
@@ -139,7 +138,7 @@ fn poll_one(slot: &mut Option<Member<'_>>) -> bool
 }
 
 /// Polls each identity once, in order, and tells whether one of them has turns left.
-pub(crate) fn poll_each(members: &mut [Option<Member<'_>>]) -> bool
+pub(crate) fn poll_each<A: Play>(members: &mut [Option<Member<'_, A>>]) -> bool
     ensures { (t : ATrace) (p : APool) → AreMembers t p members.old → AreMembers t p members.new }
 {
     let mut left = false;
@@ -150,7 +149,7 @@ pub(crate) fn poll_each(members: &mut [Option<Member<'_>>]) -> bool
 }
 
 /// Makes the turns that are left of an identity that is here.
-fn finish(slot: Option<Member<'_>>) -> Done
+fn finish<A: Play>(slot: Option<Member<'_, A>>) -> Done
     requires { (t : ATrace) × (p : APool) × (c : ℕ) × IsHere t p c slot }
     ensures { (t : ATrace) (p : APool) (c : ℕ) → IsHere t p c slot.entry → IsDone t p c result }
 {
@@ -161,11 +160,11 @@ fn finish(slot: Option<Member<'_>>) -> Done
 }
 
 /// Makes the turns that are left of all identities. The pool and the trace only say which identities they are.
-pub(crate) fn finish_all(
+pub(crate) fn finish_all<A: Play>(
     alloc: Global,
     pool: &SharedPool,
     trace: &Trace,
-    members: Vec<Option<Member<'_>>>,
+    members: Vec<Option<Member<'_, A>>>,
 ) -> Result<Vec<Done>, AllocError>
     requires { AreMembers trace.now pool.now members.items }
     ensures many { IfOk result (λ v. length v.items ≡ trace.now.clients) }

@@ -8,6 +8,7 @@ use counted_slot::{Counted, FREE, Fits, TAKEN};
 use futures::Future;
 use futures::executor::block_on;
 use futures::task::{Context, Poll};
+use shm_play::play::Play;
 use shm_pool::SharedPool;
 use shm_script::Trace;
 use std::alloc::AllocGlobal;
@@ -31,17 +32,17 @@ pub(crate) struct Which<'p> {
 
 /// The identities of a trace.
 #[derive(Drop)]
-pub(crate) struct Members<'p> {
-    pub(crate) members: Vec<Option<Member<'p>>>,
+pub(crate) struct Members<'p, A: Play> {
+    pub(crate) members: Vec<Option<Member<'p, A>>>,
 }
 
-impl<'p> Fits for Members<'p> {
+impl<'p, A: Play> Fits for Members<'p, A> {
     type Tag = Which<'p>;
 
     ghost fits = { λ w x. AreMembers w.trace.now w.pool.now x.members.items };
 }
 
-impl<'p> Rounds for Members<'p> {
+impl<'p, A: Play> Rounds for Members<'p, A> {
     fn round(&mut self) -> bool {
         poll_each(&mut self.members)
     }

@@ -1,13 +1,10 @@
 //! The recovery of an identity as a future.
 
 ghost use Rattle.std.specs.Prelude.{◌≡◌, ◌≤◌, ⊤, true, Result};
-ghost use Rattle.shm_async.specs.Rescued.{EndsAs, GoesOn, HasMade, HasRescued, IsGivenUp, IsStarted, is_recovered};
-ghost use Rattle.futures.specs.Poll.{IfReady, OnPending};
-ghost use Rattle.shm_pool.specs.Tokens.{Token as AToken};
-ghost use Rattle.shm_pool.specs.declared.token.Stopped.{Stopped as AStopped};
-ghost use Rattle.shm_async.specs.Rescued.{MayRescue};
-ghost use Rattle.futures.specs.Task.{Covers, Keeps};
+ghost use Rattle.shm_async.specs.Rescued.{EndsAs, GoesOn, HasMade, HasRescued, IsGivenUp, IsStarted, is_recovered, MayRescue};
 ghost use Rattle.shm_async.specs.Polled.{given_by};
+ghost use Rattle.futures.specs.{Poll.{IfReady, OnPending}, Task.{Covers, Keeps}};
+ghost use Rattle.shm_pool.specs.{Tokens.Token as AToken, declared.token.Stopped.Stopped as AStopped};
 
 use futures::Future;
 use futures::task::{Context, Poll};

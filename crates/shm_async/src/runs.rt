@@ -4,15 +4,14 @@ ghost use Rattle.std.specs.Prelude.{◌≡◌, ◌*◌, ◌≤◌, IfOk, List, l
 ghost use Rattle.shm_graph.specs.declared.run.Move.{Move as AMove};
 ghost use Rattle.shm_plain.specs.Pools.{pool as pool_of};
 ghost use Rattle.shm_replay.specs.Replays.{start_of};
-ghost use Rattle.shm_team.specs.Dones.{AreDones};
-ghost use Rattle.shm_team.specs.Jobs.{AreJobs};
-ghost use Rattle.shm_team.specs.Rans.{IsTeamRun};
-ghost use Rattle.shm_async.specs.Limited.{IsLimitedRun};
-ghost use Rattle.shm_async.specs.LimitedMembers.{AreLimitedDones};
+ghost use Rattle.shm_team.specs.{Dones.AreDones, Jobs.AreJobs, Rans.IsTeamRun};
+ghost use Rattle.shm_async.specs.{Limited.IsLimitedRun, LimitedMembers.AreLimitedDones};
 
 use crate::limits::{Limit, LimitedMembers};
 use crate::members::{all_members, finish_all};
 use crate::polls::{Members, Which, poll_all};
+use shm_play::cast::Cast;
+use shm_play::play::Play;
 use shm_pool::{Closed, SharedPool};
 use shm_script::{Log, Trace};
 use shm_team::{Done, Job, Ran, begin, settle};
@@ -28,12 +27,12 @@ pub struct Polled {
 }
 
 /// An executor polls the identities of a trace, and where it gives up the caller makes the turns that are left.
-fn poll_jobs<R: Wait + RandomSource + AllocGlobal>(
+fn poll_jobs<A: Play, R: Wait + RandomSource + AllocGlobal>(
     rt: &R,
     alloc: Global,
     pool: &SharedPool,
     trace: &Trace,
-    jobs: Vec<Job>,
+    jobs: Vec<Job<A>>,
     q: u32,
 ) -> Result<Vec<Done>, AllocError>
     requires turns { 1 ≤ q }
@@ -49,12 +48,12 @@ fn poll_jobs<R: Wait + RandomSource + AllocGlobal>(
 }
 
 /// The same, where those are cut after `limit` polls that have turns left.
-fn poll_limit<R: Wait + RandomSource + AllocGlobal>(
+fn poll_limit<A: Play, R: Wait + RandomSource + AllocGlobal>(
     rt: &R,
     alloc: Global,
     pool: &SharedPool,
     trace: &Trace,
-    jobs: Vec<Job>,
+    jobs: Vec<Job<A>>,
     q: u32,
     limit: u32,
 ) -> Result<Vec<Done>, AllocError>
@@ -69,6 +68,42 @@ fn poll_limit<R: Wait + RandomSource + AllocGlobal>(
     let turns = q as u64 * limit as u64;
     let members = LimitedMembers::of(alloc, pool, trace, jobs, q, limit)?;
     poll_all(rt, &Limit { pool, trace, turns }, members).dones(alloc)
+}
+
+/// Runs a trace by clients that are polled on this thread, whoever plays its scripts.
+fn run_async_of<A: Play, R: Wait + RandomSource + AllocGlobal>(
+    rt: &R,
+    alloc: Global,
+    trace: &Trace,
+    q: u32,
+) -> Result<Polled, AllocError>
+    requires { (1 ≤ q) × (q ≤ 1000000) }
+    ensures { IfOk result (λ r. (turns : List AMove) × IsTeamRun trace.now (pool_of r.closed.start r.closed.words r.closed.accounts turns) r.logs.items) }
+{
+    trace.in_grammar();
+    let (pool, jobs) = begin::<A>(alloc, trace)?;
+    let dones = poll_jobs(rt, alloc, &pool, trace, jobs, q)?;
+    let Ran { closed, logs } = settle(rt, alloc, trace, pool, dones)?;
+    Ok(Polled { closed, logs })
+}
+
+/// Runs a trace under a limit, whoever plays its scripts.
+fn run_limited_of<A: Play, R: Wait + RandomSource + AllocGlobal>(
+    rt: &R,
+    alloc: Global,
+    trace: &Trace,
+    q: u32,
+    limit: u32,
+) -> Result<Polled, AllocError>
+    requires turns { (1 ≤ q) × (q ≤ 1000000) }
+    requires polls { (1 ≤ limit) × (limit ≤ 1000000) }
+    ensures { IfOk result (λ r. (turns : List AMove) × IsLimitedRun trace.now (q * limit) (pool_of r.closed.start r.closed.words r.closed.accounts turns) r.logs.items) }
+{
+    trace.in_grammar();
+    let (pool, jobs) = begin::<A>(alloc, trace)?;
+    let dones = poll_limit(rt, alloc, &pool, trace, jobs, q, limit)?;
+    let Ran { closed, logs } = settle(rt, alloc, trace, pool, dones)?;
+    Ok(Polled { closed, logs })
 }
 
 /// Runs a trace by clients that are polled on this thread. There is one future for each script; one future polls each of them that is not
@@ -88,11 +123,7 @@ pub fn run_async<R: Wait + RandomSource + AllocGlobal>(
     requires { (1 ≤ q) × (q ≤ 1000000) }
     ensures { IfOk result (λ r. (turns : List AMove) × IsTeamRun trace.now (pool_of r.closed.start r.closed.words r.closed.accounts turns) r.logs.items) }
 {
-    trace.in_grammar();
-    let (pool, jobs) = begin(alloc, trace)?;
-    let dones = poll_jobs(rt, alloc, &pool, trace, jobs, q)?;
-    let Ran { closed, logs } = settle(rt, alloc, trace, pool, dones)?;
-    Ok(Polled { closed, logs })
+    run_async_of::<Cast, R>(rt, alloc, trace, q)
 }
 
 /// The same, where the future of an identity that is not ready after `limit` polls, from 1 to 1,000,000, is cancelled, and a recovery of
@@ -112,9 +143,5 @@ pub fn run_limited<R: Wait + RandomSource + AllocGlobal>(
     requires polls { (1 ≤ limit) × (limit ≤ 1000000) }
     ensures { IfOk result (λ r. (turns : List AMove) × IsLimitedRun trace.now (q * limit) (pool_of r.closed.start r.closed.words r.closed.accounts turns) r.logs.items) }
 {
-    trace.in_grammar();
-    let (pool, jobs) = begin(alloc, trace)?;
-    let dones = poll_limit(rt, alloc, &pool, trace, jobs, q, limit)?;
-    let Ran { closed, logs } = settle(rt, alloc, trace, pool, dones)?;
-    Ok(Polled { closed, logs })
+    run_limited_of::<Cast, R>(rt, alloc, trace, q, limit)
 }

@@ -1,19 +1,14 @@
 -- what the words of a page are
 use Rattle.std.proofs.Common.{◌≡◌, ◌≢◌, ℕ, ◌+◌, ◌-◌, ◌*◌, ◌/◌, ◌%◌, ◌<◌, ◌≤◌, true, false, not, ◌&&◌, eqb, ltb, leb, List, get_or, refl, sym, ap, subst, ◌∙◌, arith, inl, inr}
-use Rattle.std.specs.Prelude.{Option, Some, None}
 use Rattle.std.proofs.lemmas.Bool.{cases_eq, cond-true, ne_eqb, eq-eqb, and_parts, and_from, false≢true}
 use Rattle.std.proofs.lemmas.Bool.Decides.{nat_tests}
-use Rattle.shm_words.specs.declared.geometry.Geometry.{Geometry}
-use Rattle.shm_words.specs.declared.tag.Tag.{Tag as ATag}
-use Rattle.shm_words.specs.Layout.{GeometryFits, total_of, pages, bodies, address}
-use Rattle.shm_words.specs.Classes.{IsClass}
-use Rattle.shm_words.specs.Headers.{header_of}
+use Rattle.std.specs.Prelude.{Option, Some, None}
+use Rattle.shm_words.specs.declared.{geometry.Geometry.Geometry, tag.Tag.Tag as ATag}
+use Rattle.shm_words.specs.{Layout.{GeometryFits, total_of, pages, bodies, address}, Classes.IsClass, Headers.header_of}
 use Rattle.shm_words.specs.Tags.{tag_of, tag_refs}
 use Rattle.shm_words.proofs.Words.{tag_fields}
-use Rattle.shm_graph.specs.declared.spot.Spot.{Spot}
-use Rattle.shm_graph.specs.declared.spot.Spot.TheVariants.{Unused, Head, Tag, Body}
-use Rattle.shm_graph.specs.Spots.{see, spot_at, classes_in, class_at}
-use Rattle.shm_graph.specs.Blocks.{headers, classes}
+use Rattle.shm_graph.specs.declared.spot.Spot.{Spot, TheVariants.{Unused, Head, Tag, Body}}
+use Rattle.shm_graph.specs.{Spots.{see, spot_at, classes_in, class_at}, Blocks.{headers, classes}}
 use Rattle.shm_graph.specs.References.{references, words_of}
 use Rattle.shm_graph.proofs.Spots.Spotting.{head_at, spot_in_bodies, block_within, tag_spot, body_spot}
 use Rattle.shm_graph.proofs.Spots.WordsAt.{no_head, block_header, block_tag, page_class, refs_dead, body_reference, body_plain}

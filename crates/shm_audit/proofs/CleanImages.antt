@@ -1,12 +1,9 @@
 -- the image of a clean pool: it has no fault, and the verdict on it is that of the pool
 use Rattle.std.proofs.Common.{◌≡◌, ℕ, List, length, ap, ◌∙◌}
 use Rattle.std.specs.Prelude.{None}
-use Rattle.shm_words.specs.declared.geometry.Geometry.{Geometry}
-use Rattle.shm_words.specs.Layout.{GeometryFits, total_of}
-use Rattle.shm_graph.specs.Clean.{IsClean}
-use Rattle.shm_graph.specs.Spots.{see}
-use Rattle.shm_audit.specs.Faults.{image_fault_of, words_fault_of}
-use Rattle.shm_audit.specs.Images.{geometry_in, image_of, words_in}
+use Rattle.shm_words.specs.{declared.geometry.Geometry.Geometry, Layout.{GeometryFits, total_of}}
+use Rattle.shm_graph.specs.{Clean.IsClean, Spots.see}
+use Rattle.shm_audit.specs.{Faults.{image_fault_of, words_fault_of}, Images.{geometry_in, image_of, words_in}}
 use Rattle.shm_audit.specs.Verdicts.{clean_verdict, verdict_of}
 use Rattle.shm_audit.proofs.Cleaning.{both_none, clean_is_told, clean_no_fault}
 use Rattle.shm_audit.proofs.ReadingBack.{AreWords, frame_back, sizes_back, words_back}

@@ -1,32 +1,22 @@
 -- a pool is clean exactly where its words have no fault and the verdict says that it is
 use Rattle.std.proofs.Common.{◌≡◌, ◌≢◌, ℕ, ◌+◌, ◌<◌, Bool, true, false, not, ◌&&◌, ◌||◌, eqb, ltb, leb, cond, List, get_or, refl, sym, ap, ◌∙◌, arith, inl, inr, ◌⊎◌}
-use Rattle.std.specs.Prelude.{Option, Some, None, option_map}
-use Rattle.std.specs.Option.{option_or}
 use Rattle.std.proofs.lemmas.Bool.{cases_Bool, cases_eq, ne_eqb, eq-eqb, eqb-true, and_parts, and_from, true≢false, false≢true}
 use Rattle.std.proofs.lemmas.Bool.Decides.{nat_tests}
-use Rattle.shm_words.specs.declared.geometry.Geometry.{Geometry}
-use Rattle.shm_words.specs.declared.tag.Tag.{Tag as ATag}
-use Rattle.shm_words.specs.Layout.{GeometryFits, total_of}
-use Rattle.shm_words.specs.Classes.{IsClass}
-use Rattle.shm_words.specs.Tags.{tag_of}
+use Rattle.std.specs.{Prelude.{Option, Some, None, option_map}, Option.option_or}
+use Rattle.shm_words.specs.{declared.{geometry.Geometry.Geometry, tag.Tag.Tag as ATag}, Layout.{GeometryFits, total_of}}
+use Rattle.shm_words.specs.{Classes.IsClass, Tags.tag_of}
 use Rattle.shm_words.proofs.Words.{live_not_zero}
-use Rattle.shm_graph.specs.declared.spot.Spot.{Spot}
-use Rattle.shm_graph.specs.declared.spot.Spot.TheVariants.{Status, Home, Root, Slot, Page, Head, Tag, Body}
-use Rattle.shm_graph.specs.Spots.{see, spot_at, spot_address, class_at}
-use Rattle.shm_graph.specs.Blocks.{classes, headers, IsLive}
-use Rattle.shm_graph.specs.References.{words_of, references}
-use Rattle.shm_graph.specs.Clean.{IsClean, TagSuits}
+use Rattle.shm_graph.specs.declared.spot.Spot.{Spot, TheVariants.{Status, Home, Root, Slot, Page, Head, Tag, Body}}
+use Rattle.shm_graph.specs.{Spots.{see, spot_at, spot_address, class_at}, Blocks.{classes, headers, IsLive}}
+use Rattle.shm_graph.specs.{References.{words_of, references}, Clean.{IsClean, TagSuits}}
 use Rattle.shm_graph.proofs.Spots.Spotting.{at_below, block_within, is_at_block, is_below, tag_spot}
-use Rattle.shm_graph.proofs.Spots.Seeing.{seen_stands}
-use Rattle.shm_graph.proofs.States.Reading.{live_below}
-use Rattle.shm_audit.specs.declared.fault.ImageFault.{ImageFault}
-use Rattle.shm_audit.specs.declared.fault.ImageFault.TheVariants as fault
-use Rattle.shm_audit.specs.declared.verdict.Verdict.{Verdict}
+use Rattle.shm_graph.proofs.{Spots.Seeing.seen_stands, States.Reading.live_below}
+use Rattle.shm_audit.specs.declared.{fault.ImageFault.ImageFault, verdict.Verdict.Verdict}
 use Rattle.shm_audit.specs.declared.verdict.Verdict.TheVariants.{Clean, WrongCount, Uncounted}
 use Rattle.shm_audit.specs.Faults.{least_below, first_fault, is_page_word, is_bad_page, is_bad_header, tag_suits, is_bad_tag, is_counted, is_bad_reference, words_fault_of}
 use Rattle.shm_audit.specs.Verdicts.{is_settled, is_pending, found_at, is_wrong, by_block, by_client, verdict_of, clean_verdict, IsCleanVerdict}
-use Rattle.shm_audit.proofs.Least.{none_below, none_passes}
-use Rattle.shm_audit.proofs.Tested.{Test, no_fault}
+use Rattle.shm_audit.specs.declared.fault.ImageFault.TheVariants as fault
+use Rattle.shm_audit.proofs.{Least.{none_below, none_passes}, Tested.{Test, no_fault}}
 
 -- ---- tests and what they say
 

@@ -1,30 +1,20 @@
 -- what was found in all words says of faults and of the verdict
 use Rattle.std.proofs.Common.{◌≡◌, ◌≢◌, ℕ, ◌+◌, ◌-◌, ◌/◌, ◌<◌, ◌≤◌, Bool, true, false, not, ◌&&◌, ◌||◌, eqb, ltb, cond, List, get_or, refl, sym, ap, subst, ◌∙◌, arith, inl, inr}
-use Rattle.std.specs.Prelude.{Option, Some, None, MatchOption}
 use Rattle.std.proofs.lemmas.Bool.{cases_Bool, cases_eq, cases_lt, cond-true, cond-false, ne_eqb, eq-eqb, eqb-true, lt-ltb, le-ltb, ltb-true, and_parts, false≢true, true≢false}
-use Rattle.shm_words.specs.declared.geometry.Geometry.{Geometry}
-use Rattle.shm_words.specs.declared.header.Header.{Header}
+use Rattle.std.specs.Prelude.{Option, Some, None, MatchOption}
+use Rattle.shm_words.specs.declared.{geometry.Geometry.Geometry, header.Header.Header}
 use Rattle.shm_words.specs.Layout.{GeometryFits, total_of, bodies, pages}
-use Rattle.shm_graph.specs.declared.spot.Spot.{Spot}
-use Rattle.shm_graph.specs.declared.spot.Spot.TheVariants.{Home, Root, Slot, Body}
-use Rattle.shm_graph.specs.Spots.{see, spot_at, classes_in}
-use Rattle.shm_graph.specs.Blocks.{IsLive, classes, headers}
+use Rattle.shm_graph.specs.declared.spot.Spot.{Spot, TheVariants.{Home, Root, Slot, Body}}
+use Rattle.shm_graph.specs.{Spots.{see, spot_at, classes_in}, Blocks.{IsLive, classes, headers}}
 use Rattle.shm_graph.specs.References.{live_count, one_if, references, references_in_all, references_to, sum_below, words_of}
-use Rattle.shm_graph.proofs.Spots.Seeing.{classes-see, see-spot}
-use Rattle.shm_graph.proofs.Spots.Spotting.{block_within}
-use Rattle.shm_graph.proofs.States.Reading.{live_block}
-use Rattle.shm_audit.specs.declared.tally.Found.{Found}
-use Rattle.shm_audit.specs.declared.tally.Reference.{Reference}
-use Rattle.shm_audit.specs.declared.tally.Tally.{Tally}
-use Rattle.shm_audit.specs.declared.verdict.Verdict.{Verdict}
+use Rattle.shm_graph.proofs.{Spots.{Seeing.{classes-see, see-spot}, Spotting.block_within}, States.Reading.live_block}
+use Rattle.shm_audit.specs.declared.{tally.{Found.Found, Reference.Reference, Tally.Tally}, verdict.Verdict.Verdict}
 use Rattle.shm_audit.specs.declared.verdict.Verdict.TheVariants.{Clean, Uncounted, WrongCount}
-use Rattle.shm_audit.specs.Faults.{is_counted, least_below}
-use Rattle.shm_audit.specs.Verdicts.{block_verdict, by_block, found_at, is_wrong}
+use Rattle.shm_audit.specs.{Faults.{is_counted, least_below}, Verdicts.{block_verdict, by_block, found_at, is_wrong}}
 use Rattle.shm_audit.specs.Tallies.{ArePages, IsFirstBad, IsFound, IsLeast, NoneBelow, Tallied, bad_at, count_in, counts, earlier, is_bad_place, is_place, named, names, place_address, place_verdict, places_in, strays, unseen}
 use Rattle.shm_audit.proofs.Blocks.{block_place, page_is_class, page_word, place_number, place_there}
 use Rattle.shm_audit.proofs.Judging.{count_verdict, empty_verdict, judged, right_count, right_dead, wrong_count, wrong_empty}
-use Rattle.shm_audit.proofs.Least.{none_below}
-use Rattle.shm_audit.proofs.Tallying.{due_below, ones_none}
+use Rattle.shm_audit.proofs.{Least.none_below, Tallying.{due_below, ones_none}}
 
 -- ---- words that name something
 

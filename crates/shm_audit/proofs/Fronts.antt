@@ -1,22 +1,16 @@
 -- the words before the bodies, and words that stand from an address on
 use Rattle.std.proofs.Common.{◌≡◌, ℕ, ◌+◌, ◌<◌, ◌≤◌, List, length, get_or, refl, sym, ap, ◌∙◌, arith}
+use Rattle.std.proofs.lemmas.{Bool.true≢false, List.length-map}
 use Rattle.std.specs.Int.{w64, from_le_bytes}
-use Rattle.std.proofs.lemmas.Bool.{true≢false}
-use Rattle.std.proofs.lemmas.List.{length-map}
-use Rattle.shm_words.specs.declared.geometry.Geometry.{Geometry}
-use Rattle.shm_words.specs.declared.place.Place.{Place}
+use Rattle.shm_words.specs.{declared.{geometry.Geometry.Geometry, place.Place.Place}, Layout.{bodies, place_at}}
 use Rattle.shm_words.specs.declared.place.Place.TheVariants as place
-use Rattle.shm_words.specs.Layout.{bodies, place_at}
-use Rattle.shm_graph.specs.declared.spot.Spot.{Spot}
-use Rattle.shm_graph.specs.declared.spot.Spot.TheVariants.{Home, Root, Slot, Head}
-use Rattle.shm_graph.specs.Spots.{classes_in, is_in_body, see, spot_at, spot_of}
-use Rattle.shm_graph.specs.Blocks.{IsBlock}
+use Rattle.shm_graph.specs.declared.spot.Spot.{Spot, TheVariants.{Home, Root, Slot, Head}}
+use Rattle.shm_graph.specs.{Spots.{classes_in, is_in_body, see, spot_at, spot_of}, Blocks.IsBlock}
 use Rattle.shm_graph.specs.References.{references}
 use Rattle.shm_graph.proofs.Spots.Seeing.{see_at}
 use Rattle.shm_graph.proofs.Spots.Spotting.{block_in_body, block_within, head_at, spot_before_bodies, tag_block}
 use Rattle.shm_graph.proofs.Spots.WordsAt.{no_head}
-use Rattle.shm_audit.specs.Images.{numbers}
-use Rattle.shm_audit.specs.Tallies.{AreFrom, IsNaming, IsQuiet, named}
+use Rattle.shm_audit.specs.{Images.numbers, Tallies.{AreFrom, IsNaming, IsQuiet, named}}
 use Rattle.shm_audit.proofs.Tested.{other_tag}
 
 -- ---- words that stand from an address on

@@ -1,12 +1,9 @@
 -- the verdict on one block
 use Rattle.std.proofs.Common.{◌≡◌, ◌≢◌, ℕ, ◌<◌, Bool, true, false, not, ◌&&◌, ◌||◌, eqb, ap, ◌∙◌}
 use Rattle.std.proofs.lemmas.Bool.{cond-true, cond-false, ne_eqb, eq-eqb}
-use Rattle.shm_words.specs.declared.geometry.Geometry.{Geometry}
-use Rattle.shm_words.specs.Layout.{total_of}
-use Rattle.shm_graph.specs.declared.spot.Spot.{Spot}
-use Rattle.shm_graph.specs.Blocks.{headers}
-use Rattle.shm_audit.specs.declared.verdict.Verdict.TheVariants.{Uncounted, WrongCount}
-use Rattle.shm_audit.specs.Faults.{least_below}
+use Rattle.shm_words.specs.{declared.geometry.Geometry.Geometry, Layout.total_of}
+use Rattle.shm_graph.specs.{declared.spot.Spot.Spot, Blocks.headers}
+use Rattle.shm_audit.specs.{declared.verdict.Verdict.TheVariants.{Uncounted, WrongCount}, Faults.least_below}
 use Rattle.shm_audit.specs.Verdicts.{found_at, is_wrong, block_verdict, by_block}
 use Rattle.shm_audit.proofs.Least.{some_below}
 

@@ -1,8 +1,7 @@
 -- the least number that passes a test
 use Rattle.std.proofs.Common.{◌≡◌, ℕ, zero, suc, ◌<◌, Bool, true, false, cond, refl, sym, ap, ◌∙◌, arith, inl, inr}
-use Rattle.std.specs.Prelude.{Option, Some, None}
-use Rattle.std.specs.Option.{option_or}
 use Rattle.std.proofs.lemmas.Bool.{cases_Bool, cases_eq, cond-true, cond-false}
+use Rattle.std.specs.{Prelude.{Option, Some, None}, Option.option_or}
 use Rattle.shm_audit.specs.Faults.{least_below}
 
 pub none_below : (n : ℕ) (t : ℕ → Bool) → ((a : ℕ) → a < n → t a ≡ false) → least_below n t ≡ None

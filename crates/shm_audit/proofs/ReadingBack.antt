@@ -1,19 +1,14 @@
 -- the image of a pool, read back
 use Rattle.std.proofs.Common.{◌≡◌, ℕ, zero, suc, ◌+◌, ◌*◌, ◌/◌, ◌^◌, ◌<◌, Bool, true, false, not, ◌||◌, eqb, ltb, cond, List, [], ◌∷◌, ◌++◌, length, get_or, drop, refl, ap, ◌∙◌, arith}
-use Rattle.std.specs.Prelude.{Option, Some, None, map}
-use Rattle.std.specs.List.{flat_map}
-use Rattle.std.specs.Int.{w64, from_le_bytes, to_le_bytes}
+use Rattle.std.proofs.lemmas.{Bool.{cond-false, eq-eqb, ne_eqb, Decides.nat_tests}, Nat.from_le_bytes-to_le_bytes_8}
+use Rattle.std.specs.{Prelude.{Option, Some, None, map}, List.flat_map, Int.{w64, from_le_bytes, to_le_bytes}}
 use Rattle.std.specs.Simd.{first_chunks}
-use Rattle.std.proofs.lemmas.Bool.{cond-false, eq-eqb, ne_eqb}
-use Rattle.std.proofs.lemmas.Bool.Decides.{nat_tests}
-use Rattle.std.proofs.lemmas.Nat.{from_le_bytes-to_le_bytes_8}
-use Rattle.shm_words.specs.declared.geometry.Geometry.{Geometry}
-use Rattle.shm_words.specs.Layout.{GeometryFits, total_of}
+use Rattle.shm_words.specs.{declared.geometry.Geometry.Geometry, Layout.{GeometryFits, total_of}}
 use Rattle.shm_words.proofs.Placing.{segments_few}
 use Rattle.shm_audit.specs.declared.fault.ImageFault.{ImageFault}
-use Rattle.shm_audit.specs.declared.fault.ImageFault.TheVariants as fault
 use Rattle.shm_audit.specs.Images.{image_of, mark, marks, numbers, numbers_in, geometry_in, words_in}
 use Rattle.shm_audit.specs.Faults.{frame_fault_of, image_len, is_size}
+use Rattle.shm_audit.specs.declared.fault.ImageFault.TheVariants as fault
 
 abbrev pub AreWords : List ℕ → Type 0
 AreWords ws = (i : ℕ) → get_or ws i 0 < 2 ^ 64

@@ -1,24 +1,17 @@
 -- what an audit knows block by block
 use Rattle.std.proofs.Common.{◌≡◌, ◌≢◌, ℕ, zero, suc, ◌+◌, ◌-◌, ◌/◌, ◌<◌, ◌≤◌, Bool, true, false, not, ◌&&◌, eqb, ltb, List, get_or, below_more, refl, sym, ap, subst, ◌∙◌, arith, inl, inr}
-use Rattle.std.specs.Prelude.{Option, Some, None}
-use Rattle.std.specs.Option.{option_or}
 use Rattle.std.proofs.lemmas.Bool.{cases_eq, cases_lt, ne_eqb, and_parts}
-use Rattle.shm_words.specs.declared.geometry.Geometry.{Geometry}
-use Rattle.shm_words.specs.Classes.{IsClass}
-use Rattle.shm_words.specs.Layout.{GeometryFits, total_of, bodies, pages}
-use Rattle.shm_words.specs.Headers.{header_of}
-use Rattle.shm_words.specs.Tags.{tag_of}
+use Rattle.std.specs.{Prelude.{Option, Some, None}, Option.option_or}
+use Rattle.shm_words.specs.{declared.geometry.Geometry.Geometry, Classes.IsClass}
+use Rattle.shm_words.specs.{Layout.{GeometryFits, total_of, bodies, pages}, Headers.header_of, Tags.tag_of}
 use Rattle.shm_graph.specs.Spots.{see, classes_in}
-use Rattle.shm_audit.specs.declared.fault.ImageFault.{ImageFault}
-use Rattle.shm_audit.specs.declared.fault.ImageFault.TheVariants as fault
-use Rattle.shm_audit.specs.declared.tally.Reference.{Reference}
-use Rattle.shm_audit.specs.declared.tally.Tally.{Tally}
+use Rattle.shm_audit.specs.declared.{fault.ImageFault.ImageFault, tally.{Reference.Reference, Tally.Tally}}
 use Rattle.shm_audit.specs.Faults.{first_fault, is_bad_header, is_bad_page, is_bad_reference, is_bad_tag, is_page_word, tag_suits, words_fault_of}
 use Rattle.shm_audit.specs.Tallies.{ArePages, HasBlock, IsFirstBad, NoneBelow, Tallied}
 use Rattle.shm_audit.specs.Streams.{AreSound, HasPage, IsTallied, SeenBy}
+use Rattle.shm_audit.specs.declared.fault.ImageFault.TheVariants as fault
 use Rattle.shm_audit.proofs.Blocks.{IsNothing, behind_head, behind_tag, block_end, class_above, class_in_page, good_tag, head_tag, live_tag, nothing_unused, page_is_class, page_word, quiet_header}
-use Rattle.shm_audit.proofs.Fronts.{front_quiet}
-use Rattle.shm_audit.proofs.Tallying.{tally_nothing}
+use Rattle.shm_audit.proofs.{Fronts.front_quiet, Tallying.tally_nothing}
 use Rattle.shm_audit.proofs.Tested.{a_fault, before_pages, behind_pages, header_test, no_fault, page_test, test_at}
 
 -- ---- faults in order

@@ -1,18 +1,13 @@
 -- what is found word by word
 use Rattle.std.proofs.Common.{◌≡◌, ◌≢◌, ℕ, zero, suc, ◌+◌, ◌%◌, ◌^◌, ◌<◌, ◌≤◌, Bool, true, false, not, ◌&&◌, eqb, ltb, cond, List, length, get_or, set, length-set, get_or-set_same, get_or-set_other, below_more, refl, sym, ap, subst, ◌∙◌, arith, inl, inr}
-use Rattle.std.specs.Prelude.{Option, Some, None}
 use Rattle.std.proofs.lemmas.Bool.{cases_Bool, cases_eq, cases_lt, cond-true, cond-false, ne_eqb, eq-eqb, lt-ltb, le-ltb, and_from, true≢false}
-use Rattle.shm_words.specs.declared.geometry.Geometry.{Geometry}
-use Rattle.shm_words.specs.Layout.{GeometryFits, total_of, bodies}
+use Rattle.std.specs.Prelude.{Option, Some, None}
+use Rattle.shm_words.specs.{declared.geometry.Geometry.Geometry, Layout.{GeometryFits, total_of, bodies}}
 use Rattle.shm_words.specs.Headers.{header_of}
 use Rattle.shm_words.proofs.Placing.{total_small}
-use Rattle.shm_graph.specs.Spots.{see}
-use Rattle.shm_graph.specs.Blocks.{headers}
-use Rattle.shm_graph.specs.References.{sum_below, one_if}
+use Rattle.shm_graph.specs.{Spots.see, Blocks.headers, References.{sum_below, one_if}}
 use Rattle.shm_graph.proofs.Spots.Summing.{sum_below-one_more}
-use Rattle.shm_audit.specs.declared.tally.Found.{Found}
-use Rattle.shm_audit.specs.declared.tally.Reference.{Reference}
-use Rattle.shm_audit.specs.declared.tally.Tally.{Tally}
+use Rattle.shm_audit.specs.declared.tally.{Found.Found, Reference.Reference, Tally.Tally}
 use Rattle.shm_audit.specs.Tallies.{IsFound, IsHead, IsLeast, IsNaming, IsQuiet, IsStray, NoneBelow, Tallied, count_in, is_place, named, names, place_address, places_in, strays, unseen}
 use Rattle.shm_audit.proofs.Blocks.{IsNothing, place_there}
 

@@ -1,20 +1,15 @@
 -- what each test of a fault says of the word at an address
 use Rattle.std.proofs.Common.{◌≡◌, ℕ, ◌-◌, ◌/◌, ◌%◌, ◌<◌, ◌≤◌, Bool, true, false, not, ◌&&◌, eqb, ltb, List, get_or, refl, ap, ◌∙◌, arith}
+use Rattle.std.proofs.lemmas.Bool.{lt-ltb, Decides.nat_tests}
 use Rattle.std.specs.Prelude.{Some, None, option_map}
-use Rattle.std.proofs.lemmas.Bool.{lt-ltb}
-use Rattle.std.proofs.lemmas.Bool.Decides.{nat_tests}
 use Rattle.shm_words.specs.declared.geometry.Geometry.{Geometry}
-use Rattle.shm_words.specs.declared.place.Place.TheVariants as place
-use Rattle.shm_words.specs.Layout.{GeometryFits, total_of, pages, bodies, address, is_in, place_at}
-use Rattle.shm_words.proofs.Placing.{place-address, address_below}
-use Rattle.shm_words.specs.Headers.{header_of}
+use Rattle.shm_words.specs.{Layout.{GeometryFits, total_of, pages, bodies, address, is_in, place_at}, Headers.header_of}
 use Rattle.shm_words.specs.Tags.{tag_of}
-use Rattle.shm_graph.specs.declared.spot.Spot.{Spot}
-use Rattle.shm_graph.specs.declared.spot.Spot.TheVariants.{Status, Page, Head, Tag}
-use Rattle.shm_graph.specs.Spots.{see, spot_at, spot_of, classes_in, class_at}
-use Rattle.shm_graph.specs.Blocks.{classes}
-use Rattle.shm_graph.proofs.Spots.Spotting.{is_below, tag_block}
-use Rattle.shm_graph.proofs.Spots.Seeing.{see_at, classes-see}
+use Rattle.shm_words.specs.declared.place.Place.TheVariants as place
+use Rattle.shm_words.proofs.Placing.{place-address, address_below}
+use Rattle.shm_graph.specs.declared.spot.Spot.{Spot, TheVariants.{Status, Page, Head, Tag}}
+use Rattle.shm_graph.specs.{Spots.{see, spot_at, spot_of, classes_in, class_at}, Blocks.classes}
+use Rattle.shm_graph.proofs.Spots.{Spotting.{is_below, tag_block}, Seeing.{see_at, classes-see}}
 use Rattle.shm_audit.specs.declared.fault.ImageFault.{ImageFault}
 use Rattle.shm_audit.specs.Faults.{first_fault, is_page_word, is_bad_page, is_bad_header, is_bad_tag, tag_suits}
 use Rattle.shm_audit.proofs.Least.{none_below, some_below}

@@ -1,19 +1,14 @@
 -- the numbers that bytes say, piece by piece
 use Rattle.std.proofs.Common.{◌≡◌, ℕ, zero, suc, ◌+◌, ◌*◌, ◌/◌, ◌<◌, ◌≤◌, min, true, false, not, ◌||◌, eqb, ltb, cond, List, [], ◌∷◌, ◌++◌, length, length-append, get_or, take, drop, length-drop, length-take, refl, sym, ap, ◌∙◌, arith}
-use Rattle.std.specs.Prelude.{Option, Some, None}
-use Rattle.std.specs.Int.{w64, from_le_bytes}
-use Rattle.std.specs.Simd.{first_chunks}
 use Rattle.std.proofs.lemmas.Bool.{cond-true, cond-false, eq-eqb, le-ltb, ne_eqb}
 use Rattle.std.proofs.lemmas.List.{drop-append-le, drop-map, get_or-append-add, get_or-drop, get_or-take, get_or_append_left, length-map, map-append, take-append-le, take-map}
 use Rattle.std.proofs.Math.Seq.{drop-append_seam}
-use Rattle.shm_words.specs.declared.geometry.Geometry.{Geometry}
-use Rattle.shm_words.specs.Layout.{GeometryFits}
-use Rattle.shm_audit.specs.declared.fault.ImageFault.{ImageFault}
-use Rattle.shm_audit.specs.declared.fault.ImageFault.TheVariants as fault
-use Rattle.shm_audit.specs.Faults.{frame_fault_of, image_len, is_size}
-use Rattle.shm_audit.specs.Frames.{Announces}
-use Rattle.shm_audit.specs.Images.{geometry_in, marks, numbers, numbers_in, words_in}
+use Rattle.std.specs.{Prelude.{Option, Some, None}, Int.{w64, from_le_bytes}, Simd.first_chunks}
+use Rattle.shm_words.specs.{declared.geometry.Geometry.Geometry, Layout.GeometryFits}
+use Rattle.shm_audit.specs.{declared.fault.ImageFault.ImageFault, Faults.{frame_fault_of, image_len, is_size}}
+use Rattle.shm_audit.specs.{Frames.Announces, Images.{geometry_in, marks, numbers, numbers_in, words_in}}
 use Rattle.shm_audit.specs.Tallies.{AreFrom}
+use Rattle.shm_audit.specs.declared.fault.ImageFault.TheVariants as fault
 use Rattle.shm_audit.proofs.ReadingBack.{size_so}
 
 chunks : (m k : ℕ) (x y : List ℕ) → length x ≡ 8 * m → first_chunks 8 (m + k) (x ++ y) ≡ first_chunks 8 m x ++ first_chunks 8 k y

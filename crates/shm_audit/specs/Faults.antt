@@ -1,18 +1,12 @@
 -- what is at fault in an image
 use Rattle.std.specs.Prelude.{ℕ, zero, suc, ◌+◌, ◌*◌, Bool, true, false, not, ◌&&◌, ◌||◌, ◌==◌, nat_lt, nat_le, if◌then◌else◌, List, length, slice_index, Option, Some, None, option_map}
 use Rattle.std.specs.Option.{option_or}
-use Rattle.shm_words.specs.declared.geometry.Geometry.{Geometry}
-use Rattle.shm_words.specs.declared.tag.Tag.{Tag as ATag}
-use Rattle.shm_words.specs.Layout.{segments_most, total_of}
-use Rattle.shm_words.specs.Tags.{tag_of}
-use Rattle.shm_graph.specs.declared.spot.Spot.{Spot}
-use Rattle.shm_graph.specs.declared.spot.Spot.TheVariants.{Page, Head, Tag}
-use Rattle.shm_graph.specs.Spots.{see, spot_at, class_at}
-use Rattle.shm_graph.specs.Blocks.{classes, headers}
-use Rattle.shm_graph.specs.References.{references}
-use Rattle.shm_audit.specs.declared.fault.ImageFault.{ImageFault}
+use Rattle.shm_words.specs.declared.{geometry.Geometry.Geometry, tag.Tag.Tag as ATag}
+use Rattle.shm_words.specs.{Layout.{segments_most, total_of}, Tags.tag_of}
+use Rattle.shm_graph.specs.{declared.spot.Spot.{Spot, TheVariants.{Page, Head, Tag}}, Spots.{see, spot_at, class_at}}
+use Rattle.shm_graph.specs.{Blocks.{classes, headers}, References.references}
+use Rattle.shm_audit.specs.{declared.fault.ImageFault.ImageFault, Images.{marks, numbers_in, geometry_in, words_in}}
 use Rattle.shm_audit.specs.declared.fault.ImageFault.TheVariants as fault
-use Rattle.shm_audit.specs.Images.{marks, numbers_in, geometry_in, words_in}
 
 -- the least number below n that passes the test
 abbrev pub least_below : ℕ → (ℕ → Bool) → Option ℕ

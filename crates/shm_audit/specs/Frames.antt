@@ -1,9 +1,8 @@
 -- what the first 24 bytes of an image say of all of it
 use Rattle.std.specs.Prelude.{◌≡◌, ◌≢◌, List, ℕ, length, Some, None}
 use Rattle.shm_words.specs.declared.geometry.Geometry.{Geometry}
+use Rattle.shm_audit.specs.{Faults.{frame_fault_of, image_len}, Images.geometry_in}
 use Rattle.shm_audit.specs.declared.fault.ImageFault.TheVariants as fault
-use Rattle.shm_audit.specs.Faults.{frame_fault_of, image_len}
-use Rattle.shm_audit.specs.Images.{geometry_in}
 
 -- the image announces these sizes: if it is as long as they say nothing is at fault before its words, and otherwise its length is
 pub record Announces (g : Geometry) (image : List ℕ) : Type 0 where

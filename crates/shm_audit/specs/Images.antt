@@ -1,8 +1,6 @@
 -- the bytes of an image
 use Rattle.std.specs.Prelude.{ℕ, ◌/◌, Bool, true, false, ◌==◌, List, ◌∷◌, ◌++◌, length, map, drop, codes, slice_index}
-use Rattle.std.specs.List.{flat_map}
-use Rattle.std.specs.Int.{w64, from_le_bytes, to_le_bytes}
-use Rattle.std.specs.Simd.{first_chunks}
+use Rattle.std.specs.{List.flat_map, Int.{w64, from_le_bytes, to_le_bytes}, Simd.first_chunks}
 use Rattle.shm_words.specs.declared.geometry.Geometry.{Geometry}
 
 -- what the image of a pool of format 2 (`true`) or of format 1 begins with

@@ -1,15 +1,11 @@
 -- what an audit knows of the words of a pool that came so far
 use Rattle.std.specs.Prelude.{◌≡◌, ℕ, ◌+◌, ◌-◌, ◌%◌, ◌≤◌, true, ◌&&◌, nat_lt, List, slice_index, Option, Some, None}
-use Rattle.shm_words.specs.declared.geometry.Geometry.{Geometry}
-use Rattle.shm_words.specs.Headers.{header_of}
-use Rattle.shm_words.specs.Layout.{bodies, total_of}
+use Rattle.shm_words.specs.{declared.geometry.Geometry.Geometry, Headers.header_of, Layout.{bodies, total_of}}
 use Rattle.shm_graph.specs.Spots.{see, spot_at, classes_in, class_at}
-use Rattle.shm_audit.specs.declared.auditor.Auditor.{Auditor}
-use Rattle.shm_audit.specs.declared.fault.ImageFault.{ImageFault}
-use Rattle.shm_audit.specs.declared.fault.ImageFault.TheVariants as fault
-use Rattle.shm_audit.specs.declared.tally.Tally.{Tally}
+use Rattle.shm_audit.specs.declared.{auditor.Auditor.Auditor, fault.ImageFault.ImageFault, tally.Tally.Tally}
 use Rattle.shm_audit.specs.Faults.{first_fault, is_bad_header, is_bad_tag, words_fault_of}
 use Rattle.shm_audit.specs.Tallies.{ArePages, NoneBelow, Tallied}
+use Rattle.shm_audit.specs.declared.fault.ImageFault.TheVariants as fault
 
 -- the page of this class begins at an address
 pub record HasPage (g : Geometry) (ws : List ℕ) (a k : ℕ) : Type 0 where

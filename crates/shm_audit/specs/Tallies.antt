@@ -1,17 +1,10 @@
 -- what the words of a pool below an address say of each place where a block may begin
 use Rattle.std.specs.Prelude.{◌≡◌, ℕ, ◌+◌, ◌-◌, ◌*◌, ◌/◌, ◌%◌, ◌<◌, ◌≤◌, Bool, true, false, not, ◌&&◌, ◌==◌, nat_lt, nat_le, if◌then◌else◌, List, length, get_or, slice_index, Option, Some, None, MatchOption}
-use Rattle.shm_words.specs.declared.geometry.Geometry.{Geometry}
-use Rattle.shm_words.specs.declared.header.Header.{Header}
-use Rattle.shm_words.specs.Classes.{IsClass}
+use Rattle.shm_words.specs.{declared.{geometry.Geometry.Geometry, header.Header.Header}, Classes.IsClass}
 use Rattle.shm_words.specs.Layout.{bodies, pages, total_of}
-use Rattle.shm_graph.specs.declared.spot.Spot.TheVariants.{Head}
-use Rattle.shm_graph.specs.Spots.{see, spot_at, classes_in, class_at}
-use Rattle.shm_graph.specs.Blocks.{IsBlock, IsLive, headers}
-use Rattle.shm_graph.specs.References.{sum_below, one_if, references}
-use Rattle.shm_audit.specs.declared.tally.Found.{Found}
-use Rattle.shm_audit.specs.declared.tally.Reference.{Reference}
-use Rattle.shm_audit.specs.declared.tally.Tally.{Tally}
-use Rattle.shm_audit.specs.declared.verdict.Verdict.{Verdict}
+use Rattle.shm_graph.specs.{declared.spot.Spot.TheVariants.Head, Spots.{see, spot_at, classes_in, class_at}}
+use Rattle.shm_graph.specs.{Blocks.{IsBlock, IsLive, headers}, References.{sum_below, one_if, references}}
+use Rattle.shm_audit.specs.declared.{tally.{Found.Found, Reference.Reference, Tally.Tally}, verdict.Verdict.Verdict}
 use Rattle.shm_audit.specs.declared.verdict.Verdict.TheVariants.{Uncounted, WrongCount}
 use Rattle.shm_audit.specs.Faults.{is_bad_reference, is_bad_tag, is_page_word}
 

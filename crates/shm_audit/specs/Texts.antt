@@ -1,10 +1,8 @@
 -- the lines that tell of a verdict and of a fault
-use Rattle.std.specs.Prelude.{ℕ, List, [], ◌∷◌, ◌++◌, codes}
-use Rattle.std.specs.Fmt.{decimal}
+use Rattle.std.specs.{Prelude.{ℕ, List, [], ◌∷◌, ◌++◌, codes}, Fmt.decimal}
 use Rattle.shm_audit.specs.declared.fault.ImageFault.{ImageFault}
 use Rattle.shm_audit.specs.declared.fault.ImageFault.TheVariants.{Short, Magic, Geometry, Length, BadPage, BadHeader, BadTag, BadRef}
-use Rattle.shm_audit.specs.declared.verdict.Verdict.{Verdict}
-use Rattle.shm_audit.specs.declared.verdict.Verdict.TheVariants.{Clean, WrongCount, Uncounted, Pending}
+use Rattle.shm_audit.specs.declared.verdict.Verdict.{Verdict, TheVariants.{Clean, WrongCount, Uncounted, Pending}}
 
 abbrev pub line_end : List ℕ
 line_end = 10 ∷ []

@@ -1,13 +1,9 @@
 -- the verdict on the words of a pool
 use Rattle.std.specs.Prelude.{◌≡◌, ℕ, Bool, not, ◌&&◌, ◌||◌, ◌==◌, if◌then◌else◌, Option, Some, None}
-use Rattle.shm_words.specs.declared.geometry.Geometry.{Geometry}
-use Rattle.shm_words.specs.Layout.{total_of}
-use Rattle.shm_graph.specs.declared.spot.Spot.{Spot}
-use Rattle.shm_graph.specs.declared.spot.Spot.TheVariants.{Status}
-use Rattle.shm_graph.specs.Blocks.{classes, headers}
+use Rattle.shm_words.specs.{declared.geometry.Geometry.Geometry, Layout.total_of}
+use Rattle.shm_graph.specs.{declared.spot.Spot.{Spot, TheVariants.Status}, Blocks.{classes, headers}}
 use Rattle.shm_graph.specs.References.{references, references_to, references_in_all, live_count}
-use Rattle.shm_audit.specs.declared.verdict.Verdict.{Verdict}
-use Rattle.shm_audit.specs.declared.verdict.Verdict.TheVariants.{Clean, WrongCount, Uncounted, Pending}
+use Rattle.shm_audit.specs.declared.verdict.Verdict.{Verdict, TheVariants.{Clean, WrongCount, Uncounted, Pending}}
 use Rattle.shm_audit.specs.Faults.{least_below}
 
 -- the status of an identity that is new or gone

@@ -1,14 +1,11 @@
 //! The audit of an image: its first fault, or the first verdict on its words.
 
 ghost use Rattle.std.specs.Prelude.{◌≡◌, ℕ, ◌^◌, ◌<◌, ◌↔◌, List, length, slice_index, IfOk, IfErr, None, Some};
-ghost use Rattle.shm_words.specs.declared.geometry.Geometry.{Geometry as AGeometry};
-ghost use Rattle.shm_words.specs.Layout.{GeometryFits, total_of};
-ghost use Rattle.shm_graph.specs.Spots.{see};
-ghost use Rattle.shm_graph.specs.Clean.{IsClean};
+ghost use Rattle.shm_words.specs.{declared.geometry.Geometry.Geometry as AGeometry, Layout.{GeometryFits, total_of}};
+ghost use Rattle.shm_graph.specs.{Spots.see, Clean.IsClean};
 ghost use Rattle.shm_audit.specs.Images.{image_of, geometry_in, words_in, numbers};
 ghost use Rattle.shm_audit.specs.Faults.{image_fault_of, words_fault_of};
-ghost use Rattle.shm_audit.specs.Verdicts.{verdict_of, clean_verdict, IsCleanVerdict};
-ghost use Rattle.shm_audit.specs.Stops.{StopsBy};
+ghost use Rattle.shm_audit.specs.{Verdicts.{verdict_of, clean_verdict, IsCleanVerdict}, Stops.StopsBy};
 
 use crate::auditor::Auditor;
 use crate::image::open_image;

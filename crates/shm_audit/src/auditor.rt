@@ -1,14 +1,10 @@
 //! An audit of the words of a pool as they come, which keeps none of them.
 
 ghost use Rattle.std.specs.Prelude.{◌≡◌, ℕ, ◌+◌, ◌*◌, ◌^◌, ◌<◌, ◌≤◌, List, length, IfOk, IfErr, IfSome, IfNone};
-ghost use Rattle.shm_words.specs.Classes.{IsClass};
-ghost use Rattle.shm_words.specs.Layout.{GeometryFits, total_of, bodies};
+ghost use Rattle.shm_words.specs.{Classes.IsClass, Layout.{GeometryFits, total_of, bodies}};
 ghost use Rattle.shm_graph.specs.Spots.{see};
-ghost use Rattle.shm_audit.specs.Images.{numbers};
-ghost use Rattle.shm_audit.specs.Faults.{words_fault_of};
-ghost use Rattle.shm_audit.specs.Verdicts.{verdict_of};
-ghost use Rattle.shm_audit.specs.Tallies.{AreFrom, HasBlock};
-ghost use Rattle.shm_audit.specs.Streams.{HasPage, IsLawful, IsTallied, Seen};
+ghost use Rattle.shm_audit.specs.{Images.numbers, Faults.words_fault_of, Verdicts.verdict_of};
+ghost use Rattle.shm_audit.specs.{Tallies.{AreFrom, HasBlock}, Streams.{HasPage, IsLawful, IsTallied, Seen}};
 
 use crate::checks::{check_pages, first_pending, is_lawful, suits};
 use crate::fault::ImageFault;

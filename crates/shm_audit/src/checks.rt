@@ -1,13 +1,10 @@
 //! Tests of single words: pages, headers, tags and statuses.
 
 ghost use Rattle.std.specs.Prelude.{◌≡◌, ◌&&◌, ℕ, List, length, nat_lt, IfErr, OnOk, Some};
-ghost use Rattle.shm_words.specs.Layout.{GeometryFits, bodies};
-ghost use Rattle.shm_words.specs.Tags.{tag_of};
+ghost use Rattle.shm_words.specs.{Layout.{GeometryFits, bodies}, Tags.tag_of};
 ghost use Rattle.shm_graph.specs.Spots.{see};
-ghost use Rattle.shm_audit.specs.Images.{numbers};
-ghost use Rattle.shm_audit.specs.Faults.{is_page_word, least_below, tag_suits, words_fault_of};
-ghost use Rattle.shm_audit.specs.Tallies.{AreFrom, ArePages};
-ghost use Rattle.shm_audit.specs.Verdicts.{is_pending, is_settled};
+ghost use Rattle.shm_audit.specs.{Images.numbers, Faults.{is_page_word, least_below, tag_suits, words_fault_of}};
+ghost use Rattle.shm_audit.specs.{Tallies.{AreFrom, ArePages}, Verdicts.{is_pending, is_settled}};
 
 use crate::fault::ImageFault;
 use crate::words::word;

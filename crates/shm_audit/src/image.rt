@@ -2,12 +2,10 @@
 
 ghost use Rattle.std.specs.Prelude.{◌≡◌, ℕ, ◌++◌, ◌^◌, ◌<◌, ◌||◌, true, false, List, length, slice_index, IfOk, IfErr, OnOk, None, Some};
 ghost use Rattle.std.specs.Int.{w64, to_le_bytes};
-ghost use Rattle.shm_words.specs.declared.geometry.Geometry.{Geometry as AGeometry};
-ghost use Rattle.shm_words.specs.Layout.{GeometryFits, total_of};
+ghost use Rattle.shm_words.specs.{declared.geometry.Geometry.Geometry as AGeometry, Layout.{GeometryFits, total_of}};
 ghost use Rattle.shm_audit.specs.Images.{image_of, geometry_in, marks, numbers, words_in};
+ghost use Rattle.shm_audit.specs.{Faults.{frame_fault_of, is_size}, Frames.Announces};
 ghost use Rattle.shm_audit.specs.declared.fault.ImageFault.TheVariants as fault;
-ghost use Rattle.shm_audit.specs.Faults.{frame_fault_of, is_size};
-ghost use Rattle.shm_audit.specs.Frames.{Announces};
 
 use crate::fault::ImageFault;
 use crate::words::word;

@@ -4,9 +4,7 @@ ghost use Rattle.std.specs.Prelude.{◌≡◌, ℕ, ◌+◌, ◌*◌, ◌%◌, �
 ghost use Rattle.shm_words.specs.declared.geometry.Geometry.{Geometry as AGeometry};
 ghost use Rattle.shm_words.specs.Layout.{GeometryFits, total_of, bodies};
 ghost use Rattle.shm_graph.specs.Spots.{see};
-ghost use Rattle.shm_audit.specs.Images.{numbers};
-ghost use Rattle.shm_audit.specs.Faults.{least_below};
-ghost use Rattle.shm_audit.specs.Verdicts.{by_block, is_wrong};
+ghost use Rattle.shm_audit.specs.{Images.numbers, Faults.least_below, Verdicts.{by_block, is_wrong}};
 ghost use Rattle.shm_audit.specs.Tallies.{AreFrom, ArePages, IsHead, IsNaming, IsFirstBad, Tallied, earlier, is_bad_place, is_place, place_address, place_verdict, places_in};
 
 use crate::verdict::Verdict;

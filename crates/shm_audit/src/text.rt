@@ -1,7 +1,6 @@
 //! The lines that tell of a verdict and of a fault.
 
-ghost use Rattle.std.specs.Prelude.{◌≡◌, ◌++◌, codes, IfOk, OnOk};
-ghost use Rattle.std.specs.Fmt.{decimal};
+ghost use Rattle.std.specs.{Prelude.{◌≡◌, ◌++◌, codes, IfOk, OnOk}, Fmt.decimal};
 ghost use Rattle.shm_audit.specs.Texts.{verdict_line, fault_line};
 
 use crate::fault::ImageFault;

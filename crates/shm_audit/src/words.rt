@@ -1,11 +1,9 @@
 //! What the words of an image say: what each is for, and what it names.
 
 ghost use Rattle.std.specs.Prelude.{◌≡◌, ◌≢◌, ℕ, ◌%◌, ◌<◌, ◌≤◌, List, length, slice_index, true};
-ghost use Rattle.shm_words.specs.Layout.{GeometryFits, total_of, bodies, address, is_in};
-ghost use Rattle.shm_words.specs.Tags.{tag_refs};
+ghost use Rattle.shm_words.specs.{Layout.{GeometryFits, total_of, bodies, address, is_in}, Tags.tag_refs};
 ghost use Rattle.shm_graph.specs.Spots.{spot_at, spot_of, block_spot, classes_in};
-ghost use Rattle.shm_audit.specs.Images.{numbers};
-ghost use Rattle.shm_audit.specs.Tallies.{AreFrom, named};
+ghost use Rattle.shm_audit.specs.{Images.numbers, Tallies.{AreFrom, named}};
 
 use shm_graph::Spot;
 use shm_words::{Geometry, Place};

@@ -1,11 +1,7 @@
 -- what calls tell and ask, put together: the events of a machine whose answers are told otherwise, and bounds that add up
-use Rattle.std.proofs.Common.{◌≡◌, ℕ, ◌+◌, refl, ap, arith, List, [], ◌∷◌, ◌++◌}
+use Rattle.std.proofs.{Common.{◌≡◌, ℕ, ◌+◌, refl, ap, arith, List, [], ◌∷◌, ◌++◌}, lemmas.List.length-append}
 use Rattle.std.specs.List.{filter}
-use Rattle.std.proofs.lemmas.List.{length-append}
-use Rattle.shm_graph.specs.Asks.{Trail, failed, IsWithin}
-use Rattle.shm_graph.specs.Events.{Event}
-use Rattle.shm_graph.specs.Laws.{Control}
-use Rattle.shm_graph.specs.Mapped.{mapped}
+use Rattle.shm_graph.specs.{Asks.{Trail, failed, IsWithin}, Events.Event, Laws.Control, Mapped.mapped}
 use Rattle.shm_graph.specs.Tells.{is_event, tells_along, happens_along}
 
 -- ---- events

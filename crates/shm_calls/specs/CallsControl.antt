@@ -1,15 +1,13 @@
 -- the control of a machine that makes the calls of a plan
 use Rattle.std.specs.Prelude.{ℕ, ◌&&◌, Option, Some, None}
-use Rattle.shm_graph.specs.Events.{Event}
-use Rattle.shm_graph.specs.Laws.{Control}
-use Rattle.shm_calls.specs.declared.calls.Calls.{Calls}
-use Rattle.shm_calls.specs.Plans.{Planned}
+use Rattle.shm_graph.specs.{Events.Event, Laws.Control}
+use Rattle.shm_calls.specs.{declared.calls.Calls.Calls, Plans.Planned, Steering.Steered}
 
 -- a plan, and its next call before its first word step
-abbrev pub calls_of : {P C B A : Type 0} → Planned P C B A → P → Calls P C A B
+abbrev pub calls_of : {P C B A : Type 0} → Steered P C B A → P → Calls P C A B
 calls_of q p = record { plan = p; call = q.call p }
 
-module _ {P C B A : Type 0} (k : Control C B) (q : Planned P C B A) where
+module _ {P C B A : Type 0} (k : Control C B) (q : Steered P C B A) where
   -- where the plan goes after an answer of the call c: its next call is made, or it has answered
   abbrev pub planned : C → P → Option A → Calls P C A B
   planned c p None = calls_of q p
@@ -35,10 +33,11 @@ module _ {P C B A : Type 0} (k : Control C B) (q : Planned P C B A) where
         turns = λ m n. answered m.plan (k.turns m.call n);
       }
 
-  -- it tells of the events of its calls
-  abbrev pub calls_does : Calls P C A B → ℕ → Event
-  calls_does m n = (q.part m.plan).does m.call n
-
   -- the machine before its first word step
   abbrev pub calls_start : Calls P C A B → Calls P C A B
   calls_start m = calls_of q (q.start m.plan)
+
+module _ {P C B A : Type 0} (k : Control C B) (q : Planned P C B A) where
+  -- it tells of the events of its calls
+  abbrev pub calls_does : Calls P C A B → ℕ → Event
+  calls_does m n = (q.part m.plan).does m.call n

@@ -1,32 +1,18 @@
 -- the law of a machine that makes the calls of a plan: it follows from what the plan owes
 use Rattle.std.proofs.Common.{◌≡◌, ◌≢◌, ℕ, zero, suc, Bool, true, false, refl, sym, ap, ◌∙◌, subst, append_assoc, append-nil, List, [], ◌∷◌, ◌++◌}
-use Rattle.std.specs.Prelude.{◌<◌, Option, Some, None, ◌&&◌}
+use Rattle.std.specs.{Prelude.{◌<◌, Option, Some, None, ◌&&◌}, List.filter}
 use Rattle.shm_words.specs.Layout.{total_of}
-use Rattle.std.specs.List.{filter}
-use Rattle.shm_graph.specs.declared.ask.Ask.{Ask}
-use Rattle.shm_graph.specs.declared.ask.Me.{Me}
-use Rattle.shm_graph.specs.declared.spot.Spot.{Spot}
-use Rattle.shm_graph.specs.declared.memo.Memo.{Memo}
-use Rattle.shm_graph.specs.declared.memo.Seen.{Seen}
-use Rattle.shm_graph.specs.Spots.{spot_at}
-use Rattle.shm_graph.specs.Blocks.{classes}
-use Rattle.shm_graph.specs.Asks.{Trail, at_of, seen_of, words_after, pair, call_before}
-use Rattle.shm_graph.specs.Agents.{recovers}
-use Rattle.shm_graph.specs.Changes.{memo_on}
-use Rattle.shm_graph.specs.Events.{Event}
+use Rattle.shm_graph.specs.{declared.{ask.{Ask.Ask, Me.Me}, spot.Spot.Spot, memo.{Memo.Memo, Seen.Seen}}, Spots.spot_at}
+use Rattle.shm_graph.specs.{Blocks.classes, Asks.{Trail, at_of, seen_of, words_after, pair, call_before}}
+use Rattle.shm_graph.specs.{Agents.recovers, Changes.memo_on, Events.Event}
 use Rattle.shm_graph.specs.Laws.{Control, Ends, Frame, framed, KeptAt, Stands, Steady, Inside, Back, Keeps, Then, Laws, Outcome, is_some, event_on}
-use Rattle.shm_graph.specs.Tells.{is_event, after_all, happens_along, Tells}
-use Rattle.shm_graph.specs.Views.{at1}
-use Rattle.shm_graph.proofs.StepKinds.KindKeeping.{not_fresh}
-use Rattle.shm_graph.proofs.Runs.Lists.{at1_here}
-use Rattle.shm_graph.proofs.Machines.TellsAlong.{after_all-append, happens_along-append}
-use Rattle.shm_calls.specs.declared.calls.Calls.{Calls}
-use Rattle.shm_calls.specs.Placed.{MayStand}
-use Rattle.shm_calls.specs.Parts.{IsHeld}
+use Rattle.shm_graph.specs.{Tells.{is_event, after_all, happens_along, Tells}, Views.at1}
+use Rattle.shm_graph.proofs.{StepKinds.KindKeeping.not_fresh, Runs.Lists.at1_here}
+use Rattle.shm_graph.proofs.{Machines.TellsAlong.{after_all-append, happens_along-append}, Memos.MemoSteps.recovers_on}
+use Rattle.shm_calls.specs.{declared.calls.Calls.Calls, Placed.MayStand, Parts.IsHeld}
 use Rattle.shm_calls.specs.Plans.{Planned, PlanLaws, calls_asked, go_on, plan_trail}
 use Rattle.shm_calls.specs.CallsControl.{calls_control, calls_of, calls_does, calls_start, planned, called_on, answered}
 use Rattle.shm_calls.specs.CallsFit.{CallsFits, CallsGives, PlanGives, call_events, events_so_far}
-use Rattle.shm_graph.proofs.Memos.MemoSteps.{recovers_on}
 
 -- ---- lists and bits
 
@@ -58,40 +44,40 @@ after_held me w r a f after after' p then k =
 
 module _ {P C B A : Type 0} (k : Control C B) (q : Planned P C B A) (l : PlanLaws k q) where
   abbrev whole : Control (Calls P C A B) A
-  whole = calls_control k q
+  whole = calls_control k q.steered
 
   -- ---- its control
 
   -- what is so of the plan stays so, whatever the call answers
-  plan_stays : {T : Type 0} (f : P → T) (p : P) (c : C) (o : Option B) → ((b : B) → f (q.after p b) ≡ f p) → f (called_on k q p c o).plan ≡ f p
+  plan_stays : {T : Type 0} (f : P → T) (p : P) (c : C) (o : Option B) → ((b : B) → f (q.steered.after p b) ≡ f p) → f (called_on k q.steered p c o).plan ≡ f p
   plan_stays f p c None same = refl
-  plan_stays f p c (Some b) same = go (q.turns p b)
+  plan_stays f p c (Some b) same = go (q.steered.turns p b)
     where
-      go : (u : Option A) → f (planned k q c (q.after p b) u).plan ≡ f p
+      go : (u : Option A) → f (planned k q.steered c (q.steered.after p b) u).plan ≡ f p
       go None = same b
       go (Some a) = same b
 
-  same_start : (p : P) (c : C) (o : Option B) → q.start (called_on k q p c o).plan ≡ q.start p
-  same_start p c o = plan_stays q.start p c o (λ b. (l.stays p b).same_start)
+  same_start : (p : P) (c : C) (o : Option B) → q.steered.start (called_on k q.steered p c o).plan ≡ q.steered.start p
+  same_start p c o = plan_stays q.steered.start p c o (λ b. (l.stays p b).same_start)
 
   -- it has made a step, and is finished once it has answered
   moves : (p : P) (c : C) (o : Option B) → k.fresh c ≡ false → k.finished c ≡ is_some o
-      → ((q.first (called_on k q p c o).plan && k.fresh (called_on k q p c o).call) ≡ false) × (k.finished (called_on k q p c o).call ≡ is_some (answered k q p o))
-  moves p c None fresh ends = (right_false (q.first p) (k.fresh c) fresh, ends)
-  moves p c (Some b) fresh ends = go (q.turns p b) (l.stays p b).started
+      → ((q.steered.first (called_on k q.steered p c o).plan && k.fresh (called_on k q.steered p c o).call) ≡ false) × (k.finished (called_on k q.steered p c o).call ≡ is_some (answered k q.steered p o))
+  moves p c None fresh ends = (right_false (q.steered.first p) (k.fresh c) fresh, ends)
+  moves p c (Some b) fresh ends = go (q.steered.turns p b) (l.stays p b).started
     where
-      go : (u : Option A) → (u ≡ None → q.first (q.after p b) ≡ false)
-          → ((q.first (planned k q c (q.after p b) u).plan && k.fresh (planned k q c (q.after p b) u).call) ≡ false) × (k.finished (planned k q c (q.after p b) u).call ≡ is_some u)
-      go None later = (left_false (q.first (q.after p b)) (k.fresh (q.call (q.after p b))) (later refl), (l.calls (q.after p b)).asks)
-      go (Some a) later = (right_false (q.first (q.after p b)) (k.fresh c) fresh, ends)
+      go : (u : Option A) → (u ≡ None → q.steered.first (q.steered.after p b) ≡ false)
+          → ((q.steered.first (planned k q.steered c (q.steered.after p b) u).plan && k.fresh (planned k q.steered c (q.steered.after p b) u).call) ≡ false) × (k.finished (planned k q.steered c (q.steered.after p b) u).call ≡ is_some u)
+      go None later = (left_false (q.steered.first (q.steered.after p b)) (k.fresh (q.steered.call (q.steered.after p b))) (later refl), (l.calls (q.steered.after p b)).asks)
+      go (Some a) later = (right_false (q.steered.first (q.steered.after p b)) (k.fresh c) fresh, ends)
 
   calls_steady : Steady whole
   calls_steady m n going =
       let s = (l.parts m.plan).placed.steady m.call n going in
       let y = moves m.plan (k.after m.call n) (k.turns m.call n) s.started s.ends in
       record {
-        same_me = plan_stays q.me m.plan (k.after m.call n) (k.turns m.call n) (λ b. (l.stays m.plan b).same_me);
-        same_line = plan_stays q.line m.plan (k.after m.call n) (k.turns m.call n) (λ b. (l.stays m.plan b).same_line);
+        same_me = plan_stays q.steered.me m.plan (k.after m.call n) (k.turns m.call n) (λ b. (l.stays m.plan b).same_me);
+        same_line = plan_stays q.steered.line m.plan (k.after m.call n) (k.turns m.call n) (λ b. (l.stays m.plan b).same_line);
         started = y.0;
         ends = y.1;
       }
@@ -112,31 +98,31 @@ module _ {P C B A : Type 0} (k : Control C B) (q : Planned P C B A) (l : PlanLaw
       let x : Seen = pair (k.asks m.call) n in
       let one : Calls P C A B → List Event = λ y. filter is_event (calls_does k q y n ∷ []) in
       let part : C → List Event = λ y. filter is_event ((q.part m.plan).does y n ∷ []) in
-      happens_along-append whole (calls_does k q) (calls_start k q m) tr x
-      ∙ (ap (λ y. y ++ one (after_all whole (calls_start k q m) tr)) fit.events
+      happens_along-append whole (calls_does k q) (calls_start k q.steered m) tr x
+      ∙ (ap (λ y. y ++ one (after_all whole (calls_start k q.steered m) tr)) fit.events
       ∙ (ap (λ y. (fit.es ++ call_events k q m.plan fit.t) ++ one y) fit.course
       ∙ (append_assoc fit.es (call_events k q m.plan fit.t) (one m)
-      ∙ ap (λ y. fit.es ++ y) (sym (happens_along-append k (q.part m.plan).does (q.call m.plan) fit.t x ∙ ap (λ y. call_events k q m.plan fit.t ++ part y) fit.there)))))
+      ∙ ap (λ y. fit.es ++ y) (sym (happens_along-append k (q.part m.plan).does (q.steered.call m.plan) fit.t x ∙ ap (λ y. call_events k q m.plan fit.t ++ part y) fit.there)))))
 
   -- where it is after one more pair
-  course_more : (m : Calls P C A B) (r0 r : Memo) (tr : Trail) (n : ℕ) (fit : CallsFits k q m r0 r tr) → after_all whole (calls_start k q m) (tr ++ pair (k.asks m.call) n ∷ []) ≡ whole.after m n
-  course_more m r0 r tr n fit = after_all-append whole (calls_start k q m) tr (pair (k.asks m.call) n) ∙ ap (λ (y : Calls P C A B). whole.after y n) fit.course
+  course_more : (m : Calls P C A B) (r0 r : Memo) (tr : Trail) (n : ℕ) (fit : CallsFits k q m r0 r tr) → after_all whole (calls_start k q.steered m) (tr ++ pair (k.asks m.call) n ∷ []) ≡ whole.after m n
+  course_more m r0 r tr n fit = after_all-append whole (calls_start k q.steered m) tr (pair (k.asks m.call) n) ∙ ap (λ (y : Calls P C A B). whole.after y n) fit.course
 
   -- the trail with one more pair
   split_more : (m : Calls P C A B) (r0 r : Memo) (tr : Trail) (n : ℕ) (fit : CallsFits k q m r0 r tr) → tr ++ pair (k.asks m.call) n ∷ [] ≡ fit.before ++ (fit.t ++ pair (k.asks m.call) n ∷ [])
   split_more m r0 r tr n fit = ap (λ (y : Trail). y ++ pair (k.asks m.call) n ∷ []) fit.split ∙ append_assoc fit.before fit.t (pair (k.asks m.call) n ∷ [])
 
   -- what is asked after a call that has answered comes after that call
-  trail_more : (p : P) (t rest : Trail) (b : B) (a : A) (n : ℕ) → (q.part p).asks (q.call p) t b → go_on q (calls_asked q n) (q.after p b) (q.turns p b) rest a → plan_trail q p (t ++ rest) a
+  trail_more : (p : P) (t rest : Trail) (b : B) (a : A) (n : ℕ) → (q.part p).asks (q.steered.call p) t b → go_on q (calls_asked q n) (q.steered.after p b) (q.steered.turns p b) rest a → plan_trail q p (t ++ rest) a
   trail_more p t rest b a n asked next = (suc n, (t, (rest, b, refl, asked, next)))
 
   -- what the call in progress needed
-  needed : (m : Calls P C A B) (r0 r : Memo) (tr : Trail) (fit : CallsFits k q m r0 r tr) → (q.part m.plan).needs (q.call m.plan) fit.rs
+  needed : (m : Calls P C A B) (r0 r : Memo) (tr : Trail) (fit : CallsFits k q m r0 r tr) → (q.part m.plan).needs (q.steered.call m.plan) fit.rs
   needed m r0 r tr fit = l.opens m.plan r0 fit.rs fit.before fit.es fit.knows
 
   -- ---- after a step
 
-  module _ (m : Calls P C A B) (r0 r : Memo) (tr : Trail) (n : ℕ) (fit : CallsFits k q m r0 r tr) (going : k.finished m.call ≡ false) (x : Memo) (held : IsHeld (q.me m.plan) x) (same : recovers x ≡ recovers r) where
+  module _ (m : Calls P C A B) (r0 r : Memo) (tr : Trail) (n : ℕ) (fit : CallsFits k q m r0 r tr) (going : k.finished m.call ≡ false) (x : Memo) (held : IsHeld (q.steered.me m.plan) x) (same : recovers x ≡ recovers r) where
     abbrev one : Trail
     one = pair (k.asks m.call) n ∷ []
 
@@ -159,14 +145,14 @@ module _ {P C B A : Type 0} (k : Control C B) (q : Planned P C B A) (l : PlanLaw
           fits = h;
           gave = λ r2 u b g. fit.gave r2 u b ((l.parts m.plan).placed.back m.call n going e fit.rs r2 u b g);
           trail = fit.trail;
-          there = after_all-append k (q.call m.plan) fit.t (pair (k.asks m.call) n) ∙ ap (λ y. k.after y n) fit.there;
-          course = course_more m r0 r tr n fit ∙ ap (called_on k q m.plan (k.after m.call n)) e;
+          there = after_all-append k (q.steered.call m.plan) fit.t (pair (k.asks m.call) n) ∙ ap (λ y. k.after y n) fit.there;
+          course = course_more m r0 r tr n fit ∙ ap (called_on k q.steered m.plan (k.after m.call n)) e;
           events = events_more m r0 r tr n fit;
         }
 
-    module _ (b : B) (told : k.turns m.call n ≡ Some b) (g : (q.part m.plan).gives (q.call m.plan) fit.rs x t2 b) where
+    module _ (b : B) (told : k.turns m.call n ≡ Some b) (g : (q.part m.plan).gives (q.steered.call m.plan) fit.rs x t2 b) where
       abbrev p2 : P
-      p2 = q.after m.plan b
+      p2 = q.steered.after m.plan b
 
       abbrev tr2 : Trail
       tr2 = fit.before ++ t2
@@ -174,13 +160,13 @@ module _ {P C B A : Type 0} (k : Control C B) (q : Planned P C B A) (l : PlanLaw
       abbrev es2 : List Event
       es2 = fit.es ++ call_events k q m.plan t2
 
-      asked : (q.part m.plan).asks (q.call m.plan) t2 b
-      asked = (l.parts m.plan).asked (q.call m.plan) fit.rs x t2 b (needed m r0 r tr fit) g
+      asked : (q.part m.plan).asks (q.steered.call m.plan) t2 b
+      asked = (l.parts m.plan).asked (q.steered.call m.plan) fit.rs x t2 b (needed m r0 r tr fit) g
 
       -- the next call begins
-      next_call : q.turns m.plan b ≡ None → q.knows p2 r0 x tr2 es2 → CallsFits k q (calls_of q p2) r0 x (tr ++ one)
+      next_call : q.steered.turns m.plan b ≡ None → q.knows p2 r0 x tr2 es2 → CallsFits k q (calls_of q.steered p2) r0 x (tr ++ one)
       next_call e h =
-          let s : q.start p2 ≡ q.start m.plan = (l.stays m.plan b).same_start in
+          let s : q.steered.start p2 ≡ q.steered.start m.plan = (l.stays m.plan b).same_start in
           record {
             rs = x;
             before = tr2;
@@ -191,54 +177,54 @@ module _ {P C B A : Type 0} (k : Control C B) (q : Planned P C B A) (l : PlanLaw
             me = (l.calls p2).me;
             agent = refl;
             knows = h;
-            fits = (l.parts p2).begins (q.call p2) x (l.opens p2 r0 x tr2 es2 h);
+            fits = (l.parts p2).begins (q.steered.call p2) x (l.opens p2 r0 x tr2 es2 h);
             gave = λ r2 u b2 y. y;
             trail = λ rest a y. subst (λ (z : P). plan_trail q z (tr2 ++ rest) a) (sym s)
-                (subst (λ (z : Trail). plan_trail q (q.start m.plan) z a) (sym (append_assoc fit.before t2 rest))
+                (subst (λ (z : Trail). plan_trail q (q.steered.start m.plan) z a) (sym (append_assoc fit.before t2 rest))
                 (fit.trail (t2 ++ rest) a (trail_more m.plan t2 rest b a y.0 asked (subst (λ (u : Option A). go_on q (calls_asked q y.0) p2 u rest a) (sym e) y.1))));
             there = refl;
-            course = subst (λ (z : P). after_all whole (calls_of q z) (tr ++ one) ≡ calls_of q p2) (sym s)
-                (course_more m r0 r tr n fit ∙ (ap (called_on k q m.plan (k.after m.call n)) told ∙ ap (planned k q (k.after m.call n) p2) e));
-            events = subst (λ (z : P). happens_along whole (calls_does k q) (calls_of q z) (tr ++ one) ≡ es2 ++ []) (sym s) (events_more m r0 r tr n fit ∙ sym (append-nil es2));
+            course = subst (λ (z : P). after_all whole (calls_of q.steered z) (tr ++ one) ≡ calls_of q.steered p2) (sym s)
+                (course_more m r0 r tr n fit ∙ (ap (called_on k q.steered m.plan (k.after m.call n)) told ∙ ap (planned k q.steered (k.after m.call n) p2) e));
+            events = subst (λ (z : P). happens_along whole (calls_does k q) (calls_of q.steered z) (tr ++ one) ≡ es2 ++ []) (sym s) (events_more m r0 r tr n fit ∙ sym (append-nil es2));
           }
 
       -- the plan has answered
-      ends : (a : A) → q.turns m.plan b ≡ Some a → q.leaves (q.start m.plan) r0 x tr2 es2 a → CallsGives k q m r0 x (tr ++ one) a
+      ends : (a : A) → q.steered.turns m.plan b ≡ Some a → q.leaves (q.steered.start m.plan) r0 x tr2 es2 a → CallsGives k q m r0 x (tr ++ one) a
       ends a e h =
           record {
-            leaves = subst (λ (z : Trail). q.leaves (q.start m.plan) r0 x z (events_so_far k q m (tr ++ one)) a) (sym (split_more m r0 r tr n fit))
-                (subst (λ (z : List Event). q.leaves (q.start m.plan) r0 x tr2 z a) (sym (events_more m r0 r tr n fit)) h);
-            trail = subst (λ (z : Trail). plan_trail q (q.start m.plan) z a) (sym (split_more m r0 r tr n fit))
+            leaves = subst (λ (z : Trail). q.leaves (q.steered.start m.plan) r0 x z (events_so_far k q m (tr ++ one)) a) (sym (split_more m r0 r tr n fit))
+                (subst (λ (z : List Event). q.leaves (q.steered.start m.plan) r0 x tr2 z a) (sym (events_more m r0 r tr n fit)) h);
+            trail = subst (λ (z : Trail). plan_trail q (q.steered.start m.plan) z a) (sym (split_more m r0 r tr n fit))
                 (fit.trail t2 a (subst (λ (z : Trail). plan_trail q m.plan z a) (append-nil t2)
                 (trail_more m.plan t2 [] b a zero asked (subst (λ (u : Option A). go_on q (calls_asked q zero) p2 u [] a) (sym e) (refl, refl)))));
           }
 
-      follows : (u : Option A) → q.turns m.plan b ≡ u → Outcome u (q.knows p2 r0 x tr2 es2) (q.leaves (q.start m.plan) r0 x tr2 es2)
-          → Outcome u (CallsFits k q (planned k q (k.after m.call n) p2 u) r0 x (tr ++ one)) (CallsGives k q m r0 x (tr ++ one))
+      follows : (u : Option A) → q.steered.turns m.plan b ≡ u → Outcome u (q.knows p2 r0 x tr2 es2) (q.leaves (q.steered.start m.plan) r0 x tr2 es2)
+          → Outcome u (CallsFits k q (planned k q.steered (k.after m.call n) p2 u) r0 x (tr ++ one)) (CallsGives k q m r0 x (tr ++ one))
       follows None e h = next_call e h
       follows (Some a) e h = ends a e h
 
     then_calls : (o : Option B) → k.turns m.call n ≡ o → Outcome o ((q.part m.plan).fits (k.after m.call n) fit.rs x t2) ((q.part m.plan).gives m.call fit.rs x t2)
-        → Outcome (answered k q m.plan o) (CallsFits k q (called_on k q m.plan (k.after m.call n) o) r0 x (tr ++ one)) (CallsGives k q m r0 x (tr ++ one))
+        → Outcome (answered k q.steered m.plan o) (CallsFits k q (called_on k q.steered m.plan (k.after m.call n) o) r0 x (tr ++ one)) (CallsGives k q m r0 x (tr ++ one))
     then_calls None e h = goes e h
     then_calls (Some b) e h =
         let g = fit.gave x t2 b h in
         let agent = same ∙ fit.agent in
-        let there : IsHeld (k.me (q.call m.plan)) x = subst (λ (me : Me). IsHeld me x) (sym (l.calls m.plan).me) held in
-        let left = (l.parts m.plan).ends (q.call m.plan) fit.rs x t2 b (needed m r0 r tr fit) g there agent in
-        follows b e g (q.turns m.plan b) refl (l.leads m.plan r0 fit.rs x fit.before t2 fit.es (call_events k q m.plan t2) b fit.knows left held agent)
+        let there : IsHeld (k.me (q.steered.call m.plan)) x = subst (λ (me : Me). IsHeld me x) (sym (l.calls m.plan).me) held in
+        let left = (l.parts m.plan).ends (q.steered.call m.plan) fit.rs x t2 b (needed m r0 r tr fit) g there agent in
+        follows b e g (q.steered.turns m.plan b) refl (l.leads m.plan r0 fit.rs x fit.before t2 fit.es (call_events k q m.plan t2) b fit.knows left held agent)
 
   -- ---- its steps
 
-  module _ (m : Calls P C A B) (r0 : Memo) (tr : Trail) (w : Spot → ℕ) (r : ℕ → Memo) (f : Frame) (s : Stands (q.me m.plan) w r f tr) (fit : CallsFits k q m r0 (r (q.me m.plan).who) tr) where
+  module _ (m : Calls P C A B) (r0 : Memo) (tr : Trail) (w : Spot → ℕ) (r : ℕ → Memo) (f : Frame) (s : Stands (q.steered.me m.plan) w r f tr) (fit : CallsFits k q m r0 (r (q.steered.me m.plan).who) tr) where
     -- the call stands where the whole does
     call_stands : Stands (k.me m.call) w r f fit.t
     call_stands =
         subst (λ (me : Me). Stands me w r f fit.t) (sym fit.me)
-        (record { held = s.held; who = s.who; call = ends_more (call_before f.fresh (r (q.me m.plan).who).call) fit.before fit.t (subst (Ends (call_before f.fresh (r (q.me m.plan).who).call)) fit.split s.call) })
+        (record { held = s.held; who = s.who; call = ends_more (call_before f.fresh (r (q.steered.me m.plan).who).call) fit.before fit.t (subst (Ends (call_before f.fresh (r (q.steered.me m.plan).who).call)) fit.split s.call) })
 
-    call_may : MayStand (q.first m.plan) f
-    call_may e = not_fresh (q.me m.plan) w r f tr s (λ z. fit.later e (front_none fit.before fit.t (sym fit.split ∙ z)))
+    call_may : MayStand (q.steered.first m.plan) f
+    call_may e = not_fresh (q.steered.me m.plan) w r f tr s (λ z. fit.later e (front_none fit.before fit.t (sym fit.split ∙ z)))
       where
         front_none : (u t : Trail) → u ++ t ≡ [] → u ≡ []
         front_none [] t e = refl
@@ -252,8 +238,8 @@ module _ {P C B A : Type 0} (k : Control C B) (q : Planned P C B A) (l : PlanLaw
       let c = m.call in
       let part : ℕ → Memo → Type 0 = Then k (q.part m.plan).fits (q.part m.plan).gives c fit.rs fit.t in
       let kept = (l.parts m.plan).placed.keeps c fit.rs fit.t w r f going (call_stands m r0 tr w r f s fit) (call_may m r0 tr w r f s fit) (call_fits m r0 tr w r f s fit) in
-      after_held (q.me m.plan) w r (k.asks c) f part (Then whole (CallsFits k q) (CallsGives k q) m r0 tr) _
-      (λ n x held same h. then_calls m r0 (r (q.me m.plan).who) tr n fit going x held same (k.turns c n) refl h)
+      after_held (q.steered.me m.plan) w r (k.asks c) f part (Then whole (CallsFits k q) (CallsGives k q) m r0 tr) _
+      (λ n x held same h. then_calls m r0 (r (q.steered.me m.plan).who) tr n fit going x held same (k.turns c n) refl h)
       (subst (λ (me : Me). KeptAt me w r (k.asks c) f part (spot_at me.geometry (classes w) (at_of (k.asks c)))) fit.me kept)
 
   -- the laws of the machine
@@ -268,7 +254,7 @@ module _ {P C B A : Type 0} (k : Control C B) (q : Planned P C B A) (l : PlanLaw
       ((l.parts m.plan).tells c fit.rs fit.t w r f going (call_stands m r0 tr w r f s fit) (call_fits m r0 tr w r f s fit))
 
   -- before its first word step it fits where what is known before the first call is so
-  pub calls_begin : (p : P) (r : Memo) → q.first p ≡ true → q.start p ≡ p → q.knows p r r [] [] → CallsFits k q (calls_of q p) r r []
+  pub calls_begin : (p : P) (r : Memo) → q.steered.first p ≡ true → q.steered.start p ≡ p → q.knows p r r [] [] → CallsFits k q (calls_of q.steered p) r r []
   calls_begin p r first same h =
       record {
         rs = r;
@@ -280,10 +266,10 @@ module _ {P C B A : Type 0} (k : Control C B) (q : Planned P C B A) (l : PlanLaw
         me = (l.calls p).me;
         agent = refl;
         knows = h;
-        fits = (l.parts p).begins (q.call p) r (l.opens p r r [] [] h);
+        fits = (l.parts p).begins (q.steered.call p) r (l.opens p r r [] [] h);
         gave = λ r2 u b y. y;
         trail = λ rest a y. subst (λ (z : P). plan_trail q z rest a) (sym same) y;
         there = refl;
-        course = ap (calls_of q) same;
+        course = ap (calls_of q.steered) same;
         events = refl;
       }

@@ -1,16 +1,9 @@
 -- deciding steps: after the one step of a machine that decides, its state shows what it will answer; by its control and the words found, and no memo
 use Rattle.std.proofs.Common.{◌≡◌, ℕ, Bool, true, false, refl, sym, ap, ◌∙◌}
-use Rattle.std.specs.Prelude.{◌||◌, ◌&&◌, Option, Some, None, [], ◌∷◌}
-use Rattle.std.specs.Option.{option_map}
-use Rattle.shm_graph.specs.Asks.{Trail}
-use Rattle.shm_graph.specs.Laws.{Control, is_some}
-use Rattle.shm_graph.specs.Mapped.{mapped}
-use Rattle.shm_graph.specs.Tells.{after_all}
-use Rattle.shm_calls.specs.declared.calls.Calls.{Calls}
-use Rattle.shm_calls.specs.declared.or.Or.{Or}
-use Rattle.shm_calls.specs.declared.or.Or.TheVariants.{First, Second}
-use Rattle.shm_calls.specs.CallsControl.{answered, called_on, calls_control, planned}
-use Rattle.shm_calls.specs.Either.{or_control}
+use Rattle.std.specs.{Prelude.{◌||◌, ◌&&◌, Option, Some, None, [], ◌∷◌}, Option.option_map}
+use Rattle.shm_graph.specs.{Asks.Trail, Laws.{Control, is_some}, Mapped.mapped, Tells.after_all}
+use Rattle.shm_calls.specs.declared.{calls.Calls.Calls, or.Or.{Or, TheVariants.{First, Second}}}
+use Rattle.shm_calls.specs.{CallsControl.{answered, called_on, calls_control, planned}, Either.or_control}
 use Rattle.shm_calls.specs.Plans.{Planned}
 
 -- Of a state whether the deciding step was made, of a step that finds a word whether it is the deciding one, and of an answer whether it tells that the step was made: after a step it was made where it was before, or by this step
@@ -118,23 +111,23 @@ module _ {P C B A : Type 0} (k : Control C B) (q : Planned P C B A) (decided : P
   -- the calls tell of the step, and what an answer of a call told, the next call shows before its first word step
   pub record PlanDecides : Type 0 where
     pub calls : (p : P) → Decides k (decided p) (deciding p) (says p)
-    pub goes : (p : P) (b : B) → q.turns p b ≡ None → decided (q.after p b) (q.call (q.after p b)) ≡ says p b
+    pub goes : (p : P) (b : B) → q.steered.turns p b ≡ None → decided (q.steered.after p b) (q.steered.call (q.steered.after p b)) ≡ says p b
 
   -- after a step that goes on
-  decided_on : PlanDecides → (m : Calls P C A B) (n : ℕ) → answered k q m.plan (k.turns m.call n) ≡ None → calls_decided (called_on k q m.plan (k.after m.call n) (k.turns m.call n)) ≡ (calls_decided m || calls_deciding m n)
+  decided_on : PlanDecides → (m : Calls P C A B) (n : ℕ) → answered k q.steered m.plan (k.turns m.call n) ≡ None → calls_decided (called_on k q.steered m.plan (k.after m.call n) (k.turns m.call n)) ≡ (calls_decided m || calls_deciding m n)
   decided_on h m n e = go (k.turns m.call n) refl e
     where
-      go : (o : Option B) → k.turns m.call n ≡ o → answered k q m.plan o ≡ None → calls_decided (called_on k q m.plan (k.after m.call n) o) ≡ (calls_decided m || calls_deciding m n)
+      go : (o : Option B) → k.turns m.call n ≡ o → answered k q.steered m.plan o ≡ None → calls_decided (called_on k q.steered m.plan (k.after m.call n) o) ≡ (calls_decided m || calls_deciding m n)
       go None e i = (h.calls m.plan).goes m.call n e
-      go (Some b) e i = ap (λ (o : Option A). calls_decided (planned k q (k.after m.call n) (q.after m.plan b) o)) i ∙ (h.goes m.plan b i ∙ (h.calls m.plan).ends m.call n b e)
+      go (Some b) e i = ap (λ (o : Option A). calls_decided (planned k q.steered (k.after m.call n) (q.steered.after m.plan b) o)) i ∙ (h.goes m.plan b i ∙ (h.calls m.plan).ends m.call n b e)
 
   -- the answer of the call that the machine's answer is made of
-  answer_of_call : (p : P) (o : Option B) (a : A) → answered k q p o ≡ Some a → (b : B) × (o ≡ Some b) × (q.turns p b ≡ Some a)
+  answer_of_call : (p : P) (o : Option B) (a : A) → answered k q.steered p o ≡ Some a → (b : B) × (o ≡ Some b) × (q.steered.turns p b ≡ Some a)
   answer_of_call p None a e = cc
   answer_of_call p (Some b) a e = (b, refl, e)
 
   -- what it answers tells it too
-  pub calls_decides : (tells : A → Bool) → PlanDecides → ((p : P) (b : B) (a : A) → q.turns p b ≡ Some a → tells a ≡ says p b) → Decides (calls_control k q) calls_decided calls_deciding tells
+  pub calls_decides : (tells : A → Bool) → PlanDecides → ((p : P) (b : B) (a : A) → q.steered.turns p b ≡ Some a → tells a ≡ says p b) → Decides (calls_control k q.steered) calls_decided calls_deciding tells
   calls_decides tells h ends =
       record {
         goes = decided_on h;
@@ -148,8 +141,8 @@ module _ {P C B A : Type 0} (k : Control C B) (q : Planned P C B A) (decided : P
   -- what it will answer stays, and is what it answers
   pub record PlanForetells (X : Type 0) (told : A → X) (will : P → X) : Type 0 where
     pub decides : PlanDecides
-    pub same : (p : P) (b : B) → says p b ≡ true → q.turns p b ≡ None → will (q.after p b) ≡ will p
-    pub ends : (p : P) (b : B) (a : A) → says p b ≡ true → q.turns p b ≡ Some a → told a ≡ will p
+    pub same : (p : P) (b : B) → says p b ≡ true → q.steered.turns p b ≡ None → will (q.steered.after p b) ≡ will p
+    pub ends : (p : P) (b : B) (a : A) → says p b ≡ true → q.steered.turns p b ≡ Some a → told a ≡ will p
 
   some_where : {X : Type 0} (z : Bool) (x : X) → is_some (where_decided z x) ≡ z
   some_where true x = refl
@@ -159,10 +152,10 @@ module _ {P C B A : Type 0} (k : Control C B) (q : Planned P C B A) (decided : P
   shown true x y e = (refl, cc)
   shown false x y e = cc
 
-  pub calls_foretell : {X : Type 0} (told : A → X) (will : P → X) → PlanForetells X told will → Foretells (calls_control k q) told (calls_effect will) calls_deciding
+  pub calls_foretell : {X : Type 0} (told : A → X) (will : P → X) → PlanForetells X told will → Foretells (calls_control k q.steered) told (calls_effect will) calls_deciding
   calls_foretell {X} told will h =
       record {
-        goes = λ m n e. some_where (calls_decided ((calls_control k q).after m n)) (will ((calls_control k q).after m n).plan) ∙ (decided_on h.decides m n e ∙ ap (λ z. z || calls_deciding m n) (sym (some_where (calls_decided m) (will m.plan))));
+        goes = λ m n e. some_where (calls_decided ((calls_control k q.steered).after m n)) (will ((calls_control k q.steered).after m n).plan) ∙ (decided_on h.decides m n e ∙ ap (λ z. z || calls_deciding m n) (sym (some_where (calls_decided m) (will m.plan))));
         stays = λ m n x s e. stays m n x (shown (calls_decided m) (will m.plan) x s) e;
         answers = λ m n x a s e. let v = shown (calls_decided m) (will m.plan) x s in let u = answer_of_call m.plan (k.turns m.call n) a e in h.ends m.plan u.0 a (said m n u.0 v.0 u.1) u.2 ∙ v.1;
       }
@@ -171,13 +164,13 @@ module _ {P C B A : Type 0} (k : Control C B) (q : Planned P C B A) (decided : P
       said : (m : Calls P C A B) (n : ℕ) (b : B) → calls_decided m ≡ true → k.turns m.call n ≡ Some b → says m.plan b ≡ true
       said m n b d e = (h.decides.calls m.plan).ends m.call n b e ∙ ap (λ z. z || calls_deciding m n) d
 
-      will_on : (m : Calls P C A B) (n : ℕ) (o : Option B) → calls_decided m ≡ true → k.turns m.call n ≡ o → answered k q m.plan o ≡ None → will (called_on k q m.plan (k.after m.call n) o).plan ≡ will m.plan
+      will_on : (m : Calls P C A B) (n : ℕ) (o : Option B) → calls_decided m ≡ true → k.turns m.call n ≡ o → answered k q.steered m.plan o ≡ None → will (called_on k q.steered m.plan (k.after m.call n) o).plan ≡ will m.plan
       will_on m n None d e i = refl
-      will_on m n (Some b) d e i = ap (λ (o : Option A). will (planned k q (k.after m.call n) (q.after m.plan b) o).plan) i ∙ h.same m.plan b (said m n b d e) i
+      will_on m n (Some b) d e i = ap (λ (o : Option A). will (planned k q.steered (k.after m.call n) (q.steered.after m.plan b) o).plan) i ∙ h.same m.plan b (said m n b d e) i
 
-      stays : (m : Calls P C A B) (n : ℕ) (x : X) → (calls_decided m ≡ true) × (will m.plan ≡ x) → (calls_control k q).turns m n ≡ None → calls_effect will ((calls_control k q).after m n) ≡ Some x
+      stays : (m : Calls P C A B) (n : ℕ) (x : X) → (calls_decided m ≡ true) × (will m.plan ≡ x) → (calls_control k q.steered).turns m n ≡ None → calls_effect will ((calls_control k q.steered).after m n) ≡ Some x
       stays m n x (d, w) e =
-          let next : Calls P C A B = (calls_control k q).after m n in
+          let next : Calls P C A B = (calls_control k q.steered).after m n in
           let on : calls_decided next ≡ true = decided_on h.decides m n e ∙ ap (λ z. z || calls_deciding m n) d in
           ap (λ z. where_decided z (will next.plan)) on ∙ ap (λ (y : X). Some y) (will_on m n (k.turns m.call n) d refl e ∙ w)
 

@@ -1,21 +1,11 @@
 -- one of two machines: its control, when it fits, what it gives, and its laws
 use Rattle.std.proofs.Common.{◌≡◌, ℕ, Bool, true, refl, sym, ap, ◌∙◌, subst}
-use Rattle.std.specs.Prelude.{Option, Some, None, List, [], ◌∷◌, ◌++◌}
-use Rattle.std.specs.List.{filter}
-use Rattle.std.specs.Option.{option_map}
-use Rattle.shm_graph.specs.declared.ask.Ask.{Ask}
-use Rattle.shm_graph.specs.declared.ask.Me.{Me}
-use Rattle.shm_graph.specs.declared.spot.Spot.{Spot}
-use Rattle.shm_graph.specs.declared.memo.Memo.{Memo}
-use Rattle.shm_graph.specs.Agents.{recovers}
-use Rattle.shm_graph.specs.Asks.{Trail, pair}
-use Rattle.shm_graph.specs.Events.{Event}
+use Rattle.std.specs.{Prelude.{Option, Some, None, List, [], ◌∷◌, ◌++◌}, List.filter, Option.option_map}
+use Rattle.shm_graph.specs.{declared.{ask.{Ask.Ask, Me.Me}, spot.Spot.Spot, memo.Memo.Memo}, Agents.recovers}
+use Rattle.shm_graph.specs.{Asks.{Trail, pair}, Events.Event}
 use Rattle.shm_graph.specs.Laws.{Control, Frame, KeptAt, Steady, Inside, Back, Then, Laws, Outcome, is_some}
-use Rattle.shm_graph.specs.Mapped.{OnTheWay, AtTheEnd}
-use Rattle.shm_graph.specs.Tells.{Tells, happens_along, is_event, tells_along}
-use Rattle.shm_calls.specs.declared.or.Or.{Or}
-use Rattle.shm_calls.specs.declared.or.Or.TheVariants.{First, Second}
-use Rattle.shm_calls.specs.Parts.{IsHeld, Part, PartLaws}
+use Rattle.shm_graph.specs.{Mapped.{OnTheWay, AtTheEnd}, Tells.{Tells, happens_along, is_event, tells_along}}
+use Rattle.shm_calls.specs.{declared.or.Or.{Or, TheVariants.{First, Second}}, Parts.{IsHeld, Part, PartLaws}}
 use Rattle.shm_calls.specs.Placed.{PlacedKeeps, PlacedLaws, placed, from_placed}
 
 module _ {S T A B : Type 0} (j : Control S A) (k : Control T B) where

@@ -1,16 +1,10 @@
 -- one of two operations is an operation
 use Rattle.std.proofs.Common.{◌≡◌, ℕ, List, [], ◌∷◌, refl, subst, sym, ap}
 use Rattle.std.specs.List.{filter}
-use Rattle.shm_graph.specs.declared.memo.Memo.{Memo}
-use Rattle.shm_graph.specs.Asks.{Trail}
-use Rattle.shm_graph.specs.Events.{Event}
-use Rattle.shm_graph.specs.Idle.{IsIdle}
-use Rattle.shm_graph.specs.Laws.{Control}
-use Rattle.shm_graph.specs.Operations.{IsReady, OperationLaws}
-use Rattle.shm_graph.specs.Mapped.{OnTheWay, AtTheEnd}
+use Rattle.shm_graph.specs.{declared.memo.Memo.Memo, Asks.Trail, Events.Event, Idle.IsIdle, Laws.Control}
+use Rattle.shm_graph.specs.{Operations.{IsReady, OperationLaws}, Mapped.{OnTheWay, AtTheEnd}}
 use Rattle.shm_graph.specs.Tells.{happens_along, is_event, tells_along}
-use Rattle.shm_calls.specs.declared.or.Or.{Or}
-use Rattle.shm_calls.specs.declared.or.Or.TheVariants.{First, Second}
+use Rattle.shm_calls.specs.declared.or.Or.{Or, TheVariants.{First, Second}}
 use Rattle.shm_calls.specs.Either.{or_control, or_does, or_tells, OrFits, OrGives, OrLeaves, OrNeeds}
 
 abbrev pub OrRests : {S T A B : Type 0} → (S → A → Type 0) → (T → B → Type 0) → Or S T → Or A B → Type 0

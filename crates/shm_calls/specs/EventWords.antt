@@ -2,21 +2,11 @@
 use Rattle.std.proofs.Common.{◌≡◌, ℕ, Bool, false, refl, sym, ap, subst, ◌<◌, List, [], ◌∷◌, ◌++◌, length}
 use Rattle.std.specs.List.{filter}
 use Rattle.shm_words.specs.Layout.{total_of}
-use Rattle.shm_graph.specs.declared.ask.Ask.{Ask}
-use Rattle.shm_graph.specs.declared.ask.Me.{Me}
-use Rattle.shm_graph.specs.declared.memo.Memo.{Memo}
-use Rattle.shm_graph.specs.declared.memo.Step.{Step}
-use Rattle.shm_graph.specs.declared.spot.Spot.{Spot}
-use Rattle.shm_graph.specs.Asks.{Trail, at_of, seen_of, pair}
-use Rattle.shm_graph.specs.Blocks.{classes}
-use Rattle.shm_graph.specs.Events.{Event}
-use Rattle.shm_graph.specs.Laws.{Frame, Stands, event_by, event_on, framed}
-use Rattle.shm_graph.specs.Spots.{spot_at}
-use Rattle.shm_graph.specs.Tells.{Tells, happens_along, is_event}
-use Rattle.shm_graph.specs.Trails.{Answers, Asked}
-use Rattle.shm_calls.specs.declared.word.Word.{Word}
-use Rattle.shm_calls.specs.Parts.{Part, PartLaws}
-use Rattle.shm_calls.specs.Placed.{PlacedKeeps, PlacedLaws}
+use Rattle.shm_graph.specs.declared.{ask.{Ask.Ask, Me.Me}, memo.{Memo.Memo, Step.Step}, spot.Spot.Spot}
+use Rattle.shm_graph.specs.{Asks.{Trail, at_of, seen_of, pair}, Blocks.classes, Events.Event}
+use Rattle.shm_graph.specs.{Laws.{Frame, Stands, event_by, event_on, framed}, Spots.spot_at}
+use Rattle.shm_graph.specs.{Tells.{Tells, happens_along, is_event}, Trails.{Answers, Asked}}
+use Rattle.shm_calls.specs.{declared.word.Word.Word, Parts.{Part, PartLaws}, Placed.{PlacedKeeps, PlacedLaws}}
 use Rattle.shm_calls.specs.Words.{IsKept, WordGives, word_control, word_gave}
 use Rattle.shm_calls.specs.WordSteps.{IsThere, KindKept, Makes, kept_there}
 

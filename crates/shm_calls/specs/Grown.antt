@@ -1,44 +1,26 @@
 -- what each word step leaves of its agent and of what was read, and so each machine
 use Rattle.std.proofs.Common.{◌≡◌, ℕ, ◌+◌, refl, sym, ◌∙◌, subst, arith, Bool, true, false, not, cond, eqb, ◌&&◌, ◌||◌, List, [], ◌∷◌, ◌++◌, Option, Some, None}
-use Rattle.std.specs.Prelude.{◌==◌, nat_le, if◌then◌else◌}
-use Rattle.std.specs.List.{Contains, filter, list_any}
-use Rattle.std.specs.List.{All}
 use Rattle.std.proofs.lemmas.Bool.{true≢false}
 use Rattle.std.proofs.lemmas.List.Elements.{All-nil, All-cons, All-weaker, All-contains, Contains-append_right}
-use Rattle.shm_words.specs.declared.geometry.Geometry.{Geometry}
-use Rattle.shm_words.specs.Headers.{header_of}
-use Rattle.shm_graph.specs.declared.ask.Ask.{Ask}
-use Rattle.shm_graph.specs.declared.ask.Ask.TheVariants.{Load, Store, Exchange}
-use Rattle.shm_graph.specs.declared.ask.Me.{Me}
-use Rattle.shm_graph.specs.declared.spot.Spot.{Spot}
-use Rattle.shm_graph.specs.declared.spot.Spot.TheVariants as spot
-use Rattle.shm_graph.specs.declared.memo.Fact.{Fact}
-use Rattle.shm_graph.specs.declared.memo.Fact.TheVariants.{Header as HeaderRead, Counter, Class}
-use Rattle.shm_graph.specs.declared.memo.First.TheVariants.{Begun, Committed}
-use Rattle.shm_graph.specs.declared.memo.Second.TheVariants.{Open, Closed}
-use Rattle.shm_graph.specs.declared.memo.ChangeStage.TheVariants.{Raising, Lowering}
-use Rattle.shm_graph.specs.declared.memo.Memo.{Memo}
-use Rattle.shm_graph.specs.declared.memo.Op.{Op}
-use Rattle.shm_graph.specs.declared.memo.Op.TheVariants as op
-use Rattle.shm_graph.specs.declared.memo.Step.{Step}
-use Rattle.shm_graph.specs.declared.memo.Test.{Test}
-use Rattle.shm_graph.specs.Agents.{recovers, status_of}
-use Rattle.shm_graph.specs.Asks.{pair, at_of, seen_of}
+use Rattle.std.specs.{Prelude.{◌==◌, nat_le, if◌then◌else◌}, List.{Contains, filter, list_any, All}}
+use Rattle.shm_words.specs.{declared.geometry.Geometry.Geometry, Headers.header_of}
+use Rattle.shm_graph.specs.declared.{ask.{Ask.{Ask, TheVariants.{Load, Store, Exchange}}, Me.Me}, spot.Spot.Spot}
+use Rattle.shm_graph.specs.declared.memo.Fact.{Fact, TheVariants.{Header as HeaderRead, Counter, Class}}
+use Rattle.shm_graph.specs.declared.memo.{First.TheVariants.{Begun, Committed}, Second.TheVariants.{Open, Closed}}
+use Rattle.shm_graph.specs.declared.memo.{ChangeStage.TheVariants.{Raising, Lowering}, Memo.Memo, Op.Op, Step.Step}
+use Rattle.shm_graph.specs.{declared.memo.Test.Test, Agents.{recovers, status_of}, Asks.{pair, at_of, seen_of}}
 use Rattle.shm_graph.specs.Blocks.{classes}
 use Rattle.shm_graph.specs.Changes.{is_lane_count, forgotten, called, memo_on, test_before, changed_by}
 use Rattle.shm_graph.specs.MemoAfterExchange.{cut, reparted, without_made, with_unsent, with_untaken, lowered, committed, exchanged_on}
-use Rattle.shm_graph.specs.Laws.{Control, Frame, framed, Outcome}
-use Rattle.shm_graph.specs.Ops.{is_op, slot_of}
-use Rattle.shm_graph.specs.Reach.{learnt, is_dying}
+use Rattle.shm_graph.specs.{Laws.{Control, Frame, framed, Outcome}, Ops.{is_op, slot_of}, Reach.{learnt, is_dying}}
 use Rattle.shm_graph.specs.MemoAfterRead.{is_held, is_head_slot, is_latched, read_on, reference_read, row_read, valued, values_read, word_read}
 use Rattle.shm_graph.specs.Spots.{same_spot, spot_at}
 use Rattle.shm_graph.specs.MemoAfterStore.{is_lowering, making_with, not_of, other_than, put, with_own, without_looks, written, op_closed, era_stored, stored_on}
 use Rattle.shm_graph.specs.Telling.{Claim, claim_of}
-use Rattle.shm_graph.proofs.Machines.Calling.{called_by}
-use Rattle.shm_graph.proofs.StepKinds.Loads.{choice}
-use Rattle.shm_calls.specs.Parts.{Part, PartLaws}
-use Rattle.shm_calls.specs.Placed.{MayStand, PlacedKeeps}
-use Rattle.shm_graph.proofs.Memos.MemoSteps.{recovers_on}
+use Rattle.shm_graph.specs.declared.spot.Spot.TheVariants as spot
+use Rattle.shm_graph.specs.declared.memo.Op.TheVariants as op
+use Rattle.shm_graph.proofs.{Machines.Calling.called_by, StepKinds.Loads.choice, Memos.MemoSteps.recovers_on}
+use Rattle.shm_calls.specs.{Parts.{Part, PartLaws}, Placed.{MayStand, PlacedKeeps}}
 
 -- ---- what was read stays
 

@@ -1,5 +1,6 @@
 pub mod Placed
 pub mod Parts
+pub mod Steering
 pub mod Plans
 pub mod CallsControl
 pub mod CallsFit

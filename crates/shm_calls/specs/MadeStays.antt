@@ -1,46 +1,29 @@
 -- which of the blocks that a call made are so still, by the events
 use Rattle.std.proofs.Common.{◌≡◌, ℕ, ◌+◌, refl, sym, ap, ◌∙◌, subst, arith, Bool, true, false, not, cond, eqb, ◌&&◌, ◌||◌, List, [], ◌∷◌, ◌++◌, Option, Some, None}
-use Rattle.std.specs.Prelude.{◌==◌, nat_le, if◌then◌else◌}
-use Rattle.std.specs.List.{All, Contains, filter, list_any}
 use Rattle.std.proofs.lemmas.Bool.{cond-true, or_parts}
 use Rattle.std.proofs.lemmas.List.Elements.{All-nil, All-cons, All-weaker, All-contains, Contains-append_right}
 use Rattle.std.proofs.lemmas.List.Folds.{list_any-append}
-use Rattle.shm_words.specs.declared.geometry.Geometry.{Geometry}
-use Rattle.shm_words.specs.Headers.{header_of}
-use Rattle.shm_graph.specs.declared.ask.Ask.{Ask}
-use Rattle.shm_graph.specs.declared.ask.Ask.TheVariants.{Load, Store, Exchange}
-use Rattle.shm_graph.specs.declared.ask.Me.{Me}
-use Rattle.shm_graph.specs.declared.spot.Spot.{Spot}
-use Rattle.shm_graph.specs.declared.spot.Spot.TheVariants as spot
-use Rattle.shm_graph.specs.declared.memo.Fact.TheVariants.{Counter, Class}
-use Rattle.shm_graph.specs.declared.memo.First.TheVariants.{Begun, Committed}
+use Rattle.std.specs.{Prelude.{◌==◌, nat_le, if◌then◌else◌}, List.{All, Contains, filter, list_any}}
+use Rattle.shm_words.specs.{declared.geometry.Geometry.Geometry, Headers.header_of}
+use Rattle.shm_graph.specs.declared.{ask.{Ask.{Ask, TheVariants.{Load, Store, Exchange}}, Me.Me}, spot.Spot.Spot}
+use Rattle.shm_graph.specs.declared.memo.{Fact.TheVariants.{Counter, Class}, First.TheVariants.{Begun, Committed}}
 use Rattle.shm_graph.specs.declared.memo.Second.TheVariants.{Open, Closed}
-use Rattle.shm_graph.specs.declared.memo.ChangeStage.TheVariants.{Raising, Lowering}
-use Rattle.shm_graph.specs.declared.memo.Memo.{Memo}
-use Rattle.shm_graph.specs.declared.memo.Op.{Op}
-use Rattle.shm_graph.specs.declared.memo.Op.TheVariants as op
-use Rattle.shm_graph.specs.declared.memo.Step.{Step}
-use Rattle.shm_graph.specs.declared.memo.Test.{Test}
-use Rattle.shm_graph.specs.Agents.{recovers, status_of}
-use Rattle.shm_graph.specs.Asks.{pair, at_of, seen_of}
-use Rattle.shm_graph.specs.Blocks.{classes}
-use Rattle.shm_graph.specs.Changes.{forgotten, called, memo_on, test_before, changed_by}
-use Rattle.shm_graph.specs.Events as event
-use Rattle.shm_graph.specs.Events.{Event}
+use Rattle.shm_graph.specs.declared.memo.{ChangeStage.TheVariants.{Raising, Lowering}, Memo.Memo, Op.Op, Step.Step}
+use Rattle.shm_graph.specs.{declared.memo.Test.Test, Agents.{recovers, status_of}, Asks.{pair, at_of, seen_of}}
+use Rattle.shm_graph.specs.{Blocks.classes, Changes.{forgotten, called, memo_on, test_before, changed_by}, Events.Event}
 use Rattle.shm_graph.specs.MemoAfterExchange.{cut, reparted, without_made, with_unsent, with_untaken, lowered, committed, exchanged_on}
-use Rattle.shm_graph.specs.Laws.{Control, Frame, framed, Outcome, event_by, event_of, event_on}
-use Rattle.shm_graph.specs.Ops.{is_op, slot_of}
+use Rattle.shm_graph.specs.{Laws.{Control, Frame, framed, Outcome, event_by, event_of, event_on}, Ops.{is_op, slot_of}}
 use Rattle.shm_graph.specs.Reach.{learnt, is_dying}
 use Rattle.shm_graph.specs.MemoAfterRead.{is_held, is_head_slot, is_latched, read_on, reference_read, row_read, valued, values_read, word_read}
 use Rattle.shm_graph.specs.Spots.{same_spot, spot_at}
 use Rattle.shm_graph.specs.MemoAfterStore.{is_lowering, making_with, not_block, not_of, other_than, put, with_own, without_looks, written, op_closed, era_stored, stored_on}
-use Rattle.shm_graph.specs.Telling.{Claim, claim_of}
-use Rattle.shm_graph.specs.Tells.{after_all, happens_along, is_event}
-use Rattle.shm_graph.proofs.Machines.Calling.{called_part}
+use Rattle.shm_graph.specs.{Telling.{Claim, claim_of}, Tells.{after_all, happens_along, is_event}}
+use Rattle.shm_graph.specs.declared.spot.Spot.TheVariants as spot
+use Rattle.shm_graph.specs.declared.memo.Op.TheVariants as op
+use Rattle.shm_graph.specs.Events as event
+use Rattle.shm_graph.proofs.Machines.{Calling.called_part, TellsAlong.{after_all-append, happens_along-append}}
 use Rattle.shm_graph.proofs.StepKinds.Loads.{choice}
-use Rattle.shm_graph.proofs.Machines.TellsAlong.{after_all-append, happens_along-append}
-use Rattle.shm_calls.specs.Parts.{Part, PartLaws}
-use Rattle.shm_calls.specs.Placed.{PlacedKeeps}
+use Rattle.shm_calls.specs.{Parts.{Part, PartLaws}, Placed.PlacedKeeps}
 
 -- ---- what a word step leaves
 

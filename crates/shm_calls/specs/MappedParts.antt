@@ -1,12 +1,8 @@
 -- a part whose answers are told by f
 use Rattle.std.proofs.Common.{◌≡◌, Bool, refl, sym, subst, List, [], ◌∷◌, ◌++◌}
-use Rattle.shm_graph.specs.Asks.{pair}
-use Rattle.shm_graph.specs.Events.{Event}
-use Rattle.shm_graph.specs.Laws.{Control, Then}
+use Rattle.shm_graph.specs.{Asks.pair, Events.Event, Laws.{Control, Then}}
 use Rattle.shm_graph.specs.Mapped.{MappedGives, mapped, mapped_back, mapped_inside, mapped_steady}
-use Rattle.shm_calls.specs.CallTells.{mapped_events}
-use Rattle.shm_calls.specs.Either.{after_step, told_outcome}
-use Rattle.shm_calls.specs.Parts.{Part, PartLaws}
+use Rattle.shm_calls.specs.{CallTells.mapped_events, Either.{after_step, told_outcome}, Parts.{Part, PartLaws}}
 use Rattle.shm_calls.specs.Placed.{PlacedKeeps}
 
 abbrev pub mapped_part : {S A B : Type 0} → (A → B) → Part S A → Part S B

@@ -1,10 +1,6 @@
 -- parts: a machine as larger machines call it, with what it needs at its begin and what it leaves in the end
 use Rattle.std.specs.Prelude.{◌≡◌, ℕ, Bool, List, []}
-use Rattle.shm_graph.specs.declared.ask.Me.{Me}
-use Rattle.shm_graph.specs.declared.memo.Memo.{Memo}
-use Rattle.shm_graph.specs.Agents.{recovers}
-use Rattle.shm_graph.specs.Asks.{Trail}
-use Rattle.shm_graph.specs.Events.{Event}
+use Rattle.shm_graph.specs.{declared.{ask.Me.Me, memo.Memo.Memo}, Agents.recovers, Asks.Trail, Events.Event}
 use Rattle.shm_graph.specs.Laws.{Control}
 pub use Rattle.shm_graph.specs.Operations.{IsHeld}
 use Rattle.shm_graph.specs.Tells.{happens_along, Tells}

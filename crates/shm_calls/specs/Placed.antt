@@ -1,10 +1,7 @@
 -- the laws of a machine as a part of another one: where it comes first it keeps the invariant in any frame, and otherwise in each frame that isn't the first step of the whole
 use Rattle.std.specs.Prelude.{◌≡◌, ℕ, Bool, true, false}
 use Rattle.std.proofs.lemmas.Bool.{true≢false}
-use Rattle.shm_graph.specs.declared.spot.Spot.{Spot}
-use Rattle.shm_graph.specs.declared.memo.Memo.{Memo}
-use Rattle.shm_graph.specs.Spots.{spot_at}
-use Rattle.shm_graph.specs.Blocks.{classes}
+use Rattle.shm_graph.specs.{declared.{spot.Spot.Spot, memo.Memo.Memo}, Spots.spot_at, Blocks.classes}
 use Rattle.shm_graph.specs.Asks.{Trail, at_of}
 use Rattle.shm_graph.specs.Laws.{Control, Frame, Stands, KeptAt, Steady, Inside, Back, Then, Laws}
 use Rattle.shm_graph.specs.Mapped.{OnTheWay, AtTheEnd}

@@ -1,34 +1,27 @@
 -- plans whose machines are operations
 use Rattle.std.proofs.Common.{◌≡◌, Bool, ◌&&◌, true, false, List, [], refl, subst, sym}
-use Rattle.shm_graph.specs.declared.memo.Memo.{Memo}
-use Rattle.shm_graph.specs.Asks.{Trail}
-use Rattle.shm_graph.specs.Events.{Event}
-use Rattle.shm_graph.specs.Idle.{IsIdle}
-use Rattle.shm_graph.specs.Laws.{Control}
-use Rattle.shm_graph.specs.Operations.{IsReady, OperationLaws}
-use Rattle.shm_graph.specs.Tells.{happens_along}
-use Rattle.shm_calls.specs.declared.calls.Calls.{Calls}
-use Rattle.shm_calls.specs.CallsControl.{calls_control, calls_does, calls_of}
-use Rattle.shm_calls.specs.CallsFit.{CallsFits, CallsGives, PlanGives}
-use Rattle.shm_calls.specs.CallsKeep.{calls_begin, calls_tells}
+use Rattle.shm_graph.specs.{declared.memo.Memo.Memo, Asks.Trail, Events.Event, Idle.IsIdle, Laws.Control}
+use Rattle.shm_graph.specs.{Operations.{IsReady, OperationLaws}, Tells.happens_along}
+use Rattle.shm_calls.specs.{declared.calls.Calls.Calls, CallsControl.{calls_control, calls_does, calls_of}}
+use Rattle.shm_calls.specs.{CallsFit.{CallsFits, CallsGives, PlanGives}, CallsKeep.{calls_begin, calls_tells}}
 use Rattle.shm_calls.specs.Plans.{PlanLaws, Planned}
 
 module _ {P C B A : Type 0} (k : Control C B) (q : Planned P C B A) where
   -- no call has answered yet, and the first one hasn't begun
   pub record IsNew (p : P) : Type 0 where
-    pub first : q.first p ≡ true
-    pub start : q.start p ≡ p
-    pub fresh : k.fresh (q.call p) ≡ true
+    pub first : q.steered.first p ≡ true
+    pub start : q.steered.start p ≡ p
+    pub fresh : k.fresh (q.steered.call p) ≡ true
 
   -- what is owed of a plan whose machine is an operation
   pub record TaskLaws (may : P → Memo → Type 0) (ends : P → A → Type 0) : Type 0 where
     pub new : (p : P) (r : Memo) → may p r → IsNew p
-    pub begins : (p : P) (r : Memo) → IsReady (q.me p) r → may p r → q.knows p r r [] []
-    pub rests : (p : P) (r0 r : Memo) (tr : Trail) (es : List Event) (a : A) → IsReady (q.me p) r0 → may p r0 → q.leaves p r0 r tr es a → ends p a → IsIdle (q.me p).who r
+    pub begins : (p : P) (r : Memo) → IsReady (q.steered.me p) r → may p r → q.knows p r r [] []
+    pub rests : (p : P) (r0 r : Memo) (tr : Trail) (es : List Event) (a : A) → IsReady (q.steered.me p) r0 → may p r0 → q.leaves p r0 r tr es a → ends p a → IsIdle (q.steered.me p).who r
 
 -- the machine is as it is made of its plan, which may begin
 abbrev pub CallsMay : {P C B A : Type 0} → Planned P C B A → (P → Memo → Type 0) → Calls P C A B → Memo → Type 0
-CallsMay q may m r = (m ≡ calls_of q m.plan) × may m.plan r
+CallsMay q may m r = (m ≡ calls_of q.steered m.plan) × may m.plan r
 
 abbrev pub CallsLeave : {P C B A : Type 0} → Planned P C B A → Calls P C A B → Memo → Memo → Trail → List Event → A → Type 0
 CallsLeave q m = q.leaves m.plan
@@ -37,14 +30,14 @@ module _ {P C B A : Type 0} (k : Control C B) (q : Planned P C B A) (laws : Plan
   both : (a b : Bool) → a ≡ true → b ≡ true → (a && b) ≡ true
   both a b x y = rw (x, y) refl
 
-  pub calls_operation : OperationLaws (calls_control k q) (CallsFits k q) (CallsGives k q) (CallsMay q may) (calls_does k q) (CallsLeave q) (λ m. ends m.plan)
+  pub calls_operation : OperationLaws (calls_control k q.steered) (CallsFits k q) (CallsGives k q) (CallsMay q may) (calls_does k q) (CallsLeave q) (λ m. ends m.plan)
   calls_operation =
       record {
         tells = calls_tells k q laws;
-        fresh = λ m r h. let n = tasks.new m.plan r h.1 in both (q.first m.plan) (k.fresh m.call) n.first (subst (λ (x : Calls P C A B). k.fresh x.call ≡ true) (sym h.0) n.fresh);
+        fresh = λ m r h. let n = tasks.new m.plan r h.1 in both (q.steered.first m.plan) (k.fresh m.call) n.first (subst (λ (x : Calls P C A B). k.fresh x.call ≡ true) (sym h.0) n.fresh);
         asks = λ m r h. subst (λ (x : Calls P C A B). k.finished x.call ≡ false) (sym h.0) (laws.calls m.plan).asks;
         begins = λ m r ready h. let n = tasks.new m.plan r h.1 in subst (λ (x : Calls P C A B). CallsFits k q x r r []) (sym h.0) (calls_begin k q laws m.plan r n.first n.start (tasks.begins m.plan r ready h.1));
         leads = λ m r0 r tr a ready h g. let n = tasks.new m.plan r0 h.1 in
-            subst (λ (x : Calls P C A B). q.leaves m.plan r0 r tr (happens_along (calls_control k q) (calls_does k q) x tr) a) (sym h.0) (subst (λ (z : P). PlanGives k q z r0 r tr a) n.start g).leaves;
+            subst (λ (x : Calls P C A B). q.leaves m.plan r0 r tr (happens_along (calls_control k q.steered) (calls_does k q) x tr) a) (sym h.0) (subst (λ (z : P). PlanGives k q z r0 r tr a) n.start g).leaves;
         rests = λ m r0 r tr es a ready h l. tasks.rests m.plan r0 r tr es a ready h.1 l;
       }

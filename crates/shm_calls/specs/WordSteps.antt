@@ -1,24 +1,12 @@
 -- word steps as parts: from the law of their kind, and what it makes of the memo
-use Rattle.std.proofs.Common.{◌≡◌, ◌≢◌, ℕ, ◌<◌, Bool, false, refl, sym, subst, []}
-use Rattle.std.proofs.lemmas.Bool.{true≢false}
+use Rattle.std.proofs.{Common.{◌≡◌, ◌≢◌, ℕ, ◌<◌, Bool, false, refl, sym, subst, []}, lemmas.Bool.true≢false}
 use Rattle.shm_words.specs.Layout.{total_of}
-use Rattle.shm_graph.specs.declared.ask.Ask.{Ask}
-use Rattle.shm_graph.specs.declared.ask.Ask.TheVariants.{Load, Store, Exchange}
-use Rattle.shm_graph.specs.declared.ask.Me.{Me}
-use Rattle.shm_graph.specs.declared.spot.Spot.{Spot}
-use Rattle.shm_graph.specs.declared.spot.Spot.TheVariants.{Spare, Head}
-use Rattle.shm_graph.specs.declared.memo.Memo.{Memo}
-use Rattle.shm_graph.specs.declared.memo.Step.{Step}
-use Rattle.shm_graph.specs.Spots.{spot_at, is_in_body}
-use Rattle.shm_graph.specs.Blocks.{classes}
-use Rattle.shm_graph.specs.Asks.{at_of, seen_of}
-use Rattle.shm_graph.specs.Changes.{memo_on}
-use Rattle.shm_graph.specs.Events.{Nothing}
-use Rattle.shm_graph.specs.Laws.{Frame, framed, Stands, KeptAt, MayEnd, event_by, event_on}
-use Rattle.shm_graph.proofs.StepKinds.LoadKeeping.{load_kept}
-use Rattle.shm_graph.proofs.Spots.Spotting.{in_pool}
-use Rattle.shm_calls.specs.Placed.{MayStand}
-use Rattle.shm_calls.specs.Words.{IsKept, IsQuiet, IsWord}
+use Rattle.shm_graph.specs.declared.{ask.{Ask.{Ask, TheVariants.{Load, Store, Exchange}}, Me.Me}, spot.Spot.Spot}
+use Rattle.shm_graph.specs.declared.{spot.Spot.TheVariants.{Spare, Head}, memo.{Memo.Memo, Step.Step}}
+use Rattle.shm_graph.specs.{Spots.{spot_at, is_in_body}, Blocks.classes, Asks.{at_of, seen_of}, Changes.memo_on}
+use Rattle.shm_graph.specs.{Events.Nothing, Laws.{Frame, framed, Stands, KeptAt, MayEnd, event_by, event_on}}
+use Rattle.shm_graph.proofs.{StepKinds.LoadKeeping.load_kept, Spots.Spotting.in_pool}
+use Rattle.shm_calls.specs.{Placed.MayStand, Words.{IsKept, IsQuiet, IsWord}}
 
 -- no step outside the bodies is an event
 no_event : (m : Memo) (t : Step) (a : Ask) (p : Spot) → is_in_body p ≡ false → event_by m t a p ≡ Nothing

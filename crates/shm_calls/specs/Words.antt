@@ -2,20 +2,11 @@
 use Rattle.std.proofs.Common.{◌≡◌, ℕ, Bool, true, false, refl, sym, ap, subst, ◌<◌, List, [], ◌∷◌, ◌++◌, length}
 use Rattle.std.specs.Prelude.{Some, not}
 use Rattle.shm_words.specs.Layout.{total_of}
-use Rattle.shm_graph.specs.declared.ask.Ask.{Ask}
-use Rattle.shm_graph.specs.declared.ask.Me.{Me}
-use Rattle.shm_graph.specs.declared.spot.Spot.{Spot}
-use Rattle.shm_graph.specs.declared.memo.Memo.{Memo}
-use Rattle.shm_graph.specs.Spots.{spot_at}
-use Rattle.shm_graph.specs.Blocks.{classes}
-use Rattle.shm_graph.specs.Asks.{Trail, at_of, seen_of, pair}
-use Rattle.shm_graph.specs.Changes.{memo_on}
-use Rattle.shm_graph.specs.Events.{Event, Nothing}
-use Rattle.shm_graph.specs.Laws.{Control, Frame, framed, Stands, KeptAt, Laws, event_on}
-use Rattle.shm_graph.specs.Tells.{Tells, happens_along}
-use Rattle.shm_graph.specs.Trails.{Answers, Asked}
-use Rattle.shm_calls.specs.declared.word.Word.{Word}
-use Rattle.shm_calls.specs.Parts.{Part, PartLaws}
+use Rattle.shm_graph.specs.{declared.{ask.{Ask.Ask, Me.Me}, spot.Spot.Spot, memo.Memo.Memo}, Spots.spot_at}
+use Rattle.shm_graph.specs.{Blocks.classes, Asks.{Trail, at_of, seen_of, pair}, Changes.memo_on}
+use Rattle.shm_graph.specs.{Events.{Event, Nothing}, Laws.{Control, Frame, framed, Stands, KeptAt, Laws, event_on}}
+use Rattle.shm_graph.specs.{Tells.{Tells, happens_along}, Trails.{Answers, Asked}}
+use Rattle.shm_calls.specs.{declared.word.Word.Word, Parts.{Part, PartLaws}}
 use Rattle.shm_calls.specs.Placed.{MayStand, PlacedKeeps, PlacedLaws, from_placed}
 
 abbrev pub word_control : Control Word ℕ

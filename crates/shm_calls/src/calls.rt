@@ -1,8 +1,7 @@
 //! The machine that makes the calls of a plan.
 
 ghost use Rattle.std.specs.Prelude.{◌≡◌};
-ghost use Rattle.shm_calls.specs.CallsControl.{calls_control, calls_of};
-ghost use Rattle.shm_calls.specs.CallsFit.{CallsFits, CallsGives};
+ghost use Rattle.shm_calls.specs.{CallsControl.{calls_control, calls_of}, CallsFit.{CallsFits, CallsGives}};
 ghost use Rattle.shm_calls.specs.CallsKeep.{calls_laws};
 
 use crate::plan::Plan;
@@ -19,7 +18,7 @@ impl<P: Plan> Calls<P> {
     /// The machine of a plan, before its first word step.
     #[inline(always)]
     pub fn new(plan: P) -> Calls<P>
-        ensures { result ≡ calls_of P.plan plan }
+        ensures { result ≡ calls_of P.plan.steered plan }
     {
         let call = plan.call();
         Calls { plan, call }
@@ -44,7 +43,7 @@ impl<P: Plan> Calls<P> {
     #[inline(always)]
     fn begin(&mut self)
         ensures plan { self.new.plan ≡ self.old.plan }
-        ensures call { self.new.call ≡ P.plan.call self.old.plan }
+        ensures call { self.new.call ≡ P.plan.steered.call self.old.plan }
     {
         self.call = self.plan.call();
     }
@@ -53,7 +52,7 @@ impl<P: Plan> Calls<P> {
 impl<P: Plan> Machine for Calls<P> {
     type Answer = P::Answer;
 
-    ghost control = { calls_control P.Call.control P.plan };
+    ghost control = { calls_control P.Call.control P.plan.steered };
 
     ghost fits = { CallsFits P.Call.control P.plan };
 

@@ -17,16 +17,16 @@ pub trait Plan {
 
     /// The identity that it works for.
     fn me(&self) -> Me
-        ensures { result ≡ plan.me self.now };
+        ensures { result ≡ plan.steered.me self.now };
 
     /// The call that comes next, before its first word step.
     fn call(&self) -> Self::Call
-        ensures { result ≡ plan.call self.now };
+        ensures { result ≡ plan.steered.call self.now };
 
     /// Takes what the call answered; its own answer, once it is done.
     fn next(&mut self, answer: <Self::Call as Machine>::Answer) -> Option<Self::Answer>
-        ensures plan { self.new ≡ plan.after self.old answer }
-        ensures answer { result ≡ plan.turns self.old answer };
+        ensures plan { self.new ≡ plan.steered.after self.old answer }
+        ensures answer { result ≡ plan.steered.turns self.old answer };
 
     ghost laws: { PlanLaws Self.Call.control plan };
 }

@@ -2,8 +2,7 @@
 
 ghost use Rattle.std.specs.Prelude.{◌≡◌};
 ghost use Rattle.shm_graph.specs.declared.memo.Memo.{Memo as AMemo};
-ghost use Rattle.shm_calls.specs.CallsControl.{calls_does, calls_of};
-ghost use Rattle.shm_calls.specs.Either.{OrLeaves, OrNeeds, or_does};
+ghost use Rattle.shm_calls.specs.{CallsControl.{calls_does, calls_of}, Either.{OrLeaves, OrNeeds, or_does}};
 ghost use Rattle.shm_calls.specs.EitherOperates.{OrRests, or_operation};
 ghost use Rattle.shm_calls.specs.Tasks.{CallsLeave, CallsMay, TaskLaws, calls_operation};
 
@@ -62,7 +61,7 @@ pub trait Begin {
 impl<P: Task + Drop> Begin for P {
     type Op = Calls<P>;
 
-    ghost op = { calls_of P.plan };
+    ghost op = { calls_of P.plan.steered };
 
     #[inline(always)]
     fn begin(self) -> Calls<P> {

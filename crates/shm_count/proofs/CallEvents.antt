@@ -1,13 +1,8 @@
 -- the own events of a call in a run are those that its machine tells
 use Rattle.std.proofs.Common.{◌≡◌, ℕ, true, refl, sym, ap, subst, Bool, List, []}
 use Rattle.std.specs.List.{filter}
-use Rattle.shm_graph.specs.declared.memo.Memo.{Memo}
-use Rattle.shm_graph.specs.declared.run.Move.{Move}
-use Rattle.shm_graph.specs.Asks.{Trail, call_before}
-use Rattle.shm_graph.specs.Events.{Event}
-use Rattle.shm_graph.specs.Laws.{Control, Laws}
-use Rattle.shm_graph.specs.Runs.{State, memos_of}
-use Rattle.shm_graph.specs.Tells.{Tells, is_event, happens_along}
+use Rattle.shm_graph.specs.{declared.{memo.Memo.Memo, run.Move.Move}, Asks.{Trail, call_before}, Events.Event}
+use Rattle.shm_graph.specs.{Laws.{Control, Laws}, Runs.{State, memos_of}, Tells.{Tells, is_event, happens_along}}
 use Rattle.shm_graph.proofs.Runs.OwnEvents.{own_told}
 use Rattle.shm_count.specs.Calling.{IsCall, happened_in}
 

@@ -1,38 +1,29 @@
 -- what the trail of a plan shows because its last call shows it: where a plan answers that a count is full, a header that shows it was read
 use Rattle.std.proofs.Common.{◌≡◌, ℕ, zero, suc, refl, sym, ap, ◌∙◌, subst, append-nil, Bool, true, false, ◌++◌}
-use Rattle.std.specs.Prelude.{◌-◌, ◌^◌, ◌==◌, nat_lt, if◌then◌else◌, Option, Some, None, Result, Ok, Err}
 use Rattle.std.proofs.lemmas.List.Elements.{Contains-append_right}
+use Rattle.std.specs.Prelude.{◌-◌, ◌^◌, ◌==◌, nat_lt, if◌then◌else◌, Option, Some, None, Result, Ok, Err}
 use Rattle.shm_graph.specs.Asks.{Trail}
-use Rattle.shm_calls.specs.declared.or.Or.TheVariants.{First, Second}
-use Rattle.shm_calls.specs.Plans.{Planned, calls_asked, go_on, plan_trail}
-use Rattle.shm_count.specs.declared.answer.ShareFault.{ShareFault}
-use Rattle.shm_count.specs.declared.answer.ShareFault.TheVariants as share
-use Rattle.shm_count.specs.declared.answer.UpFault.{UpFault}
-use Rattle.shm_count.specs.declared.answer.UpFault.TheVariants.{CountFull, EraSpent}
-use Rattle.shm_count.specs.declared.point.Aim.TheVariants.{Up}
-use Rattle.shm_count.specs.declared.up_root.RootingPoint.{RootingPoint}
-use Rattle.shm_count.specs.declared.up_root.RootingPoint.TheVariants.{Era, Look, Step}
-use Rattle.shm_count.specs.declared.up_root.RootingState.{RootingState}
-use Rattle.shm_count.specs.Refusing.{ReadsCount}
-use Rattle.shm_count.specs.Step.Control.{first_point}
-use Rattle.shm_count.specs.Step.Asks.{point_trail}
-use Rattle.shm_count.specs.Step.Machines.{up_answer}
-use Rattle.shm_count.specs.Step.BeforeExchange.{first_asked}
-use Rattle.shm_count.specs.Step.Refusing.{first_reads}
+use Rattle.shm_calls.specs.{declared.or.Or.TheVariants.{First, Second}, Plans.{Planned, calls_asked, go_on, plan_trail}}
+use Rattle.shm_count.specs.declared.answer.{ShareFault.ShareFault, UpFault.{UpFault, TheVariants.{CountFull, EraSpent}}}
+use Rattle.shm_count.specs.declared.{point.Aim.TheVariants.Up, up_root.RootingPoint.RootingPoint}
+use Rattle.shm_count.specs.declared.up_root.{RootingPoint.TheVariants.{Era, Look, Step}, RootingState.RootingState}
+use Rattle.shm_count.specs.{Refusing.ReadsCount, Step.{Control.first_point, Asks.point_trail, Machines.up_answer}}
+use Rattle.shm_count.specs.Step.{BeforeExchange.first_asked, Refusing.first_reads}
 use Rattle.shm_count.specs.UpRoot.Control.{RootingAnswer, rooting_call, rooting_turns, taken_up}
 use Rattle.shm_count.specs.UpRoot.{rooting_part, rooting_plan}
+use Rattle.shm_count.specs.declared.answer.ShareFault.TheVariants as share
 
 -- ---- any plan
 
 module _ {P C B A : Type 0} (q : Planned P C B A) (a : A) (I : P → Type 0) (R : Trail → Type 0)
-    (keeps : (p : P) (b : B) → I p → q.turns p b ≡ None → I (q.after p b))
+    (keeps : (p : P) (b : B) → I p → q.steered.turns p b ≡ None → I (q.steered.after p b))
     (later : (t rest : Trail) → R rest → R (t ++ rest))
-    (last : (p : P) (t : Trail) (b : B) → I p → (q.part p).asks (q.call p) t b → q.turns p b ≡ Some a → R t) where
+    (last : (p : P) (t : Trail) (b : B) → I p → (q.part p).asks (q.steered.call p) t b → q.steered.turns p b ≡ Some a → R t) where
   ends_in : (n : ℕ) (p : P) (tr : Trail) → I p → calls_asked q n p tr a → R tr
   ends_in zero p tr i h = absurd h
-  ends_in (suc n) p tr i (t, (rest, b, split, asks, y)) = subst R (sym split) (go (q.turns p b) refl y (λ j z. ends_in n (q.after p b) rest j z))
+  ends_in (suc n) p tr i (t, (rest, b, split, asks, y)) = subst R (sym split) (go (q.steered.turns p b) refl y (λ j z. ends_in n (q.steered.after p b) rest j z))
     where
-      go : (o : Option A) → q.turns p b ≡ o → go_on q (calls_asked q n) (q.after p b) o rest a → (I (q.after p b) → calls_asked q n (q.after p b) rest a → R rest) → R (t ++ rest)
+      go : (o : Option A) → q.steered.turns p b ≡ o → go_on q (calls_asked q n) (q.steered.after p b) o rest a → (I (q.steered.after p b) → calls_asked q n (q.steered.after p b) rest a → R rest) → R (t ++ rest)
       go None e z more = later t rest (more (keeps p b i e) z)
       go (Some x) e z more = subst (λ (u : Trail). R (t ++ u)) (sym z.0) (subst R (sym (append-nil t)) (last p t b i asks (e ∙ ap (λ (u : A). Some u) z.1)))
 
@@ -50,7 +41,7 @@ pub reads_same : (b k d n : ℕ) (t : Trail) → b ≡ d → k ≡ n → ReadsCo
 reads_same b k d n t block count h = subst (λ j. ReadsCount j n t) block (subst (λ j. ReadsCount b j t) count h)
 
 -- a plan whose last call has read it
-pub count_read : {P C B A : Type 0} (q : Planned P C B A) (a : A) (d n : ℕ) → ((p : P) (t : Trail) (b : B) → (q.part p).asks (q.call p) t b → q.turns p b ≡ Some a → ReadsCount d n t) → (p : P) (tr : Trail) → plan_trail q p tr a → ReadsCount d n tr
+pub count_read : {P C B A : Type 0} (q : Planned P C B A) (a : A) (d n : ℕ) → ((p : P) (t : Trail) (b : B) → (q.part p).asks (q.steered.call p) t b → q.steered.turns p b ≡ Some a → ReadsCount d n t) → (p : P) (tr : Trail) → plan_trail q p tr a → ReadsCount d n tr
 count_read {P} q a d n last p tr = trail_ends q a (λ (x : P). Unit {0}) (λ (t : Trail). ReadsCount d n t) (λ p b i e. tt) (reads_after d n) (λ p t b i asks e. last p t b asks e) p tr tt
 
 -- an up at the least empty root

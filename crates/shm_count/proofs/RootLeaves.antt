@@ -1,38 +1,25 @@
 -- what a step down at an own root leaves: the root is empty, its block joins the zero-count blocks or stays counted, and the rest stays
 use Rattle.std.proofs.Common.{◌≡◌, ℕ, ◌-◌, ◌^◌, ◌<◌, refl, sym, ap, ◌∙◌, subst, Bool, cond, eqb, List, [], ◌∷◌, ◌++◌, true, ◌+◌, ◌≢◌}
 use Rattle.std.proofs.lemmas.Bool.{cond-false, cond-true, eq-eqb}
+use Rattle.std.specs.List.{Contains, filter}
 use Rattle.shm_words.specs.Headers.{header_of}
-use Rattle.shm_graph.specs.declared.ask.Me.{Me}
-use Rattle.shm_graph.specs.declared.spot.Spot.{Spot}
-use Rattle.shm_graph.specs.declared.spot.Spot.TheVariants.{Home, Era, Root}
-use Rattle.shm_graph.specs.declared.memo.First.TheVariants.{Committed}
-use Rattle.shm_graph.specs.declared.memo.Memo.{Memo}
-use Rattle.shm_graph.specs.declared.memo.Op.TheVariants.{Down as StepDown, Nothing}
-use Rattle.shm_graph.specs.declared.memo.Stored.{Stored}
-use Rattle.shm_graph.specs.declared.table.Part.{Part as TablePart}
-use Rattle.shm_graph.specs.declared.table.Part.TheVariants.{Loose, Table}
-use Rattle.shm_graph.specs.Chains.{part_set}
-use Rattle.shm_graph.specs.MemoAfterExchange.{cut, reparted, without_made}
-use Rattle.shm_graph.specs.Reach.{shown, sifted, is_named}
-use Rattle.shm_graph.specs.Views.{own_word}
-use Rattle.shm_graph.proofs.Spots.Spotting.{same_spot_self}
+use Rattle.shm_graph.specs.declared.{ask.Me.Me, spot.Spot.{Spot, TheVariants.{Home, Era, Root}}}
+use Rattle.shm_graph.specs.declared.memo.{First.TheVariants.Committed, Memo.Memo}
+use Rattle.shm_graph.specs.declared.memo.{Op.TheVariants.{Down as StepDown, Nothing}, Stored.Stored}
+use Rattle.shm_graph.specs.{declared.table.Part.{Part as TablePart, TheVariants.{Loose, Table}}, Chains.part_set}
+use Rattle.shm_graph.specs.{MemoAfterExchange.{cut, reparted, without_made}, Reach.{shown, sifted, is_named}}
+use Rattle.shm_graph.specs.{Views.own_word, Core.core}
+use Rattle.shm_graph.specs.MemoAfterStore.{is_of, not_of, with_own, written, stored_on, era_stored}
+use Rattle.shm_graph.proofs.{Spots.Spotting.same_spot_self, StepKinds.Loads.choice}
 use Rattle.shm_laws.specs.HeaderExchanges.{dying_after}
 use Rattle.shm_steps.proofs.MemoCommits.{known_lowered, lowered_is}
-use Rattle.shm_count.specs.declared.point.Aim.TheVariants.{Down}
-use Rattle.shm_count.specs.declared.point.Half.TheVariants.{First}
-use Rattle.shm_count.specs.DownLeaves.{count_less, one_less, joined, kept_lowered}
-use Rattle.shm_count.specs.Step.Parts.{lasting_not}
-use Rattle.shm_count.specs.Step.Control.{header_after}
-use Rattle.shm_graph.specs.Core.{core}
-use Rattle.shm_count.specs.Step.{begun, set_memo, slot_memo, closed_memo, Done}
-use Rattle.shm_count.specs.Step.Memos.{closed_part}
+use Rattle.shm_count.specs.declared.point.{Aim.TheVariants.Down, Half.TheVariants.First}
+use Rattle.shm_count.specs.{DownLeaves.{count_less, one_less, joined, kept_lowered}, Step.Parts.lasting_not}
+use Rattle.shm_count.specs.Step.{Control.header_after, begun, set_memo, slot_memo, closed_memo, Done, Memos.closed_part}
 use Rattle.shm_count.specs.Roots.{rest, RootLowered}
-use Rattle.shm_count.proofs.RootMemos.{op_done, word_done}
-use Rattle.std.specs.List.{Contains, filter}
-use Rattle.shm_graph.specs.MemoAfterStore.{is_of, not_of, with_own, written, stored_on, era_stored}
-use Rattle.shm_graph.proofs.StepKinds.Loads.{choice}
 use Rattle.shm_count.specs.Retaining.{slots_forgotten, slots_sifted, named_same, named_sifted, value_sifted}
 use Rattle.shm_count.specs.Tear.Memos.{is_slot_word}
+use Rattle.shm_count.proofs.RootMemos.{op_done, word_done}
 
 -- no partition is read from a root
 root_part : (ks : List Stored) (c home k x : ℕ) (part : TablePart) → part_set ks c home (Root c k) x part ≡ part

@@ -1,44 +1,23 @@
 -- what a count step at an own root leaves in the memo of its identity
 use Rattle.std.proofs.Common.{◌≡◌, ℕ, ◌+◌, ◌-◌, ◌^◌, ◌<◌, ◌≤◌, refl, sym, ap, ◌∙◌, subst, arith, Bool, true, false, not, cond, eqb, ◌&&◌, List, [], ◌∷◌, ◌++◌}
-use Rattle.std.specs.Prelude.{◌==◌}
-use Rattle.std.specs.List.{Contains, filter}
-use Rattle.std.proofs.lemmas.Bool.{cond-true, cond-false, eq-eqb, eqb-true}
-use Rattle.std.proofs.lemmas.List.Elements.{Contains-push}
-use Rattle.shm_words.specs.Headers.{header_of, HeaderFits}
-use Rattle.shm_words.specs.declared.header.Header.{Header}
+use Rattle.std.proofs.lemmas.{Bool.{cond-true, cond-false, eq-eqb, eqb-true}, List.Elements.Contains-push}
+use Rattle.std.specs.{Prelude.◌==◌, List.{Contains, filter}}
+use Rattle.shm_words.specs.{Headers.{header_of, HeaderFits}, declared.header.Header.Header}
 use Rattle.shm_words.proofs.Words.{header_of-word}
-use Rattle.shm_graph.specs.declared.ask.Me.{Me}
-use Rattle.shm_graph.specs.declared.spot.Spot.{Spot}
+use Rattle.shm_graph.specs.declared.{ask.Me.Me, spot.Spot.Spot, memo.ChangeStage.TheVariants.{Lowering, Raising}}
+use Rattle.shm_graph.specs.declared.memo.{First.TheVariants.Committed, Second.TheVariants.Closed, Memo.Memo}
+use Rattle.shm_graph.specs.declared.{memo.Stored.Stored, table.Part.{Part as TablePart, TheVariants.{Loose, Table}}}
+use Rattle.shm_graph.specs.{Chains.part_set, MemoAfterExchange.{cut, lowered, reparted, without_made}, Held.is_loose}
+use Rattle.shm_graph.specs.{Idle.{IsIdle, hold_word}, Reach.shown, Spots.same_spot}
+use Rattle.shm_graph.specs.{MemoAfterStore.{not_block, not_of, op_closed, op_written}, Views.own_word, Core.core}
 use Rattle.shm_graph.specs.declared.spot.Spot.TheVariants as spot
-use Rattle.shm_graph.specs.declared.memo.ChangeStage.TheVariants.{Lowering, Raising}
-use Rattle.shm_graph.specs.declared.memo.First.TheVariants.{Committed}
-use Rattle.shm_graph.specs.declared.memo.Second.TheVariants.{Closed}
-use Rattle.shm_graph.specs.declared.memo.Memo.{Memo}
 use Rattle.shm_graph.specs.declared.memo.Op.TheVariants as op
-use Rattle.shm_graph.specs.declared.memo.Stored.{Stored}
-use Rattle.shm_graph.specs.declared.table.Part.{Part as TablePart}
-use Rattle.shm_graph.specs.declared.table.Part.TheVariants.{Loose, Table}
-use Rattle.shm_graph.specs.Chains.{part_set}
-use Rattle.shm_graph.specs.MemoAfterExchange.{cut, lowered, reparted, without_made}
-use Rattle.shm_graph.specs.Held.{is_loose}
-use Rattle.shm_graph.specs.Idle.{IsIdle, hold_word}
-use Rattle.shm_graph.specs.Reach.{shown}
-use Rattle.shm_graph.specs.Spots.{same_spot}
-use Rattle.shm_graph.specs.MemoAfterStore.{not_block, not_of, op_closed, op_written}
-use Rattle.shm_graph.specs.Views.{own_word}
-use Rattle.shm_count.specs.declared.answer.UpFault.{UpFault}
-use Rattle.shm_count.specs.declared.answer.UpFault.TheVariants.{EraSpent, CountFull}
-use Rattle.shm_count.specs.declared.point.Aim.{Aim}
-use Rattle.shm_count.specs.declared.point.Aim.TheVariants.{Up, Down, Change}
-use Rattle.shm_count.specs.declared.point.Half.{Half}
-use Rattle.shm_count.specs.declared.point.Half.TheVariants.{First, Second}
+use Rattle.shm_count.specs.declared.{answer.UpFault.{UpFault, TheVariants.{EraSpent, CountFull}}, point.Aim.Aim}
+use Rattle.shm_count.specs.declared.point.{Aim.TheVariants.{Up, Down, Change}, Half.{Half, TheVariants.{First, Second}}}
 use Rattle.shm_count.specs.Step.Control.{PartFits, header_after, last_era, raises, value_after}
 use Rattle.shm_count.specs.Step.Cores.{is_set, set_op}
-use Rattle.shm_graph.specs.Core.{core}
 use Rattle.shm_count.specs.Step.{AtFirst, Done, Refused, Rows, begun, closed_memo, is_row, set_memo, slot_memo}
-use Rattle.shm_count.specs.Step.Machines.{is_change}
-use Rattle.shm_count.specs.Step.Memos.{closed_part}
-use Rattle.shm_count.specs.Roots.{root_word}
+use Rattle.shm_count.specs.{Step.{Machines.is_change, Memos.closed_part}, Roots.root_word}
 
 -- ---- what a step that is done says of the memo
 

@@ -1,47 +1,27 @@
 -- the slot of a count step at an own root, the room for it, and the blocks that it names
 use Rattle.std.proofs.Common.{◌≡◌, ◌≢◌, ℕ, ◌+◌, ◌^◌, ◌<◌, ◌≤◌, refl, sym, ap, ◌∙◌, subst, arith, Bool, true, false, cond, List, [], ◌∷◌, ◌++◌, eqb, zero, suc, inl, inr, Result}
-use Rattle.std.specs.Prelude.{Ok, Err}
-use Rattle.std.specs.Result.{is_ok}
-use Rattle.std.specs.List.{Contains, list_any, filter}
 use Rattle.std.proofs.lemmas.Bool.{cases_eq, cond-true, eq-eqb, eqb-true, ne_eqb, or_right, lt-ltb, and_from, false≢true}
-use Rattle.std.proofs.lemmas.Cmp.{nat_eq_equiv}
-use Rattle.std.proofs.lemmas.List.Elements.{Contains-append_left}
+use Rattle.std.proofs.lemmas.{Cmp.nat_eq_equiv, List.Elements.Contains-append_left}
 use Rattle.std.proofs.lemmas.Map.Views.{Contains-from_any, list_any-from_Contains}
-use Rattle.shm_words.specs.declared.geometry.Geometry.{Geometry}
+use Rattle.std.specs.{Prelude.{Ok, Err}, Result.is_ok, List.{Contains, list_any, filter}}
+use Rattle.shm_words.specs.{declared.geometry.Geometry.Geometry, Layout.{GeometryFits, address, is_in}}
 use Rattle.shm_words.specs.declared.place.Place.TheVariants as place
-use Rattle.shm_words.specs.Layout.{GeometryFits, address, is_in}
 use Rattle.shm_words.proofs.Placing.{address_below, address_small, total_small}
-use Rattle.shm_graph.specs.declared.ask.Me.{Me}
-use Rattle.shm_graph.specs.declared.memo.Memo.{Memo}
-use Rattle.shm_graph.specs.declared.memo.Op.TheVariants as op
-use Rattle.shm_graph.specs.declared.spot.Spot.{Spot}
-use Rattle.shm_graph.specs.declared.spot.Spot.TheVariants as spot
-use Rattle.shm_graph.specs.declared.table.Part.{Part}
-use Rattle.shm_graph.specs.declared.table.Part.TheVariants.{Loose, Table}
-use Rattle.shm_graph.specs.Agents.{recovers}
-use Rattle.shm_graph.specs.Asks.{Trail}
-use Rattle.shm_graph.specs.Blocks.{classes}
-use Rattle.shm_graph.specs.Held.{HeldAt}
-use Rattle.shm_graph.specs.Idle.{IsIdle}
-use Rattle.shm_graph.specs.Ops.{cover, cover_of}
+use Rattle.shm_graph.specs.declared.{ask.Me.Me, memo.Memo.Memo, spot.Spot.Spot, table.Part.Part}
+use Rattle.shm_graph.specs.{declared.table.Part.TheVariants.{Loose, Table}, Agents.recovers, Asks.Trail, Blocks.classes}
+use Rattle.shm_graph.specs.{Held.HeldAt, Idle.IsIdle, Ops.{cover, cover_of}}
 use Rattle.shm_graph.specs.Reach.{in_slots, is_reached, named_blocks, not_zero, reached_blocks, roots_below, shown}
-use Rattle.shm_graph.specs.Spots.{IsAt, spot_address, spot_at}
-use Rattle.shm_graph.specs.Views.{own_word, view}
-use Rattle.shm_graph.proofs.Spots.SpotPlaces.{spot-place}
-use Rattle.shm_graph.proofs.Spots.Spotting.{same_spot_self}
-use Rattle.shm_steps.specs.Conditions.{IsHere}
-use Rattle.shm_steps.specs.Raising.{is_read}
-use Rattle.shm_count.specs.declared.answer.UpFault.{UpFault}
-use Rattle.shm_count.specs.declared.point.Aim.{Aim}
-use Rattle.shm_count.specs.declared.point.Aim.TheVariants.{Up, Down, Change}
-use Rattle.shm_count.specs.declared.point.Half.TheVariants.{First, Second}
-use Rattle.shm_count.specs.Step.Beginning.{begins_slot}
+use Rattle.shm_graph.specs.{Spots.{IsAt, spot_address, spot_at}, Views.{own_word, view}}
+use Rattle.shm_graph.specs.declared.memo.Op.TheVariants as op
+use Rattle.shm_graph.specs.declared.spot.Spot.TheVariants as spot
+use Rattle.shm_graph.proofs.Spots.{SpotPlaces.spot-place, Spotting.same_spot_self}
+use Rattle.shm_steps.specs.{Conditions.IsHere, Raising.is_read}
+use Rattle.shm_steps.proofs.Cores.{room_least}
+use Rattle.shm_count.specs.declared.{answer.UpFault.UpFault, point.Aim.{Aim, TheVariants.{Up, Down, Change}}}
+use Rattle.shm_count.specs.{declared.point.Half.TheVariants.{First, Second}, Step.Beginning.begins_slot}
 use Rattle.shm_count.specs.Step.Control.{AimFits, AimSmall, IsInside, block_at, last_era, raises, value_after}
 use Rattle.shm_count.specs.Step.{CanAim, CanStep, Done, HasPut, StepFits, StepGives, closed_memo, set_memo, slot_memo}
-use Rattle.shm_count.specs.Step.Going.{begins}
-use Rattle.shm_steps.proofs.Cores.{room_least}
-use Rattle.shm_count.specs.Step.Memos.{closed_part}
-use Rattle.shm_count.specs.Roots.{AreRootsReached, member, root_step}
+use Rattle.shm_count.specs.{Step.{Going.begins, Memos.closed_part}, Roots.{AreRootsReached, member, root_step}}
 use Rattle.shm_count.proofs.RootMemos.{StepLeft, up_done, down_done, change_done, left_done, left_refused}
 pub use Rattle.shm_count.specs.Idles.{is_here}
 

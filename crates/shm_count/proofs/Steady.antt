@@ -3,25 +3,12 @@ pub mod Steps
 pub mod Tears
 pub mod Tests
 use Rattle.std.proofs.Common.{◌≡◌, ℕ, Bool, refl, ap, ◌∙◌, List}
-use Rattle.shm_graph.specs.declared.ask.Ask.{Ask}
-use Rattle.shm_graph.specs.declared.ask.Me.{Me}
-use Rattle.shm_graph.specs.declared.memo.Memo.{Memo}
-use Rattle.shm_graph.specs.Asks.{Trail}
-use Rattle.shm_graph.specs.Events.{Event}
-use Rattle.shm_graph.specs.Held.{is_loose}
-use Rattle.shm_graph.specs.Laws.{Control}
-use Rattle.shm_graph.specs.Mapped.{mapped}
+use Rattle.shm_graph.specs.{declared.{ask.{Ask.Ask, Me.Me}, memo.Memo.Memo}, Asks.Trail, Events.Event, Held.is_loose}
+use Rattle.shm_graph.specs.{Laws.Control, Mapped.mapped}
 use Rattle.shm_steps.specs.Reparting.{map_in}
-use Rattle.shm_calls.specs.declared.or.Or.TheVariants.{First, Second}
-use Rattle.shm_calls.specs.CallsControl.{calls_control}
-use Rattle.shm_calls.specs.CallsPart.{calls_part}
-use Rattle.shm_calls.specs.Either.{or_control, or_part}
-use Rattle.shm_calls.specs.EventWords.{event_part}
-use Rattle.shm_calls.specs.Grown.{grown}
-use Rattle.shm_calls.specs.MappedParts.{mapped_part}
-use Rattle.shm_calls.specs.Parts.{Part}
-use Rattle.shm_calls.specs.Plans.{Planned}
-use Rattle.shm_calls.specs.Words.{word_control, word_part}
+use Rattle.shm_calls.specs.{declared.or.Or.TheVariants.{First, Second}, CallsControl.calls_control}
+use Rattle.shm_calls.specs.{CallsPart.calls_part, Either.{or_control, or_part}, EventWords.event_part, Grown.grown}
+use Rattle.shm_calls.specs.{MappedParts.mapped_part, Parts.Part, Plans.Planned, Words.{word_control, word_part}}
 use Rattle.shm_count.specs.Steady.{IsSteady, SameTable}
 
 -- ---- memos
@@ -58,6 +45,6 @@ or_steady j k p q h i (Second m) r0 r tr going fit = i m r0 r tr going fit
 pub calls_steady : {P C B A : Type 0} (k : Control C B) (q : Planned P C B A)
     → ((p : P) (r0 r : Memo) (tr : Trail) (es : List Event) → q.knows p r0 r tr es → SameTable r0 r)
     → ((p : P) → IsSteady k (q.part p))
-    → IsSteady (calls_control k q) (calls_part k q)
+    → IsSteady (calls_control k q.steered) (calls_part k q)
 calls_steady k q known calls m r0 r tr going fit =
     table_then r0 fit.rs r (known m.plan r0 fit.rs fit.before fit.es fit.knows) (calls m.plan m.call fit.rs r fit.t going fit.fits)

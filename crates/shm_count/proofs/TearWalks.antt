@@ -1,11 +1,9 @@
 -- what the events of a walk show
 use Rattle.std.proofs.Common.{◌≡◌, ℕ, refl, sym, ap, ◌∙◌, subst, List, [], ◌∷◌, ◌++◌, append_assoc, inl, inr}
-use Rattle.std.specs.Prelude.{◌⊎◌}
-use Rattle.std.specs.List.{All, Contains}
 use Rattle.std.proofs.lemmas.List.{append-nil}
 use Rattle.std.proofs.lemmas.List.Elements.{All-nil, All-cons, All-append, All-weaker, Contains-append_left, Contains-append_right, Contains-push}
-use Rattle.shm_graph.specs.declared.spot.Spot.TheVariants.{Body}
-use Rattle.shm_graph.specs.Events.{Event}
+use Rattle.std.specs.{Prelude.◌⊎◌, List.{All, Contains}}
+use Rattle.shm_graph.specs.{declared.spot.Spot.TheVariants.Body, Events.Event}
 use Rattle.shm_graph.specs.Events as event
 use Rattle.shm_laws.proofs.Keep.{newest}
 use Rattle.shm_count.specs.Tear.Events.{Walk, Freed, Kept, Fell, InOrder, events_of, Visit, Walks, IsTearing, frees_of}

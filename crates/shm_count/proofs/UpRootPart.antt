@@ -1,10 +1,7 @@
 -- the laws of an up at the least empty root as a part
 use Rattle.std.specs.Prelude.{Bool}
-use Rattle.shm_calls.specs.CallsPart.{calls_part_laws}
-use Rattle.shm_calls.specs.Parts.{PartLaws}
-use Rattle.shm_count.specs.UpRoot.Control.{rooting_parts}
-use Rattle.shm_count.specs.UpRoot.{rooting_plan}
-use Rattle.shm_count.specs.UpRoot.Laws.{rooting_laws}
+use Rattle.shm_calls.specs.{CallsPart.calls_part_laws, Parts.PartLaws}
+use Rattle.shm_count.specs.UpRoot.{Control.rooting_parts, rooting_plan, Laws.rooting_laws}
 use Rattle.shm_count.specs.UpRoot.AsPart.{up_root, up_root_part}
 
 pub up_root_laws : (first : Bool) → PartLaws first up_root up_root_part

@@ -1,19 +1,12 @@
 -- what waits in queues stays where a memo keeps its core, or all of it but own words
 use Rattle.std.proofs.Common.{◌≡◌, ℕ, refl, ap, sym, ◌∙◌}
 use Rattle.std.specs.Prelude.{slice_index}
-use Rattle.shm_graph.specs.declared.memo.Memo.{Memo}
-use Rattle.shm_graph.specs.declared.spot.Spot.{Spot}
-use Rattle.shm_graph.specs.declared.spot.Spot.TheVariants.{Home, Root}
-use Rattle.shm_graph.specs.declared.table.Part.{Part}
-use Rattle.shm_graph.specs.declared.table.Part.TheVariants.{Loose, Table}
-use Rattle.shm_graph.specs.Core.{core}
-use Rattle.shm_graph.specs.Held.{is_loose}
-use Rattle.shm_graph.specs.Ops.{On, cover}
+use Rattle.shm_graph.specs.declared.{memo.Memo.Memo, spot.Spot.{Spot, TheVariants.{Home, Root}}, table.Part.Part}
+use Rattle.shm_graph.specs.{declared.table.Part.TheVariants.{Loose, Table}, Core.core, Held.is_loose, Ops.{On, cover}}
 use Rattle.shm_graph.specs.Views.{own_word}
 use Rattle.shm_steps.specs.Reparting.{Sight, sight}
 use Rattle.shm_steps.proofs.PartsSet.{loose_stays}
-use Rattle.shm_count.specs.Step.Parts.{part_after}
-use Rattle.shm_count.specs.Waiting.{LeavesQueues, LeavesWaiting}
+use Rattle.shm_count.specs.{Step.Parts.part_after, Waiting.{LeavesQueues, LeavesWaiting}}
 
 -- ---- zero-count blocks, and what waits
 

@@ -1,14 +1,8 @@
 -- a call of a machine in a run of a pool
-use Rattle.std.specs.Prelude.{◌≡◌, ◌<◌, List, length}
-use Rattle.std.specs.List.{filter}
-use Rattle.shm_graph.specs.declared.ask.Me.{Me}
-use Rattle.shm_graph.specs.declared.run.Move.{Move}
-use Rattle.shm_graph.specs.Asks.{Trail}
-use Rattle.shm_graph.specs.CallEvents.{IsUnbroken, steps_in, events_in}
-use Rattle.shm_graph.specs.Events.{Event}
-use Rattle.shm_graph.specs.Laws.{Control}
-use Rattle.shm_graph.specs.Runs.{Held, Leads, State}
-use Rattle.shm_graph.specs.Tells.{GoesOn, is_event, machine_steps}
+use Rattle.std.specs.{Prelude.{◌≡◌, ◌<◌, List, length}, List.filter}
+use Rattle.shm_graph.specs.{declared.{ask.Me.Me, run.Move.Move}, Asks.Trail}
+use Rattle.shm_graph.specs.{CallEvents.{IsUnbroken, steps_in, events_in}, Events.Event, Laws.Control}
+use Rattle.shm_graph.specs.{Runs.{Held, Leads, State}, Tells.{GoesOn, is_event, machine_steps}}
 
 -- in a run from a held state one agent of the identity made the word steps of machine m with this trail, and no other ones
 pub record IsCall {S A : Type 0} (k : Control S A) (m : S) (a : State) (ms : List Move) (b : State) (tr : Trail) : Type 0 where

@@ -1,35 +1,20 @@
 -- what a walk found is carried over the steps up that make a new entry, until the step that links it may begin
 use Rattle.std.proofs.Common.{◌≡◌, ◌≢◌, ℕ, ◌%◌, ◌<◌, refl, sym, ap, ◌∙◌, subst, arith, true, false, eqb, if◌then◌else◌, List, [], map}
 use Rattle.std.specs.List.{Contains, list_any}
-use Rattle.shm_graph.specs.declared.ask.Me.{Me}
-use Rattle.shm_graph.specs.declared.spot.Spot.{Spot}
+use Rattle.shm_graph.specs.{declared.{ask.Me.Me, spot.Spot.Spot, memo.{Look.Look, Memo.Memo}}, Agents.recovers}
+use Rattle.shm_graph.specs.{Held.{HeldAt, is_loose}, Ops.cover_of, Reach.{learnt, is_reached}, Spots.spot_address}
+use Rattle.shm_graph.specs.{Telling.{role_in, roles_from}, Views.{view, own_word}}
 use Rattle.shm_graph.specs.declared.spot.Spot.TheVariants as spot
-use Rattle.shm_graph.specs.declared.memo.Look.{Look}
-use Rattle.shm_graph.specs.declared.memo.Memo.{Memo}
 use Rattle.shm_graph.specs.declared.memo.Op.TheVariants as op
-use Rattle.shm_graph.specs.Agents.{recovers}
-use Rattle.shm_graph.specs.Held.{HeldAt, is_loose}
-use Rattle.shm_graph.specs.Ops.{cover_of}
-use Rattle.shm_graph.specs.Reach.{learnt, is_reached}
-use Rattle.shm_graph.specs.Spots.{spot_address}
-use Rattle.shm_graph.specs.Telling.{role_in, roles_from}
-use Rattle.shm_graph.specs.Views.{view, own_word}
-use Rattle.shm_steps.specs.Beginning.{IsOwnWord}
-use Rattle.shm_steps.specs.Conditions.{IsHere}
+use Rattle.shm_steps.specs.{Beginning.IsOwnWord, Conditions.IsHere}
 use Rattle.shm_steps.specs.Reparting.{sight, map_in, IsKnown, IsTagged, IsNew, IsValue, TableStep}
-use Rattle.shm_steps.specs.Reparting.TableStep.{Prepares, Links}
-use Rattle.shm_steps.specs.Walking.{IsVacant, IsComing}
-use Rattle.shm_steps.proofs.BeginAt.{SlotHas}
-use Rattle.shm_steps.proofs.BeginWords.{own_word_has}
-use Rattle.shm_steps.proofs.PartsSet.{loose_stays}
-use Rattle.shm_steps.proofs.Reaching.{look_reached, home_reached, root_reached}
-use Rattle.shm_steps.proofs.Partitions.Reparted.{table_mapped}
+use Rattle.shm_steps.specs.{Reparting.TableStep.{Prepares, Links}, Walking.{IsVacant, IsComing}}
+use Rattle.shm_steps.proofs.{BeginAt.SlotHas, BeginWords.own_word_has, PartsSet.loose_stays}
+use Rattle.shm_steps.proofs.{Reaching.{look_reached, home_reached, root_reached}, Partitions.Reparted.table_mapped}
 use Rattle.shm_steps.proofs.Partitions.Words.{directory_word, tagged_word}
 use Rattle.shm_steps.proofs.Partitions.Walked.{new_not_home, new_not_value, first_other}
 use Rattle.shm_steps.proofs.Partitions.Seeking.{learnt_here, learnt_other, words_apart}
-use Rattle.shm_count.specs.declared.point.Aim.TheVariants.{Up, Change}
-use Rattle.shm_count.specs.Step.{CanStep}
-use Rattle.shm_count.specs.Step.Parts.{Raised, part_after}
+use Rattle.shm_count.specs.{declared.point.Aim.TheVariants.{Up, Change}, Step.{CanStep, Parts.{Raised, part_after}}}
 use Rattle.shm_count.specs.TableSteps.{can_fill, can_replace}
 
 -- ---- what a walk found stays so

@@ -6,38 +6,20 @@ pub mod Laws
 pub mod Machines
 use Rattle.std.specs.Prelude.{◌≡◌, ◌≢◌, ℕ, ◌+◌, ◌<◌, ◌≤◌, Bool, true, not, nat_lt, if◌then◌else◌, Option, Some, None, List, []}
 use Rattle.std.specs.List.{Contains}
+use Rattle.shm_words.specs.{declared.redo.Redo.Redo as ARedo, Headers.header_of}
+use Rattle.shm_words.specs.{Layout.{GeometryFits, address, total_of}, Redos.redo_of}
 use Rattle.shm_words.specs.declared.place.Place.TheVariants as place
-use Rattle.shm_words.specs.declared.redo.Redo.{Redo as ARedo}
 use Rattle.shm_words.specs.declared.redo.Redo.TheVariants as redos
-use Rattle.shm_words.specs.Headers.{header_of}
-use Rattle.shm_words.specs.Layout.{GeometryFits, address, total_of}
-use Rattle.shm_words.specs.Redos.{redo_of}
-use Rattle.shm_graph.specs.declared.ask.Ask.TheVariants.{Load}
-use Rattle.shm_graph.specs.declared.ask.Me.{Me}
-use Rattle.shm_graph.specs.declared.spot.Spot.TheVariants.{Era, Redo, RedoMore}
-use Rattle.shm_graph.specs.declared.memo.Memo.{Memo}
-use Rattle.shm_graph.specs.Agents.{recovers}
-use Rattle.shm_graph.specs.Asks.{Trail, IsWithin, pair}
-use Rattle.shm_graph.specs.Core.{core}
-use Rattle.shm_graph.specs.Events.{Event}
-use Rattle.shm_graph.specs.Held.{odd}
-use Rattle.shm_graph.specs.Ops.{on_of}
-use Rattle.shm_graph.specs.MemoAfterRead.{next_row}
-use Rattle.shm_graph.specs.Views.{own_word}
+use Rattle.shm_graph.specs.declared.{ask.{Ask.TheVariants.Load, Me.Me}, spot.Spot.TheVariants.{Era, Redo, RedoMore}}
+use Rattle.shm_graph.specs.{declared.memo.Memo.Memo, Agents.recovers, Asks.{Trail, IsWithin, pair}, Core.core}
+use Rattle.shm_graph.specs.{Events.Event, Held.odd, Ops.on_of, MemoAfterRead.next_row, Views.own_word}
 use Rattle.shm_steps.specs.WordParts.{TestBegun, TestGoesOn}
-use Rattle.shm_calls.specs.declared.word.Word.{Word}
-use Rattle.shm_calls.specs.Parts.{Part}
-use Rattle.shm_calls.specs.Plans.{Planned}
-use Rattle.shm_calls.specs.Words.{word_part}
-use Rattle.shm_count.specs.declared.commit_test.Commit.{Commit}
-use Rattle.shm_count.specs.declared.commit_test.Commit.TheVariants.{Committed, NotCommitted}
-use Rattle.shm_count.specs.declared.commit_test.Proof.{Proof}
+use Rattle.shm_calls.specs.{declared.word.Word.Word, Parts.Part, Plans.Planned, Words.word_part}
+use Rattle.shm_count.specs.declared.commit_test.{Commit.{Commit, TheVariants.{Committed, NotCommitted}}, Proof.Proof}
+use Rattle.shm_count.specs.declared.commit_test.TestingPoint.{TestingPoint, TheVariants.{Header, Row}}
+use Rattle.shm_count.specs.{declared.commit_test.TestingState.TestingState, CommitTest.StepTrail.read_part}
+use Rattle.shm_count.specs.CommitTest.Control.{is_header, is_shown, test_ask, testing_steered}
 use Rattle.shm_count.specs.declared.commit_test.Proof.TheVariants as proof
-use Rattle.shm_count.specs.declared.commit_test.TestingPoint.{TestingPoint}
-use Rattle.shm_count.specs.declared.commit_test.TestingPoint.TheVariants.{Header, Row}
-use Rattle.shm_count.specs.declared.commit_test.TestingState.{TestingState}
-use Rattle.shm_count.specs.CommitTest.StepTrail.{read_part}
-use Rattle.shm_count.specs.CommitTest.Control.{is_header, is_shown, test_after, test_ask, test_call, test_turns}
 
 -- ---- when it may begin
 
@@ -124,13 +106,7 @@ test_part m y = read_part (word_part (is_header y) m.me (test_ask m.me m.block m
 abbrev pub testing_plan : Planned TestingState Word ℕ Commit
 testing_plan =
     record {
-      me = λ m. m.me;
-      line = λ m. [];
-      first = λ m. is_header m.point;
-      start = λ m. record m { row = 0; point = Header };
-      call = λ m. test_call m m.point;
-      after = λ m. test_after m m.point;
-      turns = λ m. test_turns m m.point;
+      steered = testing_steered;
       part = λ m. test_part m m.point;
       knows = λ m. TestKnows m m.point;
       leaves = TestLeaves;

@@ -2,35 +2,20 @@
 use Rattle.std.proofs.Common.{◌≡◌, Bool, true, sym, ap, ◌∙◌, subst, arith, List}
 use Rattle.std.specs.Prelude.{Result}
 use Rattle.shm_words.proofs.Placing.{total_small}
-use Rattle.shm_graph.specs.declared.spot.Spot.{Spot}
-use Rattle.shm_graph.specs.declared.memo.Memo.{Memo}
-use Rattle.shm_graph.specs.Asks.{Trail}
-use Rattle.shm_graph.specs.Events.{Event}
-use Rattle.shm_graph.specs.Tells.{happens_along}
-use Rattle.shm_calls.specs.CallTells.{mapped_events}
-use Rattle.shm_calls.specs.Grown.{Grows}
-use Rattle.shm_calls.specs.Parts.{Part, PartLaws}
-use Rattle.shm_calls.specs.Placed.{placed}
-use Rattle.shm_count.specs.declared.answer.EraSpent.{EraSpent}
-use Rattle.shm_count.specs.declared.answer.UpFault.{UpFault}
-use Rattle.shm_count.specs.declared.point.StepPoint.TheVariants.{Era}
-use Rattle.shm_count.specs.declared.point.StepState.{StepState}
-use Rattle.shm_count.specs.declared.tear_point.TearPoint.TheVariants.{Begin}
-use Rattle.shm_count.specs.declared.tear_point.TearState.{TearState}
-use Rattle.shm_count.specs.Step.Control.{StepInRange, step_control}
-use Rattle.shm_count.specs.Step.Events.{step_event, own_events}
-use Rattle.shm_count.specs.Step.{CanStep, Gives, StepGives}
-use Rattle.shm_count.specs.Step.Going as steps
+use Rattle.shm_graph.specs.{declared.{spot.Spot.Spot, memo.Memo.Memo}, Asks.Trail, Events.Event, Tells.happens_along}
+use Rattle.shm_calls.specs.{CallTells.mapped_events, Grown.Grows, Parts.{Part, PartLaws}, Placed.placed}
+use Rattle.shm_count.specs.declared.{answer.{EraSpent.EraSpent, UpFault.UpFault}, point.StepPoint.TheVariants.Era}
+use Rattle.shm_count.specs.declared.{point.StepState.StepState, tear_point.TearPoint.TheVariants.Begin}
+use Rattle.shm_count.specs.{declared.tear_point.TearState.TearState, Step.Control.{StepInRange, step_control}}
+use Rattle.shm_count.specs.Step.{Events.{step_event, own_events}, CanStep, Gives, StepGives}
 use Rattle.shm_count.specs.Step.Machines.{IsUp, IsDown, IsChange, up_answer, up_control, up_told, down_answer, down_control, down_told}
 use Rattle.shm_count.specs.Step.Asks.{step_trail}
 use Rattle.shm_count.specs.StepsAt.{UpFitsAt, UpGivesAt, up_laws_at, up_tells_at, up_gave, DownFitsAt, DownGivesAt, down_laws_at, down_tells_at, down_gave, ChangeFitsAt, ChangeGivesAt, change_laws_at, change_tells_at}
-use Rattle.shm_count.specs.Tear.Control.{TearInRange, tear_control}
-use Rattle.shm_count.specs.Tear.Events.{tear_event}
-use Rattle.shm_count.specs.Tear.{CanTear, TearFits, TearGives, TearLeaves}
-use Rattle.shm_count.specs.Tear.Going as tears
-use Rattle.shm_count.specs.Tear.Keeps.{tear_laws}
-use Rattle.shm_count.specs.Tear.Tells.{tear_tells}
+use Rattle.shm_count.specs.Tear.{Control.{TearInRange, tear_control}, Events.tear_event}
+use Rattle.shm_count.specs.Tear.{CanTear, TearFits, TearGives, TearLeaves, Keeps.tear_laws, Tells.tear_tells}
 use Rattle.shm_count.specs.Tear.Asks.{tear_trail}
+use Rattle.shm_count.specs.Step.Going as steps
+use Rattle.shm_count.specs.Tear.Going as tears
 
 -- ---- count steps at the spot p
 

@@ -1,26 +1,14 @@
 -- the steps at an entry that a walk found may begin: its value word has another value block, or the word that leads to it the next entry or none
 use Rattle.std.proofs.Common.{◌≡◌, ◌≢◌, ℕ, ◌<◌, ap, subst, arith, true, false, List, ◌∷◌}
-use Rattle.shm_graph.specs.declared.ask.Me.{Me}
-use Rattle.shm_graph.specs.declared.spot.Spot.{Spot}
+use Rattle.shm_graph.specs.{declared.{ask.Me.Me, spot.Spot.Spot, memo.Memo.Memo, table.Entry.Entry}, Agents.recovers}
+use Rattle.shm_graph.specs.{Held.HeldAt, Ops.cover_of, Reach.is_reached, Spots.spot_address, Views.view}
 use Rattle.shm_graph.specs.declared.spot.Spot.TheVariants as spot
-use Rattle.shm_graph.specs.declared.memo.Memo.{Memo}
 use Rattle.shm_graph.specs.declared.memo.Op.TheVariants as op
-use Rattle.shm_graph.specs.declared.table.Entry.{Entry}
-use Rattle.shm_graph.specs.Agents.{recovers}
-use Rattle.shm_graph.specs.Held.{HeldAt}
-use Rattle.shm_graph.specs.Ops.{cover_of}
-use Rattle.shm_graph.specs.Reach.{is_reached}
-use Rattle.shm_graph.specs.Spots.{spot_address}
-use Rattle.shm_graph.specs.Views.{view}
-use Rattle.shm_steps.specs.Conditions.{IsHere}
-use Rattle.shm_steps.specs.Reparting.{sight, IsKnown, IsValue, TableStep}
+use Rattle.shm_steps.specs.{Conditions.IsHere, Reparting.{sight, IsKnown, IsValue, TableStep}}
 use Rattle.shm_steps.specs.Walking.{IsSeeking, is_looked}
-use Rattle.shm_steps.proofs.Reaching.{look_reached}
-use Rattle.shm_steps.proofs.Partitions.Seeking.{seek_own}
-use Rattle.shm_steps.proofs.Partitions.Words.{entry_word}
+use Rattle.shm_steps.proofs.{Reaching.look_reached, Partitions.{Seeking.seek_own, Words.entry_word}}
 use Rattle.shm_steps.proofs.Partitions.Walked.{walk_has, walk_unlinks, walk_replaces, next_other, entry_some, value_some}
-use Rattle.shm_count.specs.declared.point.Aim.TheVariants.{Down, Change}
-use Rattle.shm_count.specs.Step.{CanStep}
+use Rattle.shm_count.specs.{declared.point.Aim.TheVariants.{Down, Change}, Step.CanStep}
 use Rattle.shm_count.specs.TableSteps.{can_clear, can_replace}
 
 module _ (me : Me) (w : Spot → ℕ) (r : ℕ → Memo) (held : HeldAt me.geometry w (view r)) (who : me.who < me.geometry.clients) (here : IsHere (r me.who)) (idle : (r me.who).op ≡ op.Nothing) (client : recovers (r me.who) ≡ false)

@@ -1,42 +1,24 @@
 -- what a step down leaves whose slot is a word of a zero-count block: the block that the word names joins the zero-count blocks or stays counted, and the rest stays
 use Rattle.std.proofs.Common.{◌≡◌, ◌≢◌, ℕ, ◌+◌, ◌-◌, ◌^◌, ◌<◌, ◌≤◌, refl, sym, ap, ◌∙◌, subst, arith, Bool, true, false, not, cond, eqb, List, [], ◌∷◌, ◌++◌, append-nil}
-use Rattle.std.specs.Cmp.{nat_eq_equiv}
-use Rattle.std.specs.List.{Contains, filter}
-use Rattle.std.proofs.lemmas.Bool.{eq-eqb, ne_eqb, eqb-true, cond-true, or_right}
-use Rattle.std.proofs.lemmas.Bool.Decides.{nat_tests}
-use Rattle.std.proofs.lemmas.List.Elements.{Contains-append_right}
-use Rattle.std.proofs.lemmas.Map.Views.{list_any-from_Contains}
-use Rattle.shm_words.specs.Headers.{header_of}
-use Rattle.shm_words.specs.declared.header.Header.{Header}
+use Rattle.std.proofs.lemmas.Bool.{eq-eqb, ne_eqb, eqb-true, cond-true, or_right, Decides.nat_tests}
+use Rattle.std.proofs.lemmas.{List.Elements.Contains-append_right, Map.Views.list_any-from_Contains}
+use Rattle.std.specs.{Cmp.nat_eq_equiv, List.{Contains, filter}}
+use Rattle.shm_words.specs.{Headers.header_of, declared.header.Header.Header}
 use Rattle.shm_words.proofs.Words.{header_of-word, header_fits}
-use Rattle.shm_graph.specs.declared.ask.Me.{Me}
-use Rattle.shm_graph.specs.declared.spot.Spot.{Spot}
-use Rattle.shm_graph.specs.declared.spot.Spot.TheVariants.{Home, Era, Root, Tag, Body}
-use Rattle.shm_graph.specs.declared.memo.First.TheVariants.{Committed}
-use Rattle.shm_graph.specs.declared.memo.Memo.{Memo}
-use Rattle.shm_graph.specs.declared.memo.Op.{Op}
-use Rattle.shm_graph.specs.declared.memo.Op.TheVariants.{Nothing, Down as StepDown}
-use Rattle.shm_graph.specs.declared.memo.Stored.{Stored}
-use Rattle.shm_graph.specs.Chains.{part_set}
-use Rattle.shm_graph.specs.MemoAfterExchange.{without_made, reparted, cut}
-use Rattle.shm_graph.specs.Ops.{cover, cover_of}
+use Rattle.shm_graph.specs.declared.{ask.Me.Me, spot.Spot.{Spot, TheVariants.{Home, Era, Root, Tag, Body}}}
+use Rattle.shm_graph.specs.declared.memo.{First.TheVariants.Committed, Memo.Memo, Op.Op}
+use Rattle.shm_graph.specs.{declared.memo.{Op.TheVariants.{Nothing, Down as StepDown}, Stored.Stored}, Chains.part_set}
+use Rattle.shm_graph.specs.{MemoAfterExchange.{without_made, reparted, cut}, Ops.{cover, cover_of}}
 use Rattle.shm_graph.specs.Reach.{learnt, not_at, shown, is_named, is_reached, is_dying, binds, sifted}
-use Rattle.shm_graph.specs.MemoAfterStore.{is_of, not_of, with_own, written, stored_on, era_stored}
-use Rattle.shm_graph.specs.Views.{own_word}
-use Rattle.shm_graph.proofs.StepKinds.Loads.{choice}
-use Rattle.shm_graph.proofs.Spots.Spotting.{same_spot_not}
+use Rattle.shm_graph.specs.{MemoAfterStore.{is_of, not_of, with_own, written, stored_on, era_stored}, Views.own_word}
+use Rattle.shm_graph.specs.Core.{core}
+use Rattle.shm_graph.proofs.{StepKinds.Loads.choice, Spots.Spotting.same_spot_not}
 use Rattle.shm_laws.specs.HeaderExchanges.{dying_after}
 use Rattle.shm_laws.proofs.Keep.{Contains-filter}
-use Rattle.shm_steps.proofs.MemoCommits.{known_lowered, lowered_is}
-use Rattle.shm_steps.proofs.Sifting.{dying_more}
-use Rattle.shm_count.specs.declared.point.Aim.TheVariants.{Down}
-use Rattle.shm_count.specs.declared.point.Half.TheVariants.{First}
-use Rattle.shm_count.specs.Step.Control.{header_after}
-use Rattle.shm_graph.specs.Core.{core}
-use Rattle.shm_count.specs.Step.{begun, is_row, AtFirst, slot_memo, closed_memo, Done}
-use Rattle.shm_steps.proofs.Cores.{body_word}
+use Rattle.shm_steps.proofs.{MemoCommits.{known_lowered, lowered_is}, Sifting.dying_more, Cores.body_word}
+use Rattle.shm_count.specs.{declared.point.{Aim.TheVariants.Down, Half.TheVariants.First}, Step.Control.header_after}
+use Rattle.shm_count.specs.Step.{begun, is_row, AtFirst, slot_memo, closed_memo, Done, Parts.{own_stays, rows_grow}}
 use Rattle.shm_count.specs.Retaining.{slots_learnt, slots_forgotten, slots_sifted, named_same, named_sifted, value_sifted}
-use Rattle.shm_count.specs.Step.Parts.{own_stays, rows_grow}
 use Rattle.shm_count.specs.Tear.Memos.{Knows, IsFound, Lowered, is_slot_word}
 
 -- ---- what is known of a zero-count block stays known

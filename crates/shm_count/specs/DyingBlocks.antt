@@ -1,31 +1,18 @@
 -- zero-count blocks in a pool that holds: nothing names them, no partition is read from them, and what their tags and words tell
 use Rattle.std.proofs.Common.{◌≡◌, ◌≢◌, ℕ, suc, ◌+◌, ◌<◌, ◌≤◌, refl, sym, ap, ◌∙◌, subst, arith, false, eqb, ltb, ◌&&◌, List, [], ◌∷◌, map, get_or, Some, inl, inr, Bool}
-use Rattle.std.specs.List.{Contains}
 use Rattle.std.proofs.lemmas.Bool.{cases_eq, cases_lt, eq-eqb, ne_eqb, lt-ltb, cond-true, cond-false}
-use Rattle.shm_words.specs.declared.geometry.Geometry.{Geometry}
-use Rattle.shm_words.specs.declared.tag.Tag.{Tag as ATag}
+use Rattle.std.specs.List.{Contains}
+use Rattle.shm_words.specs.declared.{geometry.Geometry.Geometry, tag.Tag.Tag as ATag}
 use Rattle.shm_words.specs.Tags.{tag_word, tag_of, tag_refs, tag_plain, tag_author, tag_link, TagFits}
-use Rattle.shm_words.specs.Classes.{IsClass, class_for}
-use Rattle.shm_words.specs.Layout.{total_of}
-use Rattle.shm_words.proofs.Classing.{class_is, class_room}
-use Rattle.shm_words.proofs.Words.{tag_fits, tag_from_fields, tag_word-of}
-use Rattle.shm_graph.specs.declared.spot.Spot.{Spot}
-use Rattle.shm_graph.specs.declared.spot.Spot.TheVariants.{Home, Tag, Body}
-use Rattle.shm_graph.specs.declared.memo.Memo.{Memo}
-use Rattle.shm_graph.specs.declared.memo.Op.{Op}
-use Rattle.shm_graph.specs.declared.memo.Op.TheVariants.{Nothing}
-use Rattle.shm_graph.specs.declared.memo.Stored.{Stored}
-use Rattle.shm_graph.specs.declared.table.Entry.{Entry}
-use Rattle.shm_graph.specs.declared.table.Part.{Part}
-use Rattle.shm_graph.specs.declared.table.Part.TheVariants.{Loose, Table}
-use Rattle.shm_graph.specs.Spots.{class_at, same_spot, spot_at, upd}
-use Rattle.shm_graph.specs.Blocks.{classes, headers, IsBlock, IsLive}
-use Rattle.shm_graph.specs.References.{words_of, refs_of}
-use Rattle.shm_graph.specs.Ops.{cover, cover_of, covered, slot_of}
-use Rattle.shm_graph.specs.Views.{view, own_word, targets}
+use Rattle.shm_words.specs.{Classes.{IsClass, class_for}, Layout.total_of}
+use Rattle.shm_words.proofs.{Classing.{class_is, class_room}, Words.{tag_fits, tag_from_fields, tag_word-of}}
+use Rattle.shm_graph.specs.declared.{spot.Spot.{Spot, TheVariants.{Home, Tag, Body}}, memo.{Memo.Memo, Op.Op}}
+use Rattle.shm_graph.specs.declared.{memo.{Op.TheVariants.Nothing, Stored.Stored}, table.{Entry.Entry, Part.Part}}
+use Rattle.shm_graph.specs.{declared.table.Part.TheVariants.{Loose, Table}, Spots.{class_at, same_spot, spot_at, upd}}
+use Rattle.shm_graph.specs.{Blocks.{classes, headers, IsBlock, IsLive}, References.{words_of, refs_of}}
+use Rattle.shm_graph.specs.{Ops.{cover, cover_of, covered, slot_of}, Views.{view, own_word, targets}}
 use Rattle.shm_graph.specs.Held.{HeldAt, IsDying, PartTie, TagSound}
-use Rattle.shm_graph.specs.Tables.{Contents, contents_of, IsChain, IsPartition}
-use Rattle.shm_graph.specs.Chains.{chain_set, part_set}
+use Rattle.shm_graph.specs.{Tables.{Contents, contents_of, IsChain, IsPartition}, Chains.{chain_set, part_set}}
 use Rattle.shm_graph.specs.Reach.{shown}
 use Rattle.shm_graph.proofs.States.Counting.{cover_slot, covered_none}
 use Rattle.shm_graph.proofs.States.Holders.{held_live_block, held_live_not_zero, reach_counted, step_holds, target_counted}

@@ -1,26 +1,14 @@
 -- an identity between two calls is between two calls once a count step was made, or refused, and after a tear-down
 use Rattle.std.proofs.Common.{◌≡◌, ℕ, Bool, true, false, List, refl, ap, sym, ◌∙◌}
-use Rattle.std.specs.List.{filter}
-use Rattle.std.specs.Prelude.{Result, Ok, Err}
-use Rattle.shm_graph.specs.declared.ask.Me.{Me}
-use Rattle.shm_graph.specs.declared.memo.Memo.{Memo}
-use Rattle.shm_graph.specs.declared.memo.Stored.{Stored}
-use Rattle.shm_graph.specs.declared.spot.Spot.{Spot}
-use Rattle.shm_graph.specs.declared.spot.Spot.TheVariants.{Hold, Home, Root, Slot}
-use Rattle.shm_graph.specs.declared.memo.Status.TheVariants.{New, Live, Gone}
-use Rattle.shm_graph.specs.Events.{Event}
-use Rattle.shm_graph.specs.Idle.{IsIdle, hold_word}
-use Rattle.shm_graph.specs.MemoAfterStore.{other_than, put}
-use Rattle.shm_graph.specs.Views.{own_word}
+use Rattle.std.specs.{List.filter, Prelude.{Result, Ok, Err}}
+use Rattle.shm_graph.specs.declared.{ask.Me.Me, memo.{Memo.Memo, Stored.Stored, Status.TheVariants.{New, Live, Gone}}}
+use Rattle.shm_graph.specs.{declared.spot.Spot.{Spot, TheVariants.{Hold, Home, Root, Slot}}, Events.Event}
+use Rattle.shm_graph.specs.{Idle.{IsIdle, hold_word}, MemoAfterStore.{other_than, put}, Views.own_word}
 use Rattle.shm_graph.proofs.Idles.{idle_own}
-use Rattle.shm_steps.specs.Conditions.{IsHere}
-use Rattle.shm_steps.specs.Reparting.{sight}
-use Rattle.shm_count.specs.declared.answer.UpFault.{UpFault}
-use Rattle.shm_count.specs.declared.point.Aim.{Aim}
-use Rattle.shm_count.specs.declared.point.Aim.TheVariants.{Up, Down, Change}
+use Rattle.shm_steps.specs.{Conditions.IsHere, Reparting.sight}
+use Rattle.shm_count.specs.declared.{answer.UpFault.UpFault, point.Aim.{Aim, TheVariants.{Up, Down, Change}}}
 use Rattle.shm_count.specs.Slots.{Filled, StepDid, Took, Untouched, emptied, known_at, slotted, unsent_at}
-use Rattle.shm_count.specs.Step.Parts.{part_after}
-use Rattle.shm_count.specs.Tear.Memos.{TearStays}
+use Rattle.shm_count.specs.{Step.Parts.part_after, Tear.Memos.TearStays}
 
 -- an identity between two calls is here
 pub is_here : (c : ℕ) (r : Memo) → IsIdle c r → IsHere r

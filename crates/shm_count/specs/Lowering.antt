@@ -1,24 +1,12 @@
 -- a count that came to 0: the tear-down that follows a step which took the last reference to a block
 use Rattle.std.proofs.Common.{◌≡◌, ℕ, ◌-◌, ◌^◌, ◌<◌, refl, sym, ap, ◌∙◌, subst, arith, Bool, true, false, not, cond, List, [], ◌∷◌, ◌++◌, append-nil, inl, inr}
-use Rattle.std.specs.Prelude.{Result, Ok, Err}
-use Rattle.std.specs.List.{All, Contains, filter}
-use Rattle.std.proofs.lemmas.Bool.{eq-eqb, ne_eqb}
-use Rattle.std.proofs.lemmas.List.Elements.{Contains-append_right, Contains-push}
-use Rattle.shm_graph.specs.declared.ask.Me.{Me}
-use Rattle.shm_graph.specs.declared.spot.Spot.{Spot}
-use Rattle.shm_graph.specs.declared.memo.Memo.{Memo}
-use Rattle.shm_graph.specs.Asks.{Trail}
-use Rattle.shm_graph.specs.Events.{Event}
-use Rattle.shm_graph.specs.Reach.{is_named}
-use Rattle.shm_graph.specs.MemoAfterStore.{not_block}
+use Rattle.std.proofs.lemmas.{Bool.{eq-eqb, ne_eqb}, List.Elements.{Contains-append_right, Contains-push}}
+use Rattle.std.specs.{Prelude.{Result, Ok, Err}, List.{All, Contains, filter}}
+use Rattle.shm_graph.specs.{declared.{ask.Me.Me, spot.Spot.Spot, memo.Memo.Memo}, Asks.Trail, Events.Event}
+use Rattle.shm_graph.specs.{Reach.is_named, MemoAfterStore.not_block}
 use Rattle.shm_calls.specs.Parts.{IsHeld}
-use Rattle.shm_count.specs.declared.answer.EraSpent.{EraSpent}
-use Rattle.shm_count.specs.Retaining.{held_counted, named_stays}
-use Rattle.shm_count.specs.Roots.{rest}
-use Rattle.shm_count.specs.Slots.{Lost, Took}
-use Rattle.shm_count.specs.Tear.Events.{Visit}
-use Rattle.shm_count.specs.Tear.{TearLeaves, is_outside}
-use Rattle.shm_count.specs.Tear.Memos.{Retains, TearStays}
+use Rattle.shm_count.specs.{declared.answer.EraSpent.EraSpent, Retaining.{held_counted, named_stays}, Roots.rest}
+use Rattle.shm_count.specs.{Slots.{Lost, Took}, Tear.{Events.Visit, TearLeaves, is_outside, Memos.{Retains, TearStays}}}
 
 -- the own era left no room for a step down: these blocks joined the zero-count blocks, and are still there
 pub record StoppedAt (me : Me) (m r : Memo) (era : ℕ) (vs : List Visit) : Type 0 where

@@ -1,49 +1,25 @@
 -- count steps, tear-downs and blocks that the call made: what stays of them, and that the count of one that is to be raised isn't full
 use Rattle.std.proofs.Common.{◌≡◌, ℕ, ◌<◌, refl, sym, ap, ◌∙◌, subst, arith, Bool, true, false, eqb, ltb, ◌&&◌, [], ◌∷◌, ◌++◌}
-use Rattle.std.specs.Prelude.{◌==◌, if◌then◌else◌, Result, Ok, Err}
-use Rattle.std.specs.List.{Contains, list_any}
-use Rattle.std.specs.Option.{option_map}
-use Rattle.std.proofs.lemmas.Bool.{and_parts, eqb-true, true≢false}
-use Rattle.std.proofs.lemmas.List.Elements.{All-contains}
+use Rattle.std.proofs.lemmas.{Bool.{and_parts, eqb-true, true≢false}, List.Elements.All-contains}
+use Rattle.std.specs.{Prelude.{◌==◌, if◌then◌else◌, Result, Ok, Err}, List.{Contains, list_any}, Option.option_map}
 use Rattle.shm_words.specs.Headers.{header_of}
-use Rattle.shm_graph.specs.declared.ask.Ask.{Ask}
-use Rattle.shm_graph.specs.declared.ask.Me.{Me}
-use Rattle.shm_graph.specs.declared.spot.Spot.{Spot}
-use Rattle.shm_graph.specs.declared.spot.Spot.TheVariants.{Head, Root}
-use Rattle.shm_graph.specs.declared.memo.Memo.{Memo}
-use Rattle.shm_graph.specs.Asks.{at_of, pair, seen_of}
-use Rattle.shm_graph.specs.Blocks.{classes, IsBlock}
-use Rattle.shm_graph.specs.Changes.{memo_on}
-use Rattle.shm_graph.specs.Held.{HeldAt, MadeAt}
-use Rattle.shm_graph.specs.Laws.{Outcome, framed}
-use Rattle.shm_graph.specs.Spots.{spot_at}
-use Rattle.shm_graph.specs.Views.{targets, view}
+use Rattle.shm_graph.specs.declared.{ask.{Ask.Ask, Me.Me}, spot.Spot.{Spot, TheVariants.{Head, Root}}, memo.Memo.Memo}
+use Rattle.shm_graph.specs.{Asks.{at_of, pair, seen_of}, Blocks.{classes, IsBlock}, Changes.memo_on}
+use Rattle.shm_graph.specs.{Held.{HeldAt, MadeAt}, Laws.{Outcome, framed}, Spots.spot_at, Views.{targets, view}}
 use Rattle.shm_graph.proofs.StepKinds.Loads.{choice}
-use Rattle.shm_calls.specs.CallTells.{mapped_events}
-use Rattle.shm_calls.specs.MadeStays.{making_laws, making_part, touches}
-use Rattle.shm_calls.specs.Parts.{Part, PartLaws}
-use Rattle.shm_calls.specs.Placed.{PlacedKeeps}
-use Rattle.shm_count.specs.declared.answer.EraSpent.{EraSpent as AEraSpent}
-use Rattle.shm_count.specs.declared.answer.UpFault.{UpFault}
-use Rattle.shm_count.specs.declared.answer.UpFault.TheVariants.{EraSpent, CountFull}
-use Rattle.shm_count.specs.declared.point.Aim.{Aim}
-use Rattle.shm_count.specs.declared.point.Aim.TheVariants.{Up, Down, Change}
-use Rattle.shm_count.specs.declared.point.Half.{Half}
-use Rattle.shm_count.specs.declared.point.Half.TheVariants.{First, Second}
-use Rattle.shm_count.specs.declared.point.StepPoint.{StepPoint}
-use Rattle.shm_count.specs.declared.point.StepPoint.TheVariants as point
-use Rattle.shm_count.specs.declared.point.StepState.{StepState}
-use Rattle.shm_count.specs.declared.point.StepNext.{StepNext}
-use Rattle.shm_count.specs.declared.point.StepNext.TheVariants.{Point, Answer}
-use Rattle.shm_count.specs.declared.tear_point.TearState.{TearState}
+use Rattle.shm_calls.specs.{CallTells.mapped_events, MadeStays.{making_laws, making_part, touches}}
+use Rattle.shm_calls.specs.{Parts.{Part, PartLaws}, Placed.PlacedKeeps}
+use Rattle.shm_count.specs.declared.answer.{EraSpent.EraSpent as AEraSpent, UpFault.UpFault}
+use Rattle.shm_count.specs.declared.{answer.UpFault.TheVariants.{EraSpent, CountFull}, point.Aim.Aim}
+use Rattle.shm_count.specs.declared.point.{Aim.TheVariants.{Up, Down, Change}, Half.{Half, TheVariants.{First, Second}}}
+use Rattle.shm_count.specs.declared.point.{StepPoint.StepPoint, StepState.StepState, StepNext.StepNext}
+use Rattle.shm_count.specs.declared.{point.StepNext.TheVariants.{Point, Answer}, tear_point.TearState.TearState}
 use Rattle.shm_count.specs.Step.Control.{PointFits, answer_of, block_at, committed_next, header_next, last_era, raises, step_ask, step_ask_at, step_control, step_next, step_next_at, first_next}
-use Rattle.shm_count.specs.Step.Events.{events_at, step_event, step_start}
-use Rattle.shm_count.specs.Step.{CanStep, PointHas}
-use Rattle.shm_count.specs.Step.Headers.{half_block}
-use Rattle.shm_count.specs.Step.Machines.{is_up, up_answer, up_control, down_control}
-use Rattle.shm_count.specs.Tear.Control.{tear_control}
+use Rattle.shm_count.specs.Step.{Events.{events_at, step_event, step_start}, CanStep, PointHas, Headers.half_block}
+use Rattle.shm_count.specs.{Step.Machines.{is_up, up_answer, up_control, down_control}, Tear.Control.tear_control}
 use Rattle.shm_count.specs.Tear.Events.{tear_start}
 use Rattle.shm_count.specs.CountParts.{change_part, change_part_laws, down_part, down_part_laws, tear_part, tear_part_laws, up_part, up_part_laws}
+use Rattle.shm_count.specs.declared.point.StepPoint.TheVariants as point
 
 -- ---- what stays of the blocks that the call made
 

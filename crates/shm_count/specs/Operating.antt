@@ -1,24 +1,13 @@
 -- a tear-down as an operation: when it may begin between two calls
 use Rattle.std.proofs.Common.{◌≡◌, ℕ, ◌+◌, ◌≤◌, ◌<◌, true, List, sym, ap, subst, arith}
-use Rattle.std.specs.Prelude.{Result, Ok, Err}
-use Rattle.std.specs.List.{Contains}
+use Rattle.std.specs.{Prelude.{Result, Ok, Err}, List.Contains}
 use Rattle.shm_words.specs.Layout.{total_of}
-use Rattle.shm_graph.specs.declared.ask.Me.{Me}
-use Rattle.shm_graph.specs.declared.memo.Memo.{Memo}
-use Rattle.shm_graph.specs.Asks.{Trail}
-use Rattle.shm_graph.specs.Events.{Event}
-use Rattle.shm_graph.specs.Idle.{IsIdle}
+use Rattle.shm_graph.specs.{declared.{ask.Me.Me, memo.Memo.Memo}, Asks.Trail, Events.Event, Idle.IsIdle}
 use Rattle.shm_graph.specs.Operations.{IsHeld, IsReady, OperationLaws}
-use Rattle.shm_count.specs.declared.answer.EraSpent.{EraSpent}
-use Rattle.shm_count.specs.declared.tear_point.TearPoint.TheVariants.{Begin}
-use Rattle.shm_count.specs.declared.tear_point.TearState.{TearState}
-use Rattle.shm_count.specs.CountParts.{IsTear, tear_left, tear_part_laws}
-use Rattle.shm_count.specs.DyingBlocks.{dying_header, live_room}
-use Rattle.shm_count.specs.Idles.{is_here, stays_idle}
-use Rattle.shm_count.specs.Step.Control.{IsInside}
-use Rattle.shm_count.specs.Tear.Control.{tear_control}
-use Rattle.shm_count.specs.Tear.Events.{tear_event}
-use Rattle.shm_count.specs.Tear.Tells.{tear_tells}
+use Rattle.shm_count.specs.declared.{answer.EraSpent.EraSpent, tear_point.TearPoint.TheVariants.Begin}
+use Rattle.shm_count.specs.{declared.tear_point.TearState.TearState, CountParts.{IsTear, tear_left, tear_part_laws}}
+use Rattle.shm_count.specs.{DyingBlocks.{dying_header, live_room}, Idles.{is_here, stays_idle}, Step.Control.IsInside}
+use Rattle.shm_count.specs.Tear.{Control.tear_control, Events.tear_event, Tells.tear_tells}
 use Rattle.shm_count.specs.Tear.{TearFits, TearGives, TearLeaves}
 
 -- a tear-down of block b, before its first word step

@@ -1,11 +1,7 @@
 -- why a count step was refused
-use Rattle.std.specs.Prelude.{◌≡◌, ℕ}
-use Rattle.std.specs.List.{Contains}
+use Rattle.std.specs.{Prelude.{◌≡◌, ℕ}, List.Contains}
 use Rattle.shm_words.specs.Headers.{header_of}
-use Rattle.shm_graph.specs.declared.ask.Ask.{Ask}
-use Rattle.shm_graph.specs.declared.ask.Ask.TheVariants.{Load, Store, Exchange}
-use Rattle.shm_graph.specs.declared.memo.Seen.{Seen}
-use Rattle.shm_graph.specs.Asks.{Trail}
+use Rattle.shm_graph.specs.{declared.{ask.Ask.{Ask, TheVariants.{Load, Store, Exchange}}, memo.Seen.Seen}, Asks.Trail}
 
 -- a load of the word at b, or an exchange there
 abbrev pub IsReading : ℕ → Ask → Type 0

@@ -1,33 +1,20 @@
 -- what stays known: head slots, and words and value blocks of blocks that are named
 use Rattle.std.proofs.Common.{◌≡◌, ◌≢◌, ℕ, ◌<◌, refl, sym, ap, ◌∙◌, subst, Bool, true, false, not, eqb, List, [], ◌∷◌, ◌++◌, map, inl, inr}
-use Rattle.std.specs.List.{Contains, filter, list_any}
 use Rattle.std.proofs.lemmas.Bool.{cases_Bool, cond-true, cond-false, eqb-true, or_left, true≢false, false≢true}
-use Rattle.std.proofs.lemmas.List.Elements.{All-contains, All-contains_itself, All-filter}
-use Rattle.std.proofs.lemmas.List.Folds.{list_any-append}
+use Rattle.std.proofs.lemmas.List.{Elements.{All-contains, All-contains_itself, All-filter}, Folds.list_any-append}
+use Rattle.std.specs.List.{Contains, filter, list_any}
 use Rattle.shm_words.specs.declared.geometry.Geometry.{Geometry}
-use Rattle.shm_graph.specs.declared.spot.Spot.{Spot}
-use Rattle.shm_graph.specs.declared.spot.Spot.TheVariants.{Home, Root, Slot, Tag, Body}
-use Rattle.shm_graph.specs.declared.memo.Look.{Look}
-use Rattle.shm_graph.specs.declared.memo.Memo.{Memo}
-use Rattle.shm_graph.specs.declared.memo.Op.{Op}
-use Rattle.shm_graph.specs.declared.memo.Stored.{Stored}
-use Rattle.shm_graph.specs.Blocks.{headers}
-use Rattle.shm_graph.specs.Held.{HeldAt, IsDying, is_slot}
-use Rattle.shm_graph.specs.Ops.{cover, cover_of}
+use Rattle.shm_graph.specs.declared.{spot.Spot.{Spot, TheVariants.{Home, Root, Slot, Tag, Body}}, memo.Look.Look}
+use Rattle.shm_graph.specs.{declared.{memo.{Memo.Memo, Op.Op, Stored.Stored}, ask.Me.Me}, Blocks.headers}
+use Rattle.shm_graph.specs.{Held.{HeldAt, IsDying, is_slot}, Ops.{cover, cover_of}}
 use Rattle.shm_graph.specs.Reach.{learnt, not_at, shown, in_slot, in_slots, not_zero, named_blocks, roots_below, is_named, is_reached, is_dying, binds, sifted}
-use Rattle.shm_graph.specs.MemoAfterStore.{is_of, not_of}
-use Rattle.shm_graph.specs.Views.{view, own_word}
-use Rattle.shm_graph.proofs.States.Holders.{reach_counted}
-use Rattle.shm_graph.proofs.StepKinds.Loads.{choice}
-use Rattle.shm_graph.proofs.States.Reached.{named_here}
+use Rattle.shm_graph.specs.{MemoAfterStore.{is_of, not_of}, Views.{view, own_word}, Core.core}
+use Rattle.shm_graph.proofs.{States.{Holders.reach_counted, Reached.named_here}, StepKinds.Loads.choice}
 use Rattle.shm_graph.proofs.Spots.Spotting.{same_spot_not}
 use Rattle.shm_laws.proofs.Keep.{Contains-filter}
-use Rattle.shm_count.specs.DyingBlocks.{dying_header}
-use Rattle.shm_graph.specs.Core.{core}
+use Rattle.shm_count.specs.{DyingBlocks.dying_header, Tear.Memos.{TearStays, Knows, Retains, is_slot_word, Remains}}
 use Rattle.shm_steps.proofs.Cores.{roots_same}
-use Rattle.shm_count.specs.Tear.Memos.{TearStays, Knows, Retains, is_slot_word, Remains}
 use Rattle.shm_calls.specs.Parts.{IsHeld}
-use Rattle.shm_graph.specs.declared.ask.Me.{Me}
 
 -- ---- head slots
 

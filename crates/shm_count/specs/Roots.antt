@@ -1,23 +1,13 @@
 -- count steps at roots, and tear-downs, as they are made before their first word step
 use Rattle.std.specs.Prelude.{◌≡◌, ◌≢◌, ℕ, ◌<◌, Bool, true, false, if◌then◌else◌, None, [], ◌∷◌, ◌++◌}
-use Rattle.shm_words.specs.declared.geometry.Geometry.{Geometry}
-use Rattle.shm_words.specs.declared.place.Place.TheVariants as place
-use Rattle.shm_words.specs.Layout.{address}
-use Rattle.shm_graph.specs.declared.ask.Me.{Me}
-use Rattle.shm_graph.specs.declared.memo.Memo.{Memo}
-use Rattle.shm_graph.specs.declared.memo.Op.TheVariants.{Nothing}
-use Rattle.shm_graph.specs.declared.spot.Spot.{Spot}
-use Rattle.shm_graph.specs.declared.spot.Spot.TheVariants.{Root}
-use Rattle.shm_graph.specs.Spots.{same_spot}
 use Rattle.std.specs.List.{Contains, filter}
-use Rattle.shm_graph.specs.MemoAfterStore.{is_of}
-use Rattle.shm_graph.specs.Reach.{is_named, is_reached}
-use Rattle.shm_graph.specs.Views.{own_word}
-use Rattle.shm_count.specs.declared.point.Aim.{Aim}
-use Rattle.shm_count.specs.declared.point.StepPoint.TheVariants.{Era}
-use Rattle.shm_count.specs.declared.point.StepState.{StepState}
-use Rattle.shm_count.specs.declared.tear_point.TearPoint.TheVariants.{Begin}
-use Rattle.shm_count.specs.declared.tear_point.TearState.{TearState}
+use Rattle.shm_words.specs.{declared.geometry.Geometry.Geometry, Layout.address}
+use Rattle.shm_words.specs.declared.place.Place.TheVariants as place
+use Rattle.shm_graph.specs.declared.{ask.Me.Me, memo.{Memo.Memo, Op.TheVariants.Nothing}, spot.Spot.Spot}
+use Rattle.shm_graph.specs.{declared.spot.Spot.TheVariants.Root, Spots.same_spot, MemoAfterStore.is_of}
+use Rattle.shm_graph.specs.{Reach.{is_named, is_reached}, Views.own_word}
+use Rattle.shm_count.specs.declared.point.{Aim.Aim, StepPoint.TheVariants.Era, StepState.StepState}
+use Rattle.shm_count.specs.declared.tear_point.{TearPoint.TheVariants.Begin, TearState.TearState}
 use Rattle.shm_count.specs.Tear.Memos.{is_lasting, is_slot_word, Knows}
 
 -- the identity c of a pool of these sizes

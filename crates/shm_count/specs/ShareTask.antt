@@ -1,20 +1,12 @@
 -- a share as an operation: when it may begin between two calls
 use Rattle.std.proofs.Common.{◌≡◌, ℕ, true, false, List, [], refl, sym, subst}
 use Rattle.std.specs.Prelude.{Result, Ok, Err}
-use Rattle.shm_graph.specs.declared.ask.Me.{Me}
-use Rattle.shm_graph.specs.declared.memo.Memo.{Memo}
-use Rattle.shm_graph.specs.declared.spot.Spot.TheVariants.{Root}
-use Rattle.shm_graph.specs.Agents.{recovers}
-use Rattle.shm_graph.specs.Asks.{Trail}
-use Rattle.shm_graph.specs.Events.{Event}
-use Rattle.shm_graph.specs.Idle.{IsIdle}
-use Rattle.shm_graph.specs.Reach.{is_reached}
+use Rattle.shm_graph.specs.{declared.{ask.Me.Me, memo.Memo.Memo, spot.Spot.TheVariants.Root}, Agents.recovers}
+use Rattle.shm_graph.specs.{Asks.Trail, Events.Event, Idle.IsIdle, Reach.is_reached}
 use Rattle.shm_graph.proofs.Idles.{idle_core}
 use Rattle.shm_calls.specs.Tasks.{IsNew, TaskLaws}
-use Rattle.shm_count.specs.declared.answer.ShareFault.{ShareFault}
-use Rattle.shm_count.specs.declared.answer.ShareFault.TheVariants.{EraSpent, RootsFull, CountFull}
-use Rattle.shm_count.specs.declared.up_root.RootingState.{RootingState}
-use Rattle.shm_count.specs.UpRoot.Control.{rooting, rooting_parts}
+use Rattle.shm_count.specs.declared.answer.ShareFault.{ShareFault, TheVariants.{EraSpent, RootsFull, CountFull}}
+use Rattle.shm_count.specs.{declared.up_root.RootingState.RootingState, UpRoot.Control.{rooting, rooting_parts}}
 use Rattle.shm_count.specs.UpRoot.{RootingKnows, UpRootLeaves, rooting_plan}
 use Rattle.shm_count.specs.Idles.{filled_idle, untouched_idle, is_here}
 

@@ -5,33 +5,17 @@ pub mod Changes
 pub mod Parts
 use Rattle.std.specs.Prelude.{◌≡◌, ◌≢◌, ℕ, ◌+◌, ◌^◌, ◌<◌, ◌≤◌, Bool, true, false, if◌then◌else◌, Result, Ok, Err, List, [], ◌∷◌, ◌++◌}
 use Rattle.std.specs.List.{Contains, filter}
-use Rattle.shm_graph.specs.declared.spot.Spot.{Spot}
-use Rattle.shm_graph.specs.declared.spot.Spot.TheVariants.{Home, Era, Root, Slot, Body}
-use Rattle.shm_graph.specs.declared.memo.Memo.{Memo}
-use Rattle.shm_graph.specs.declared.memo.Op.TheVariants.{Nothing}
-use Rattle.shm_graph.specs.declared.memo.Stored.{Stored}
-use Rattle.shm_graph.specs.Reach.{learnt}
-use Rattle.shm_graph.specs.MemoAfterStore.{is_of, other_than, put, with_own}
-use Rattle.shm_graph.specs.Views.{own_word}
-use Rattle.shm_steps.specs.Reparting.{sight}
-use Rattle.shm_graph.specs.declared.ask.Me.{Me}
-use Rattle.shm_graph.specs.Asks.{Trail, IsWithin}
-use Rattle.shm_graph.specs.Events.{Event}
+use Rattle.shm_graph.specs.declared.{spot.Spot.{Spot, TheVariants.{Home, Era, Root, Slot, Body}}, memo.Memo.Memo}
+use Rattle.shm_graph.specs.declared.{memo.{Op.TheVariants.Nothing, Stored.Stored}, ask.Me.Me}
+use Rattle.shm_graph.specs.{Reach.{learnt, is_named}, MemoAfterStore.{is_of, other_than, put, with_own}, Views.own_word}
+use Rattle.shm_graph.specs.{Asks.{Trail, IsWithin}, Events.Event, Core.core}
 use Rattle.shm_graph.specs.Events as event
+use Rattle.shm_steps.specs.Reparting.{sight}
 use Rattle.shm_calls.specs.Grown.{Grows}
-use Rattle.shm_count.specs.declared.answer.UpFault.{UpFault}
-use Rattle.shm_count.specs.declared.answer.UpFault.TheVariants.{EraSpent, CountFull}
-use Rattle.shm_count.specs.declared.point.Aim.{Aim}
-use Rattle.shm_count.specs.declared.point.Aim.TheVariants.{Up, Down, Change}
-use Rattle.shm_count.specs.declared.point.Half.TheVariants.{First}
-use Rattle.shm_count.specs.declared.point.StepState.{StepState}
-use Rattle.shm_count.specs.CountParts.{IsStep}
-use Rattle.shm_count.specs.Roots.{rest}
-use Rattle.shm_graph.specs.Core.{core}
-use Rattle.shm_count.specs.Step.Control.{block_at, last_era, raises}
-use Rattle.shm_count.specs.Step.Parts.{part_after}
-use Rattle.shm_count.specs.Step.Asks.{steps_of}
-use Rattle.shm_graph.specs.Reach.{is_named}
+use Rattle.shm_count.specs.declared.{answer.UpFault.{UpFault, TheVariants.{EraSpent, CountFull}}, point.Aim.Aim}
+use Rattle.shm_count.specs.declared.point.{Aim.TheVariants.{Up, Down, Change}, Half.TheVariants.First}
+use Rattle.shm_count.specs.{declared.point.StepState.StepState, CountParts.IsStep, Roots.rest}
+use Rattle.shm_count.specs.Step.{Control.{block_at, last_era, raises}, Parts.part_after, Asks.steps_of}
 use Rattle.shm_count.specs.Tear.Memos.{is_lasting, is_slot_word, Knows}
 
 -- a slot that a step of c may put a block into: an own root, the own home, a slot of a queue from c, a word of a block

@@ -1,9 +1,6 @@
 -- parts that leave the map of their identity's table as it was, at each point on their way
 use Rattle.std.specs.Prelude.{◌≡◌, false}
-use Rattle.shm_graph.specs.declared.memo.Memo.{Memo}
-use Rattle.shm_graph.specs.Asks.{Trail}
-use Rattle.shm_graph.specs.Held.{is_loose}
-use Rattle.shm_graph.specs.Laws.{Control}
+use Rattle.shm_graph.specs.{declared.memo.Memo.Memo, Asks.Trail, Held.is_loose, Laws.Control}
 use Rattle.shm_steps.specs.Reparting.{map_in}
 use Rattle.shm_calls.specs.Parts.{Part}
 

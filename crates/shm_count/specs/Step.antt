@@ -23,48 +23,25 @@ pub mod Bound
 pub mod Refusing
 use Rattle.std.specs.Prelude.{◌≡◌, ◌≢◌, ℕ, ◌+◌, ◌<◌, ◌≤◌, Bool, true, false, ◌&&◌, not, ◌==◌, ◌⊎◌, Result, Ok, Err, [], ◌∷◌, ◌++◌, if◌then◌else◌}
 use Rattle.std.specs.List.{Contains}
-use Rattle.shm_words.specs.Layout.{GeometryFits, total_of}
-use Rattle.shm_words.specs.Headers.{header_of}
-use Rattle.shm_words.specs.Redos.{first_word, second_word}
-use Rattle.shm_graph.specs.declared.ask.Me.{Me}
-use Rattle.shm_graph.specs.declared.spot.Spot.{Spot}
-use Rattle.shm_graph.specs.declared.spot.Spot.TheVariants as spot
-use Rattle.shm_graph.specs.declared.memo.Fact.TheVariants.{Header as HeaderRead, Counter}
-use Rattle.shm_graph.specs.declared.memo.Memo.{Memo}
-use Rattle.shm_graph.specs.declared.memo.First.TheVariants.{Begun}
-use Rattle.shm_graph.specs.declared.memo.Second.TheVariants.{Open}
-use Rattle.shm_graph.specs.declared.memo.ChangeStage.TheVariants.{Raising, Lowering}
-use Rattle.shm_graph.specs.declared.memo.Op.{Op}
-use Rattle.shm_graph.specs.declared.memo.Op.TheVariants as op
-use Rattle.shm_graph.specs.Core.{core}
-use Rattle.shm_graph.specs.Spots.{spot_address}
-use Rattle.shm_graph.specs.Asks.{Trail}
-use Rattle.shm_graph.specs.Agents.{recovers}
-use Rattle.shm_steps.specs.Conditions.{IsHere}
-use Rattle.shm_graph.specs.Views.{own_word}
-use Rattle.shm_graph.specs.Held.{is_loose, is_slot}
-use Rattle.shm_graph.specs.Reach.{is_reached}
-use Rattle.shm_graph.specs.MemoAfterExchange.{committed}
-use Rattle.shm_graph.specs.MemoAfterStore.{stored_on, with_own}
+use Rattle.shm_words.specs.{Layout.{GeometryFits, total_of}, Headers.header_of, Redos.{first_word, second_word}}
+use Rattle.shm_graph.specs.declared.{ask.Me.Me, spot.Spot.Spot, memo.Fact.TheVariants.{Header as HeaderRead, Counter}}
+use Rattle.shm_graph.specs.declared.memo.{Memo.Memo, First.TheVariants.Begun, Second.TheVariants.Open}
+use Rattle.shm_graph.specs.{declared.memo.{ChangeStage.TheVariants.{Raising, Lowering}, Op.Op}, Core.core}
+use Rattle.shm_graph.specs.{Spots.spot_address, Asks.Trail, Agents.recovers, Views.own_word, Held.{is_loose, is_slot}}
+use Rattle.shm_graph.specs.{Reach.is_reached, MemoAfterExchange.committed, MemoAfterStore.{stored_on, with_own}}
 use Rattle.shm_graph.specs.Tells.{after_all, happens_along}
-use Rattle.shm_steps.specs.OwnWords.{MayAdd, MayRemove}
+use Rattle.shm_graph.specs.declared.spot.Spot.TheVariants as spot
+use Rattle.shm_graph.specs.declared.memo.Op.TheVariants as op
+use Rattle.shm_steps.specs.{Conditions.IsHere, OwnWords.{MayAdd, MayRemove}}
 use Rattle.shm_steps.specs.Beginning.{MayReplaceRoot, MaySet, MayPut, MayTake, MayTakeBack, MayFill, MayClear, MayReplace}
-use Rattle.shm_steps.specs.Raising.{is_read}
-use Rattle.shm_steps.specs.Reparting.{sight, TableStep}
-use Rattle.shm_count.specs.declared.answer.UpFault.{UpFault}
-use Rattle.shm_count.specs.declared.answer.UpFault.TheVariants.{EraSpent, CountFull}
-use Rattle.shm_count.specs.declared.point.Aim.{Aim}
-use Rattle.shm_count.specs.declared.point.Aim.TheVariants.{Up, Down, Change}
-use Rattle.shm_count.specs.declared.point.Half.{Half}
-use Rattle.shm_count.specs.declared.point.Half.TheVariants.{First, Second}
-use Rattle.shm_count.specs.declared.point.StepPoint.{StepPoint}
-use Rattle.shm_count.specs.declared.point.StepPoint.TheVariants as point
-use Rattle.shm_count.specs.declared.point.StepState.{StepState}
-use Rattle.shm_count.specs.declared.point.StepNext.{StepNext}
+use Rattle.shm_steps.specs.{Raising.is_read, Reparting.{sight, TableStep}}
+use Rattle.shm_count.specs.declared.{answer.UpFault.{UpFault, TheVariants.{EraSpent, CountFull}}, point.Aim.Aim}
+use Rattle.shm_count.specs.declared.point.{Aim.TheVariants.{Up, Down, Change}, Half.{Half, TheVariants.{First, Second}}}
+use Rattle.shm_count.specs.declared.point.{StepPoint.StepPoint, StepState.StepState, StepNext.StepNext}
 use Rattle.shm_count.specs.declared.point.StepNext.TheVariants.{Point, Answer}
 use Rattle.shm_count.specs.Step.Control.{last_era, block_at, raises, value_before, value_after, redo_at, header_after, step_control, AimFits, StepInRange}
-use Rattle.shm_count.specs.Step.Asks.{step_trail, point_trail}
-use Rattle.shm_count.specs.Step.Events.{step_event, step_start, events_at, own_events}
+use Rattle.shm_count.specs.Step.{Asks.{step_trail, point_trail}, Events.{step_event, step_start, events_at, own_events}}
+use Rattle.shm_count.specs.declared.point.StepPoint.TheVariants as point
 use Rattle.shm_calls.specs.Grown.{Grows}
 
 -- ---- when it may begin

@@ -1,19 +1,11 @@
 -- count steps at a spot that is known, as calls of larger machines: when each fits, what it gives, its laws, and the events that it tells of
 use Rattle.std.proofs.Common.{Bool, ap, ◌∙◌, subst}
 use Rattle.std.specs.Prelude.{Result}
-use Rattle.shm_graph.specs.declared.spot.Spot.{Spot}
-use Rattle.shm_graph.specs.declared.memo.Memo.{Memo}
-use Rattle.shm_graph.specs.Asks.{Trail}
-use Rattle.shm_graph.specs.Laws.{Laws}
+use Rattle.shm_graph.specs.{declared.{spot.Spot.Spot, memo.Memo.Memo}, Asks.Trail, Laws.Laws}
 use Rattle.shm_graph.specs.Mapped.{OnTheWay, AtTheEnd, MappedGives, AmongFits, AmongGives, mapped_laws, among_laws}
 use Rattle.shm_graph.specs.Tells.{Tells}
-use Rattle.shm_count.specs.declared.answer.EraSpent.{EraSpent}
-use Rattle.shm_count.specs.declared.answer.UpFault.{UpFault}
-use Rattle.shm_count.specs.declared.point.StepState.{StepState}
-use Rattle.shm_count.specs.Step.Control.{step_control}
-use Rattle.shm_count.specs.Step.Events.{step_event}
-use Rattle.shm_count.specs.Step.{StepFits, StepGives}
-use Rattle.shm_count.specs.Step.Keeps.{step_keeps}
+use Rattle.shm_count.specs.declared.{answer.{EraSpent.EraSpent, UpFault.UpFault}, point.StepState.StepState}
+use Rattle.shm_count.specs.Step.{Control.step_control, Events.step_event, StepFits, StepGives, Keeps.step_keeps}
 use Rattle.shm_count.specs.Step.Laws.{step_steady, step_inside, step_back}
 use Rattle.shm_count.specs.Step.Machines.{IsUp, IsDown, IsChange, up_answer, down_answer, up_control, down_control, up_told, down_told, up_same, down_same}
 use Rattle.shm_count.specs.Step.Tells.{step_tells}

@@ -1,30 +1,16 @@
 -- a count step from a later point on, as a part: what comes before it, a larger machine does in another way
 use Rattle.std.proofs.Common.{◌≡◌, ℕ, Bool, false, refl, sym, ap, ◌∙◌, subst, append_assoc, append-nil, List, [], ◌∷◌, ◌++◌}
-use Rattle.std.specs.Prelude.{Result}
-use Rattle.std.specs.List.{filter}
-use Rattle.shm_graph.specs.declared.spot.Spot.{Spot}
-use Rattle.shm_graph.specs.declared.memo.Memo.{Memo}
-use Rattle.shm_graph.specs.Asks.{Trail, pair}
-use Rattle.shm_graph.specs.Events.{Event}
-use Rattle.shm_graph.specs.Laws.{Outcome, Then}
-use Rattle.shm_graph.specs.Tells.{after_all, happens_along, is_event}
+use Rattle.std.specs.{Prelude.Result, List.filter}
+use Rattle.shm_graph.specs.{declared.{spot.Spot.Spot, memo.Memo.Memo}, Asks.{Trail, pair}, Events.Event}
+use Rattle.shm_graph.specs.{Laws.{Outcome, Then}, Tells.{after_all, happens_along, is_event}}
 use Rattle.shm_graph.proofs.Machines.TellsAlong.{after_all-append, happens_along-append}
-use Rattle.shm_calls.specs.Parts.{Part, PartLaws}
-use Rattle.shm_calls.specs.Placed.{PlacedKeeps}
-use Rattle.shm_count.specs.declared.answer.UpFault.{UpFault}
-use Rattle.shm_count.specs.declared.point.StepPoint.{StepPoint}
-use Rattle.shm_count.specs.declared.point.StepState.{StepState}
-use Rattle.shm_count.specs.declared.point.StepNext.{StepNext}
-use Rattle.shm_count.specs.declared.point.StepNext.TheVariants.{Point, Answer}
+use Rattle.shm_calls.specs.{Parts.{Part, PartLaws}, Placed.PlacedKeeps}
+use Rattle.shm_count.specs.declared.{answer.UpFault.UpFault, point.{StepPoint.StepPoint, StepState.StepState}}
+use Rattle.shm_count.specs.declared.point.StepNext.{StepNext, TheVariants.{Point, Answer}}
 use Rattle.shm_count.specs.Step.Control.{StepInRange, step_ask, step_control, step_next, point_of, answer_of}
-use Rattle.shm_count.specs.Step.Events.{events_at, own_events, step_event}
-use Rattle.shm_count.specs.Step.{CanStep, Gives, NextHolds, PointHolds}
-use Rattle.shm_count.specs.Step.Going.{Told, events_with, has_part, told_next, trail_ends, trail_goes}
-use Rattle.shm_count.specs.Step.Keeps.{step_at}
-use Rattle.shm_count.specs.Step.Ranges.{knows_after}
-use Rattle.shm_count.specs.Step.Laws.{ask_inside, step_steady}
-use Rattle.shm_count.specs.Step.Tells.{tells_at}
-use Rattle.shm_count.specs.Step.Asks.{point_trail}
+use Rattle.shm_count.specs.Step.{Events.{events_at, own_events, step_event}, CanStep, Gives, NextHolds, PointHolds}
+use Rattle.shm_count.specs.Step.{Going.{Told, events_with, has_part, told_next, trail_ends, trail_goes}, Keeps.step_at}
+use Rattle.shm_count.specs.Step.{Ranges.knows_after, Laws.{ask_inside, step_steady}, Tells.tells_at, Asks.point_trail}
 
 module _ (p : Spot) (y0 : StepPoint) where
   -- the step at the point where it is taken up

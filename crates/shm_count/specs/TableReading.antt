@@ -1,35 +1,20 @@
 -- what a load of a word of a table, under its author's latch, leaves in the memo of its reader
-use Rattle.std.proofs.Common.{◌≡◌, ◌≢◌, ℕ, ◌+◌, ◌<◌, ◌≤◌, refl, sym, ap, ◌∙◌, subst, arith, true, false, cond, leb, eqb, ◌||◌, Option, List, [], ◌∷◌, ◌++◌, map, Some, None, inl, inr, false, Bool}
-use Rattle.std.specs.List.{All, Contains}
+use Rattle.std.proofs.Common.{◌≡◌, ◌≢◌, ℕ, ◌+◌, ◌<◌, ◌≤◌, refl, sym, ap, ◌∙◌, subst, arith, true, false, cond, leb, eqb, ◌||◌, Option, List, [], ◌∷◌, ◌++◌, map, Some, None, inl, inr, Bool}
 use Rattle.std.proofs.lemmas.Bool.{cond-true, cond-false, eq-eqb, ne_eqb, or_right, le-leb, lt-leb}
 use Rattle.std.proofs.lemmas.List.Elements.{All-nil, All-cons, All-append, All-map, All-weaker, All-contains_itself}
-use Rattle.shm_words.specs.declared.geometry.Geometry.{Geometry}
-use Rattle.shm_words.specs.Tags.{tag_refs, tag_plain, tag_author}
-use Rattle.shm_graph.specs.declared.ask.Me.{Me}
-use Rattle.shm_graph.specs.declared.ask.Ask.TheVariants.{Load}
-use Rattle.shm_graph.specs.declared.spot.Spot.{Spot}
-use Rattle.shm_graph.specs.declared.spot.Spot.TheVariants.{Home, Tag, Body}
-use Rattle.shm_graph.specs.declared.memo.Memo.{Memo}
-use Rattle.shm_graph.specs.declared.memo.Step.{Step}
-use Rattle.shm_graph.specs.declared.memo.Stored.{Stored}
-use Rattle.shm_graph.specs.Blocks.{classes}
-use Rattle.shm_graph.specs.Changes.{called, memo_on}
-use Rattle.shm_graph.specs.Held.{HeldAt, is_loose}
-use Rattle.shm_graph.specs.Laws.{Frame, framed}
+use Rattle.std.specs.List.{All, Contains}
+use Rattle.shm_words.specs.{declared.geometry.Geometry.Geometry, Tags.{tag_refs, tag_plain, tag_author}}
+use Rattle.shm_graph.specs.declared.{ask.{Me.Me, Ask.TheVariants.Load}, spot.Spot.{Spot, TheVariants.{Home, Tag, Body}}}
+use Rattle.shm_graph.specs.{declared.memo.{Memo.Memo, Step.Step, Stored.Stored}, Blocks.classes}
+use Rattle.shm_graph.specs.{Changes.{called, memo_on}, Held.{HeldAt, is_loose}, Laws.{Frame, framed}}
 use Rattle.shm_graph.specs.Reach.{learnt, is_dying, reached_blocks}
-use Rattle.shm_graph.specs.MemoAfterRead.{word_read, reference_read, values_read, is_latched}
-use Rattle.shm_graph.specs.Spots.{spot_at}
+use Rattle.shm_graph.specs.{MemoAfterRead.{word_read, reference_read, values_read, is_latched}, Spots.spot_at}
 use Rattle.shm_graph.specs.Telling.{Claim, bare, tag_claim, tag_claims, Role, Directory, Entry, Value, Other, Played, role_in, roles_from, roles, shaped, role_claim, claims, claim_of}
-use Rattle.shm_graph.specs.Views.{view}
-use Rattle.shm_graph.proofs.Machines.Calling.{called_by}
-use Rattle.shm_graph.proofs.States.Claims.{ClaimSound, claims_sound}
+use Rattle.shm_graph.specs.{Views.view, Core.core}
+use Rattle.shm_graph.proofs.{Machines.Calling.called_by, States.Claims.{ClaimSound, claims_sound}}
 use Rattle.shm_graph.proofs.Memos.LoadTold.{claim_found, claim_in_all, claim_word}
-use Rattle.shm_steps.specs.LoadNeeds.{IsCovered}
-use Rattle.shm_steps.specs.Walking.{Reads}
-use Rattle.shm_steps.proofs.Partitions.Words.{one_more_role, role_new}
-use Rattle.shm_steps.proofs.BlockReads.{told_called}
-use Rattle.shm_graph.specs.Core.{core}
-use Rattle.shm_steps.proofs.Cores.{called_core}
+use Rattle.shm_steps.specs.{LoadNeeds.IsCovered, Walking.Reads}
+use Rattle.shm_steps.proofs.{Partitions.Words.{one_more_role, role_new}, BlockReads.told_called, Cores.called_core}
 
 -- ---- under a latch each claim of reference words tells an author
 

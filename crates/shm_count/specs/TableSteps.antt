@@ -1,31 +1,18 @@
 -- count steps at the words that a partition is read from may begin
 use Rattle.std.proofs.Common.{◌≡◌, ◌≢◌, ℕ, ◌<◌, refl, sym, ◌∙◌, subst, arith, true, false, inr}
 use Rattle.std.proofs.lemmas.Bool.{false≢true}
-use Rattle.shm_words.specs.Layout.{total_of}
-use Rattle.shm_words.specs.Tags.{tag_refs}
-use Rattle.shm_graph.specs.declared.ask.Me.{Me}
-use Rattle.shm_graph.specs.declared.spot.Spot.{Spot}
-use Rattle.shm_graph.specs.declared.spot.Spot.TheVariants as spot
-use Rattle.shm_graph.specs.declared.memo.Memo.{Memo}
-use Rattle.shm_graph.specs.declared.memo.Op.TheVariants as op
-use Rattle.shm_graph.specs.Agents.{recovers}
-use Rattle.shm_graph.specs.Blocks.{classes, headers, IsLive}
-use Rattle.shm_graph.specs.Held.{HeldAt}
-use Rattle.shm_graph.specs.Reach.{is_reached}
-use Rattle.shm_graph.specs.Spots.{spot_address}
+use Rattle.shm_words.specs.{Layout.total_of, Tags.tag_refs}
+use Rattle.shm_graph.specs.{declared.{ask.Me.Me, spot.Spot.Spot, memo.Memo.Memo}, Agents.recovers}
+use Rattle.shm_graph.specs.{Blocks.{classes, headers, IsLive}, Held.HeldAt, Reach.is_reached, Spots.spot_address}
 use Rattle.shm_graph.specs.Views.{view, own_word}
-use Rattle.shm_graph.proofs.States.Holders.{reach_counted, target_counted}
-use Rattle.shm_graph.proofs.States.Reached.{reached_here}
+use Rattle.shm_graph.specs.declared.spot.Spot.TheVariants as spot
+use Rattle.shm_graph.specs.declared.memo.Op.TheVariants as op
+use Rattle.shm_graph.proofs.States.{Holders.{reach_counted, target_counted}, Reached.reached_here}
 use Rattle.shm_graph.proofs.Spots.Spotting.{in_pool}
-use Rattle.shm_steps.specs.Beginning.{IsOwnWord}
-use Rattle.shm_steps.specs.Conditions.{IsHere}
-use Rattle.shm_steps.specs.Reparting.{sight, TableStep}
-use Rattle.shm_steps.proofs.BeginAt.{SlotHas, word_target}
-use Rattle.shm_steps.proofs.BeginSlots.{home_has}
+use Rattle.shm_steps.specs.{Beginning.IsOwnWord, Conditions.IsHere, Reparting.{sight, TableStep}}
+use Rattle.shm_steps.proofs.{BeginAt.{SlotHas, word_target}, BeginSlots.home_has}
 use Rattle.shm_steps.proofs.BeginWords.{own_word_has, word_address}
-use Rattle.shm_count.specs.declared.point.Aim.TheVariants.{Up, Down, Change}
-use Rattle.shm_count.specs.Step.Control.{IsInside}
-use Rattle.shm_count.specs.Step.{CanStep}
+use Rattle.shm_count.specs.{declared.point.Aim.TheVariants.{Up, Down, Change}, Step.{Control.IsInside, CanStep}}
 use Rattle.shm_count.specs.DyingBlocks.{live_room}
 
 module _ (me : Me) (w : Spot → ℕ) (r : ℕ → Memo) (held : HeldAt me.geometry w (view r)) (who : me.who < me.geometry.clients) (here : IsHere (r me.who)) (idle : (r me.who).op ≡ op.Nothing) where

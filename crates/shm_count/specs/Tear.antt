@@ -17,36 +17,22 @@ pub mod Keeps
 pub mod Tells
 use Rattle.std.specs.Prelude.{false, ◌≡◌, ◌≢◌, ℕ, ◌+◌, ◌-◌, ◌*◌, ◌^◌, ◌<◌, ◌≤◌, Bool, true, not, ◌==◌, List, [], ◌∷◌, ◌++◌, length, Result, Ok, Err}
 use Rattle.std.specs.List.{All, Contains, filter, list_any}
-use Rattle.shm_words.specs.declared.tag.Tag.{Tag as ATag}
-use Rattle.shm_words.specs.Layout.{GeometryFits, total_of}
-use Rattle.shm_graph.specs.declared.ask.Me.{Me}
-use Rattle.shm_graph.specs.declared.spot.Spot.TheVariants.{Era, Body}
-use Rattle.shm_graph.specs.declared.memo.Memo.{Memo}
+use Rattle.shm_words.specs.{declared.tag.Tag.Tag as ATag, Layout.{GeometryFits, total_of}}
+use Rattle.shm_graph.specs.declared.{ask.Me.Me, spot.Spot.TheVariants.{Era, Body}, memo.Memo.Memo}
+use Rattle.shm_graph.specs.{Asks.{Trail, failed, IsWithin}, Bounds.{tear_steps, redo_steps}, Agents.recovers}
+use Rattle.shm_graph.specs.{Events.Event, MemoAfterStore.not_block, Tells.{after_all, happens_along}, Views.own_word}
 use Rattle.shm_graph.specs.declared.memo.Op.TheVariants as op
-use Rattle.shm_graph.specs.Asks.{Trail, failed, IsWithin}
-use Rattle.shm_graph.specs.Bounds.{tear_steps, redo_steps}
-use Rattle.shm_graph.specs.Agents.{recovers}
-use Rattle.shm_graph.specs.Events.{Event}
-use Rattle.shm_graph.specs.MemoAfterStore.{not_block}
-use Rattle.shm_graph.specs.Tells.{after_all, happens_along}
-use Rattle.shm_graph.specs.Views.{own_word}
 use Rattle.shm_steps.specs.Conditions.{IsHere}
-use Rattle.shm_count.specs.declared.answer.EraSpent.{EraSpent}
-use Rattle.shm_count.specs.declared.point.Aim.TheVariants as aims
-use Rattle.shm_count.specs.declared.point.StepPoint.{StepPoint}
-use Rattle.shm_count.specs.declared.point.StepPoint.TheVariants as step
-use Rattle.shm_count.specs.declared.tear_point.TearPoint.{TearPoint}
-use Rattle.shm_count.specs.declared.tear_point.TearPoint.TheVariants as point
-use Rattle.shm_count.specs.declared.tear_point.TearState.{TearState}
-use Rattle.shm_count.specs.declared.tear_point.TearNext.{TearNext}
-use Rattle.shm_count.specs.declared.tear_point.TearNext.TheVariants.{Go, Answer}
-use Rattle.shm_count.specs.Step.Control.{IsInside}
-use Rattle.shm_count.specs.Step.Events.{events_at}
-use Rattle.shm_count.specs.Step.{CanStep, PointHolds}
+use Rattle.shm_count.specs.declared.{answer.EraSpent.EraSpent, point.StepPoint.StepPoint}
+use Rattle.shm_count.specs.declared.tear_point.{TearPoint.TearPoint, TearState.TearState, TearNext.TearNext}
+use Rattle.shm_count.specs.{declared.tear_point.TearNext.TheVariants.{Go, Answer}, Step.Control.IsInside}
+use Rattle.shm_count.specs.Step.{Events.events_at, CanStep, PointHolds}
 use Rattle.shm_count.specs.Tear.Control.{word_address, tear_control, TearInRange}
 use Rattle.shm_count.specs.Tear.Events.{tear_event, tear_start, Visit, Walks, frees}
-use Rattle.shm_count.specs.Tear.Memos.{TearStays, Retains, Knows, IsTagged, IsFound}
-use Rattle.shm_count.specs.Tear.Asks.{tear_trail, point_trail}
+use Rattle.shm_count.specs.Tear.{Memos.{TearStays, Retains, Knows, IsTagged, IsFound}, Asks.{tear_trail, point_trail}}
+use Rattle.shm_count.specs.declared.point.Aim.TheVariants as aims
+use Rattle.shm_count.specs.declared.point.StepPoint.TheVariants as step
+use Rattle.shm_count.specs.declared.tear_point.TearPoint.TheVariants as point
 use Rattle.shm_calls.specs.Grown.{Grows}
 
 -- ---- when it may begin

@@ -5,45 +5,22 @@ pub mod Laws
 pub mod AsPart
 use Rattle.std.specs.Prelude.{◌≡◌, ◌≢◌, ℕ, ◌+◌, ◌-◌, ◌^◌, ◌<◌, ◌≤◌, true, false, Result, Ok, Err, List, [], ◌∷◌}
 use Rattle.shm_words.specs.Layout.{GeometryFits}
-use Rattle.shm_graph.specs.Bounds.{redo_steps}
-use Rattle.shm_count.specs.Step.Control.{first_point}
-use Rattle.shm_graph.specs.declared.ask.Me.{Me}
-use Rattle.shm_graph.specs.declared.spot.Spot.{Spot}
+use Rattle.shm_graph.specs.{Bounds.{redo_steps, up_steps}, declared.{ask.Me.Me, spot.Spot.Spot, memo.Memo.Memo}}
+use Rattle.shm_graph.specs.{declared.memo.Op.TheVariants.Nothing, Agents.recovers, Asks.{Trail, IsWithin}, Core.core}
+use Rattle.shm_graph.specs.{Events.Event, Reach.is_reached, Views.own_word}
 use Rattle.shm_graph.specs.declared.spot.Spot.TheVariants as spot
-use Rattle.shm_graph.specs.declared.memo.Memo.{Memo}
-use Rattle.shm_graph.specs.declared.memo.Op.TheVariants.{Nothing}
-use Rattle.shm_graph.specs.Agents.{recovers}
-use Rattle.shm_graph.specs.Asks.{Trail, IsWithin}
-use Rattle.shm_graph.specs.Bounds.{up_steps}
-use Rattle.shm_graph.specs.Core.{core}
-use Rattle.shm_graph.specs.Events.{Event}
 use Rattle.shm_graph.specs.Events as event
-use Rattle.shm_graph.specs.Reach.{is_reached}
-use Rattle.shm_graph.specs.Views.{own_word}
-use Rattle.shm_steps.specs.Conditions.{IsHere}
-use Rattle.shm_steps.specs.WordParts.{OwnLoaded}
-use Rattle.shm_calls.specs.declared.word.Word.{Word}
-use Rattle.shm_calls.specs.Either.{or_part}
-use Rattle.shm_calls.specs.MappedParts.{mapped_part}
-use Rattle.shm_calls.specs.Parts.{Part, weaker}
-use Rattle.shm_calls.specs.Plans.{Planned}
-use Rattle.shm_calls.specs.Words.{word_part}
-use Rattle.shm_count.specs.declared.answer.ShareFault.{ShareFault}
-use Rattle.shm_count.specs.declared.answer.ShareFault.TheVariants as share
-use Rattle.shm_count.specs.declared.answer.UpFault.{UpFault}
-use Rattle.shm_count.specs.declared.answer.UpFault.TheVariants.{EraSpent, CountFull}
-use Rattle.shm_count.specs.declared.point.StepState.{StepState}
-use Rattle.shm_count.specs.declared.up_root.RootingPoint.{RootingPoint}
-use Rattle.shm_count.specs.declared.up_root.RootingPoint.TheVariants.{Era, Look, Step}
-use Rattle.shm_count.specs.declared.up_root.RootingState.{RootingState}
-use Rattle.shm_count.specs.CountParts.{up_part}
-use Rattle.shm_count.specs.Refusing.{ReadsCount}
-use Rattle.shm_count.specs.Roots.{root_word}
-use Rattle.shm_count.specs.Slots.{Filled, Untouched}
-use Rattle.shm_count.specs.Step.Control.{IsInside}
-use Rattle.shm_count.specs.Step.Machines.{up_answer}
+use Rattle.shm_count.specs.Step.{Control.{first_point, IsInside}, Machines.up_answer}
+use Rattle.shm_count.specs.declared.answer.{ShareFault.ShareFault, UpFault.{UpFault, TheVariants.{EraSpent, CountFull}}}
+use Rattle.shm_count.specs.declared.{point.StepState.StepState, up_root.RootingPoint.RootingPoint}
+use Rattle.shm_count.specs.declared.up_root.{RootingPoint.TheVariants.{Era, Look, Step}, RootingState.RootingState}
+use Rattle.shm_count.specs.{CountParts.up_part, Refusing.ReadsCount, Roots.root_word, Slots.{Filled, Untouched}}
 use Rattle.shm_count.specs.StepsFrom.{from_part}
-use Rattle.shm_count.specs.UpRoot.Control.{RootingAnswer, RootingCall, is_era, rooting_after, rooting_ask, rooting_call, rooting_turns, taken_up}
+use Rattle.shm_count.specs.UpRoot.Control.{RootingAnswer, RootingCall, is_era, rooting_ask, taken_up, rooting_steered}
+use Rattle.shm_count.specs.declared.answer.ShareFault.TheVariants as share
+use Rattle.shm_steps.specs.{Conditions.IsHere, WordParts.OwnLoaded}
+use Rattle.shm_calls.specs.{declared.word.Word.Word, Either.or_part, MappedParts.mapped_part, Parts.{Part, weaker}}
+use Rattle.shm_calls.specs.{Plans.Planned, Words.word_part}
 
 -- no step of a client is in progress, and the block is in reach
 pub record MayUpRoot (me : Me) (b : ℕ) (r : Memo) : Type 0 where
@@ -159,13 +136,7 @@ rooting_part m y = or_part (look_part m.me m.root y) (taken_part m.me m.root m.b
 abbrev pub rooting_plan : Planned RootingState RootingCall RootingAnswer (Result ℕ ShareFault)
 rooting_plan =
     record {
-      me = λ m. m.me;
-      line = λ m. [];
-      first = λ m. is_era m.point;
-      start = λ m. record m { era = 0; root = 0; point = Era };
-      call = λ m. rooting_call m m.point;
-      after = λ m. rooting_after m m.point;
-      turns = λ m. rooting_turns m m.point;
+      steered = rooting_steered;
       part = λ m. rooting_part m m.point;
       knows = λ m. RootingKnows m m.point;
       leaves = λ m. UpRootLeaves m.me m.block;

@@ -1,7 +1,6 @@
 -- what waits in queues, by the memos before a call and after it
 use Rattle.std.specs.Prelude.{◌≡◌, ℕ, [], slice_index}
-use Rattle.shm_graph.specs.declared.memo.Memo.{Memo}
-use Rattle.shm_graph.specs.Held.{is_loose}
+use Rattle.shm_graph.specs.{declared.memo.Memo.Memo, Held.is_loose}
 
 -- whatever is answered, the latch is as it was, the same blocks and items wait for a tail or a head, and the pool is for tables still, or still isn't
 pub record LeavesQueues (m r : Memo) : Type 0 where

@@ -1,20 +1,13 @@
 //! How many word steps a count step and a tear-down make.
 
 ghost use Rattle.std.specs.Prelude.{ℕ, ◌+◌, Bool, List, length, Result, Ok, Err};
-ghost use Rattle.shm_graph.specs.declared.memo.Memo.{Memo as AMemo};
-ghost use Rattle.shm_graph.specs.declared.spot.Spot.{Spot as ASpot};
-ghost use Rattle.shm_graph.specs.Asks.{Trail, IsWithin};
-ghost use Rattle.shm_graph.specs.Bounds.{tear_steps};
-ghost use Rattle.shm_count.specs.declared.answer.EraSpent.{EraSpent as ASpent};
-ghost use Rattle.shm_count.specs.declared.answer.UpFault.{UpFault as AFault};
+ghost use Rattle.shm_graph.specs.{declared.{memo.Memo.Memo as AMemo, spot.Spot.Spot as ASpot}, Asks.{Trail, IsWithin}};
+ghost use Rattle.shm_graph.specs.{Bounds.tear_steps, Tells.happens_along};
+ghost use Rattle.shm_count.specs.declared.answer.{EraSpent.EraSpent as ASpent, UpFault.UpFault as AFault};
 ghost use Rattle.shm_count.specs.declared.point.StepState.{StepState as AState};
-ghost use Rattle.shm_count.specs.Step.{StepGives};
-ghost use Rattle.shm_graph.specs.Tells.{happens_along};
-ghost use Rattle.shm_count.specs.declared.tear_point.TearState.{TearState as ATearState};
-ghost use Rattle.shm_count.specs.Step.Asks.{steps_of};
-ghost use Rattle.shm_count.specs.Tear.Control.{tear_control};
-ghost use Rattle.shm_count.specs.Tear.Events.{Visit, frees, tear_event, tear_start};
-ghost use Rattle.shm_count.specs.Tear.{TearGives, TornPartly};
+ghost use Rattle.shm_count.specs.{declared.tear_point.TearState.TearState as ATearState, Step.StepGives};
+ghost use Rattle.shm_count.specs.{Step.Asks.steps_of, Tear.Control.tear_control};
+ghost use Rattle.shm_count.specs.Tear.{Events.{Visit, frees, tear_event, tear_start}, TearGives, TornPartly};
 
 /// Whatever a count step answers, it took at most 8 word steps, a change at most 13, in format 2 one more, and three more for each
 /// exchange that failed.

@@ -5,14 +5,11 @@
 
 ghost use Rattle.std.specs.Prelude.{◌≡◌, ℕ, ◌<◌, List};
 ghost use Rattle.shm_words.specs.Layout.{GeometryFits};
-ghost use Rattle.shm_graph.specs.declared.ask.Me.{Me as AMe};
-ghost use Rattle.shm_graph.specs.declared.memo.Memo.{Memo as AMemo};
-ghost use Rattle.shm_graph.specs.Asks.{Trail, IsWithin};
-ghost use Rattle.shm_count.specs.declared.commit_test.Commit.{Commit as ACommit};
-ghost use Rattle.shm_count.specs.CommitTest.Control.{testing, test_next, test_step};
-ghost use Rattle.shm_count.specs.CommitTest.{TestLeaves, testing_plan};
-ghost use Rattle.shm_count.specs.CommitTest.Laws.{testing_laws};
+ghost use Rattle.shm_graph.specs.{declared.{ask.Me.Me as AMe, memo.Memo.Memo as AMemo}, Asks.{Trail, IsWithin}};
 ghost use Rattle.shm_graph.specs.Events.{Event as AnEvent};
+ghost use Rattle.shm_count.specs.declared.commit_test.Commit.{Commit as ACommit};
+ghost use Rattle.shm_count.specs.CommitTest.{Control.{testing, test_next, test_step}, TestLeaves, testing_plan};
+ghost use Rattle.shm_count.specs.CommitTest.Laws.{testing_laws};
 
 use shm_calls::{Plan, Word};
 use shm_graph::{Machine, Me};

@@ -2,33 +2,22 @@
 
 ghost use Rattle.std.specs.Prelude.{◌≡◌, ◌≢◌, ℕ, ◌-◌, ◌^◌, ◌<◌, [], ◌∷◌, ◌++◌, Bool, List, Result, Ok, Err, is_ok};
 ghost use Rattle.std.specs.List.{All, Contains};
-ghost use Rattle.shm_graph.specs.declared.ask.Me.{Me as AMe};
-ghost use Rattle.shm_graph.specs.declared.memo.Memo.{Memo as AMemo};
-ghost use Rattle.shm_graph.specs.declared.spot.Spot.{Spot as ASpot};
+ghost use Rattle.shm_graph.specs.declared.{ask.Me.Me as AMe, memo.Memo.Memo as AMemo, spot.Spot.Spot as ASpot};
+ghost use Rattle.shm_graph.specs.{declared.run.Move.Move as AMove, Asks.Trail, Events.{Event, Free}};
+ghost use Rattle.shm_graph.specs.{Runs.{State, memos_of}, Tells.Tells, Views.own_word};
 ghost use Rattle.shm_graph.specs.declared.spot.Spot.TheVariants as spots;
-ghost use Rattle.shm_graph.specs.declared.run.Move.{Move as AMove};
-ghost use Rattle.shm_graph.specs.Asks.{Trail};
-ghost use Rattle.shm_graph.specs.Events.{Event, Free};
-ghost use Rattle.shm_graph.specs.Runs.{State, memos_of};
-ghost use Rattle.shm_graph.specs.Tells.{Tells};
-ghost use Rattle.shm_graph.specs.Views.{own_word};
-ghost use Rattle.shm_count.specs.declared.answer.EraSpent.{EraSpent as ASpent};
-ghost use Rattle.shm_count.specs.declared.answer.UpFault.{UpFault as AFault};
-ghost use Rattle.shm_count.specs.Calling.{IsCall, happened_in};
+ghost use Rattle.shm_count.specs.declared.answer.{EraSpent.EraSpent as ASpent, UpFault.UpFault as AFault};
+ghost use Rattle.shm_count.specs.declared.point.{StepPoint.TheVariants.Era, StepState.StepState as AState};
+ghost use Rattle.shm_count.specs.{declared.tear_point.TearState.TearState as ATear, Calling.{IsCall, happened_in}};
 ghost use Rattle.shm_count.specs.CountParts.{IsStep, IsTear};
 ghost use Rattle.shm_count.specs.Step.Machines.{IsUp, IsDown, IsChange, up_control, down_control, up_told, down_told};
-ghost use Rattle.shm_count.specs.StepsAt.{UpGivesAt, DownGivesAt, ChangeGivesAt};
-ghost use Rattle.shm_count.specs.declared.point.StepPoint.TheVariants.{Era};
-ghost use Rattle.shm_count.specs.declared.point.StepState.{StepState as AState};
-ghost use Rattle.shm_count.specs.declared.tear_point.TearState.{TearState as ATear};
-ghost use Rattle.shm_calls.specs.Deciding.{Decides};
 ghost use Rattle.shm_count.specs.Step.Control.{step_control, StepInRange};
-ghost use Rattle.shm_count.specs.Step.ExchangeMade.{step_exchanged, step_exchanging};
-ghost use Rattle.shm_count.specs.Step.Events.{step_event, own_events};
-ghost use Rattle.shm_count.specs.Step.{StepFits, CanStep};
+ghost use Rattle.shm_count.specs.Step.{ExchangeMade.{step_exchanged, step_exchanging}, Events.{step_event, own_events}};
+ghost use Rattle.shm_count.specs.{Step.{StepFits, CanStep}, StepsAt.{UpGivesAt, DownGivesAt, ChangeGivesAt}};
 ghost use Rattle.shm_count.specs.Tear.Control.{tear_control};
 ghost use Rattle.shm_count.specs.Tear.Events.{Visit, Walk, InOrder, events_of, IsTearing, frees_of};
 ghost use Rattle.shm_count.specs.Tear.{TearGives, TearLeaves};
+ghost use Rattle.shm_calls.specs.Deciding.{Decides};
 
 /// A count step that has just been made fits each memo that shows its slot to be the identity's, holding what the step needs there,
 /// and a block that is to be raised to be in reach.

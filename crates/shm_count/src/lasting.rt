@@ -2,38 +2,22 @@
 
 ghost use Rattle.std.specs.Prelude.{◌≡◌, ◌≢◌, ◌⊎◌, ◌<◌, ◌^◌, ◌++◌, ◌∷◌, [], if◌then◌else◌, ℕ, true, false, Bool, List, Result, Ok, Err, IfOk};
 ghost use Rattle.std.specs.List.{Contains, filter};
-ghost use Rattle.shm_graph.specs.declared.ask.Me.{Me as AMe};
-ghost use Rattle.shm_graph.specs.declared.memo.Memo.{Memo as AMemo};
-ghost use Rattle.shm_graph.specs.declared.spot.Spot.{Spot as ASpot};
+ghost use Rattle.shm_graph.specs.declared.{ask.Me.Me as AMe, memo.Memo.Memo as AMemo, spot.Spot.Spot as ASpot};
+ghost use Rattle.shm_graph.specs.{Asks.Trail, Events.Event as AnEvent, Held.is_slot, Idle.IsIdle, Reach.is_named};
+ghost use Rattle.shm_graph.specs.{MemoAfterStore.{is_of, not_block}, Views.own_word};
 ghost use Rattle.shm_graph.specs.declared.spot.Spot.TheVariants as spots;
-ghost use Rattle.shm_graph.specs.Asks.{Trail};
-ghost use Rattle.shm_graph.specs.Events.{Event as AnEvent};
-ghost use Rattle.shm_graph.specs.Held.{is_slot};
-ghost use Rattle.shm_graph.specs.Idle.{IsIdle};
-ghost use Rattle.shm_graph.specs.Reach.{is_named};
-ghost use Rattle.shm_graph.specs.MemoAfterStore.{is_of, not_block};
-ghost use Rattle.shm_graph.specs.Views.{own_word};
-ghost use Rattle.shm_calls.specs.Grown.{Grows, grown};
-ghost use Rattle.shm_calls.specs.Parts.{PartLaws};
-ghost use Rattle.shm_count.specs.declared.answer.EraSpent.{EraSpent as ASpent};
-ghost use Rattle.shm_count.specs.declared.answer.UpFault.{UpFault as AFault};
+ghost use Rattle.shm_calls.specs.{Grown.{Grows, grown}, Parts.PartLaws};
+ghost use Rattle.shm_count.specs.declared.answer.{EraSpent.EraSpent as ASpent, UpFault.UpFault as AFault};
 ghost use Rattle.shm_count.specs.declared.answer.UpFault.TheVariants.{EraSpent, CountFull};
-ghost use Rattle.shm_count.specs.declared.point.Aim.TheVariants.{Down};
-ghost use Rattle.shm_count.specs.declared.point.Half.TheVariants.{First};
+ghost use Rattle.shm_count.specs.declared.point.{Aim.TheVariants.Down, Half.TheVariants.First};
 ghost use Rattle.shm_count.specs.declared.point.StepState.{StepState as AState};
 ghost use Rattle.shm_count.specs.declared.tear_point.TearState.{TearState as ATearState};
 ghost use Rattle.shm_count.specs.MadeSteps.{change_making, down_making, made_up_part, tear_making, up_making};
-ghost use Rattle.shm_count.specs.Operating.{TearDownLeaves, tearing};
-ghost use Rattle.shm_count.specs.Refusing.{ReadsCount};
+ghost use Rattle.shm_count.specs.{Operating.{TearDownLeaves, tearing}, Refusing.ReadsCount};
 ghost use Rattle.shm_count.specs.Roots.{AreRootsReached, root_word};
-ghost use Rattle.shm_count.specs.Step.Control.{last_era, block_at, raises};
-ghost use Rattle.shm_count.specs.Step.{StepGives};
-ghost use Rattle.shm_count.specs.Step.Control.{step_control};
-ghost use Rattle.shm_count.specs.Step.Machines.{down_control, up_control};
-ghost use Rattle.shm_count.specs.Tear.Control.{tear_control};
-ghost use Rattle.shm_count.specs.Tear.{TearGives};
-ghost use Rattle.shm_count.specs.Tear.Memos.{Knows, Retains, is_lasting};
-ghost use Rattle.shm_count.specs.Waiting.{LeavesQueues};
+ghost use Rattle.shm_count.specs.Step.{Control.{last_era, block_at, raises, step_control}, StepGives};
+ghost use Rattle.shm_count.specs.{Step.Machines.{down_control, up_control}, Tear.{Control.tear_control, TearGives}};
+ghost use Rattle.shm_count.specs.{Tear.Memos.{Knows, Retains, is_lasting}, Waiting.LeavesQueues};
 
 /// Whatever a count step answers, the status and the agent are what they were, and what was read of tails and heads stays.
 pub fn step_lasts()

@@ -1,9 +1,7 @@
 //! The control of a count step: which word it asks for, and where it goes by the word found.
 
 ghost use Rattle.std.specs.Prelude.{◌≡◌, ◌≢◌, ◌+◌, ◌<◌, ◌≤◌, ◌^◌, true};
-ghost use Rattle.shm_words.specs.Layout.{GeometryFits};
-ghost use Rattle.shm_words.specs.Headers.{header_of};
-ghost use Rattle.shm_words.specs.Redos.{first_word, second_word};
+ghost use Rattle.shm_words.specs.{Layout.GeometryFits, Headers.header_of, Redos.{first_word, second_word}};
 ghost use Rattle.shm_graph.specs.declared.ask.Ask.TheVariants as asks;
 ghost use Rattle.shm_count.specs.Step.Control.{AimSmall, EraFits, PartFits, CountFits, StepInRange};
 ghost use Rattle.shm_count.specs.Step.Control as control;

@@ -1,20 +1,13 @@
 //! What count steps and tear-downs leave of the partition of their identity, at each point on their way; and commit tests of the map.
 
 ghost use Rattle.std.specs.Prelude.{◌≡◌, ◌⊎◌, false};
-ghost use Rattle.shm_graph.specs.declared.memo.Memo.{Memo as AMemo};
-ghost use Rattle.shm_graph.specs.declared.spot.Spot.{Spot as ASpot};
-ghost use Rattle.shm_graph.specs.Asks.{Trail};
+ghost use Rattle.shm_graph.specs.{declared.{memo.Memo.Memo as AMemo, spot.Spot.Spot as ASpot}, Asks.Trail};
 ghost use Rattle.shm_steps.specs.Reparting.{sight};
-ghost use Rattle.shm_calls.specs.CallsControl.{calls_control};
-ghost use Rattle.shm_calls.specs.CallsPart.{calls_part};
-ghost use Rattle.shm_calls.specs.Words.{word_control};
+ghost use Rattle.shm_calls.specs.{CallsControl.calls_control, CallsPart.calls_part, Words.word_control};
 ghost use Rattle.shm_count.specs.declared.point.StepState.{StepState as AState};
-ghost use Rattle.shm_count.specs.declared.tear_point.TearState.{TearState as ATearState};
-ghost use Rattle.shm_count.specs.CommitTest.{testing_plan};
-ghost use Rattle.shm_count.specs.Steady.{IsSteady};
-ghost use Rattle.shm_count.specs.Step.Control.{step_control, value_after};
-ghost use Rattle.shm_count.specs.Step.Parts.{part_after};
-ghost use Rattle.shm_count.specs.Step.{StepFits};
+ghost use Rattle.shm_count.specs.{declared.tear_point.TearState.TearState as ATearState, CommitTest.testing_plan};
+ghost use Rattle.shm_count.specs.{CommitTest.Control.testing_steered, Steady.IsSteady};
+ghost use Rattle.shm_count.specs.Step.{Control.{step_control, value_after}, Parts.part_after, StepFits};
 ghost use Rattle.shm_count.specs.Tear.{TearFits};
 
 /// On the way of a count step the partition is what it was, or the one that the slot with its new value leads to.
@@ -29,5 +22,5 @@ pub fn tear_partitions()
 
 /// While a commit test runs, the map of the table is what it was.
 pub fn tests_are_steady()
-    ensures { IsSteady (calls_control word_control testing_plan) (calls_part word_control testing_plan) }
+    ensures { IsSteady (calls_control word_control testing_steered) (calls_part word_control testing_plan) }
 {}

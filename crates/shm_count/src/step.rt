@@ -2,12 +2,11 @@
 
 ghost use Rattle.std.specs.Prelude.{◌≡◌, ◌+◌, ◌<◌, ◌≤◌, ◌^◌};
 ghost use Rattle.shm_words.specs.Layout.{GeometryFits, address_limit};
-ghost use Rattle.shm_count.specs.declared.point.Aim.TheVariants as aims;
 ghost use Rattle.shm_count.specs.declared.point.StepPoint.TheVariants.{Era};
 ghost use Rattle.shm_count.specs.Step.Control.{StepInRange, first_point, step_ask, step_next, answer_of, point_of, step_control, is_over};
-ghost use Rattle.shm_count.specs.Step.ExchangeMade.{step_exchanged};
+ghost use Rattle.shm_count.specs.Step.{ExchangeMade.step_exchanged, Keeps.step_keeps};
+ghost use Rattle.shm_count.specs.declared.point.Aim.TheVariants as aims;
 ghost use Rattle.shm_count.specs.Step.Machines as machines;
-ghost use Rattle.shm_count.specs.Step.Keeps.{step_keeps};
 
 use crate::answer::{EraSpent, UpFault};
 use crate::point;

@@ -1,11 +1,9 @@
 //! The control of a tear-down: which word it asks for, and where it goes by the word found.
 
 ghost use Rattle.std.specs.Prelude.{◌≡◌, ◌≢◌, ◌+◌, ◌<◌, ◌≤◌, ◌^◌, true};
-ghost use Rattle.shm_words.specs.Layout.{GeometryFits, address_limit};
-ghost use Rattle.shm_words.specs.Tags.{TagFits};
-ghost use Rattle.shm_count.specs.Tear.Control.{TearInRange, TearPointFits};
+ghost use Rattle.shm_words.specs.{Layout.{GeometryFits, address_limit}, Tags.TagFits};
+ghost use Rattle.shm_count.specs.{Tear.Control.{TearInRange, TearPointFits}, Step.Control.StepInRange};
 ghost use Rattle.shm_count.specs.Tear.Control as control;
-ghost use Rattle.shm_count.specs.Step.Control.{StepInRange};
 
 use crate::answer::{EraSpent, UpFault};
 use crate::point::{Aim, StepNext, StepPoint, StepState};

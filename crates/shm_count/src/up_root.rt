@@ -2,11 +2,9 @@
 
 ghost use Rattle.std.specs.Prelude.{◌≡◌, ◌<◌, ◌^◌};
 ghost use Rattle.shm_words.specs.Layout.{GeometryFits, address_limit};
-ghost use Rattle.shm_count.specs.UpRoot.Control.{rooting};
-ghost use Rattle.shm_count.specs.UpRoot.Control as control;
-ghost use Rattle.shm_count.specs.UpRoot.{rooting_plan};
-ghost use Rattle.shm_count.specs.UpRoot.Laws.{rooting_laws};
+ghost use Rattle.shm_count.specs.UpRoot.{Control.rooting, rooting_plan, Laws.rooting_laws};
 ghost use Rattle.shm_count.specs.ShareTask.{ShareMay, share_task};
+ghost use Rattle.shm_count.specs.UpRoot.Control as control;
 
 use crate::answer::{ShareFault, UpFault};
 use crate::step::StepUp;

@@ -1,9 +1,6 @@
 -- what keeps an identity between two calls
 use Rattle.std.proofs.Common.{◌≡◌, ℕ, ap, sym, ◌∙◌}
-use Rattle.shm_graph.specs.declared.memo.Memo.{Memo}
-use Rattle.shm_graph.specs.declared.spot.Spot.TheVariants.{Hold}
-use Rattle.shm_graph.specs.Core.{core}
-use Rattle.shm_graph.specs.Idle.{IsIdle, hold_word}
+use Rattle.shm_graph.specs.{declared.{memo.Memo.Memo, spot.Spot.TheVariants.Hold}, Core.core, Idle.{IsIdle, hold_word}}
 use Rattle.shm_graph.specs.Views.{own_word}
 
 -- of the memo m they are between two calls if of r

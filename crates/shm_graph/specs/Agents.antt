@@ -1,13 +1,9 @@
 -- the agents of an identity, and its status
 use Rattle.std.specs.Prelude.{ℕ, ◌+◌, Bool, true, false, ◌==◌, if◌then◌else◌, Option, Some, None, List, [], ◌∷◌, ◌++◌}
-use Rattle.shm_graph.specs.declared.memo.Status.{Status as AStatus}
+use Rattle.shm_graph.specs.declared.memo.{Status.Status as AStatus, Agent.Agent, Kind.Kind}
+use Rattle.shm_graph.specs.declared.memo.{Kind.TheVariants.{Client, Recoverer}, Fate.Fate}
+use Rattle.shm_graph.specs.declared.memo.{Fate.TheVariants.{Acts, Ended, Died}, Memo.Memo}
 use Rattle.shm_graph.specs.declared.memo.Status.TheVariants as status
-use Rattle.shm_graph.specs.declared.memo.Agent.{Agent}
-use Rattle.shm_graph.specs.declared.memo.Kind.{Kind}
-use Rattle.shm_graph.specs.declared.memo.Kind.TheVariants.{Client, Recoverer}
-use Rattle.shm_graph.specs.declared.memo.Fate.{Fate}
-use Rattle.shm_graph.specs.declared.memo.Fate.TheVariants.{Acts, Ended, Died}
-use Rattle.shm_graph.specs.declared.memo.Memo.{Memo}
 
 -- ---- agents
 

@@ -1,11 +1,7 @@
 -- blocks: free and live
 use Rattle.std.specs.Prelude.{◌≡◌, ℕ, true}
-use Rattle.shm_words.specs.declared.geometry.Geometry.{Geometry}
-use Rattle.shm_words.specs.declared.header.Header.{Header}
-use Rattle.shm_words.specs.Headers.{header_of}
-use Rattle.shm_graph.specs.declared.spot.Spot.{Spot}
-use Rattle.shm_graph.specs.declared.spot.Spot.TheVariants.{Page, Head}
-use Rattle.shm_graph.specs.Spots.{spot_at}
+use Rattle.shm_words.specs.{declared.{geometry.Geometry.Geometry, header.Header.Header}, Headers.header_of}
+use Rattle.shm_graph.specs.{declared.spot.Spot.{Spot, TheVariants.{Page, Head}}, Spots.spot_at}
 
 -- the classes of the pages, and the headers of the blocks
 abbrev pub classes : (Spot → ℕ) → ℕ → ℕ → ℕ

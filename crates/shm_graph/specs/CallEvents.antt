@@ -1,16 +1,9 @@
 -- the events of the word steps of one identity
 use Rattle.std.specs.Prelude.{ℕ, ◌≢◌, Bool, false, ◌==◌, if◌then◌else◌, List, [], ◌∷◌}
 use Rattle.shm_words.specs.declared.geometry.Geometry.{Geometry}
-use Rattle.shm_graph.specs.declared.ask.Me.{Me}
-use Rattle.shm_graph.specs.declared.memo.Memo.{Memo}
-use Rattle.shm_graph.specs.declared.memo.Step.{Step}
-use Rattle.shm_graph.specs.declared.run.Move.{Move}
-use Rattle.shm_graph.specs.declared.run.Move.TheVariants.{Word, Dies, Begins}
-use Rattle.shm_graph.specs.Spots.{spot_at, classes_in}
-use Rattle.shm_graph.specs.Asks.{Trail, at_of}
-use Rattle.shm_graph.specs.Changes.{memo_after, asked_spot}
-use Rattle.shm_graph.specs.Events.{Event}
-use Rattle.shm_graph.specs.Laws.{event_on}
+use Rattle.shm_graph.specs.declared.{ask.Me.Me, memo.{Memo.Memo, Step.Step}, run.Move.Move}
+use Rattle.shm_graph.specs.{declared.run.Move.TheVariants.{Word, Dies, Begins}, Spots.{spot_at, classes_in}}
+use Rattle.shm_graph.specs.{Asks.{Trail, at_of}, Changes.{memo_after, asked_spot}, Events.Event, Laws.event_on}
 use Rattle.shm_graph.specs.Runs.{State, memos_of, moved}
 
 -- the steps of a call, of its pairs: the first is the machine's first one where the call is fresh, and the last ends the machine where the call is whole

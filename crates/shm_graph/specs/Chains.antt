@@ -1,12 +1,7 @@
 -- the partition that a memo has, once a count step has changed one reference
 use Rattle.std.specs.Prelude.{ℕ, zero, suc, ◌==◌, if◌then◌else◌, List, [], ◌∷◌, map, replicate, Option, Some, None}
-use Rattle.shm_graph.specs.declared.spot.Spot.{Spot}
-use Rattle.shm_graph.specs.declared.spot.Spot.TheVariants.{Home, Body}
-use Rattle.shm_graph.specs.declared.table.Entry.{Entry}
-use Rattle.shm_graph.specs.declared.table.Part.{Part}
-use Rattle.shm_graph.specs.declared.table.Part.TheVariants.{Loose, Table}
-use Rattle.shm_graph.specs.declared.memo.Stored.{Stored}
-use Rattle.shm_graph.specs.Reach.{known_at}
+use Rattle.shm_graph.specs.declared.{spot.Spot.{Spot, TheVariants.{Home, Body}}, table.{Entry.Entry, Part.Part}}
+use Rattle.shm_graph.specs.{declared.{table.Part.TheVariants.{Loose, Table}, memo.Stored.Stored}, Reach.known_at}
 
 abbrev pub or_zero : Option ℕ → ℕ
 or_zero None = 0

@@ -1,21 +1,10 @@
 -- the memo's change by a word step of its identity: a function of the memo and the step
-use Rattle.std.specs.Prelude.{Bool, ◌&&◌, ◌==◌, true, false, if◌then◌else◌, Option, None, []}
-use Rattle.std.specs.List.{filter}
-use Rattle.shm_graph.specs.declared.spot.Spot.{Spot}
-use Rattle.shm_graph.specs.declared.spot.Spot.TheVariants.{Tail, QueueHead}
-use Rattle.shm_graph.specs.declared.memo.Fact.{Fact}
-use Rattle.shm_graph.specs.declared.memo.Fact.TheVariants.{Counter}
-use Rattle.shm_graph.specs.declared.ask.Ask.{Ask}
-use Rattle.shm_graph.specs.declared.ask.Ask.TheVariants.{Load, Store, Exchange}
-use Rattle.shm_graph.specs.declared.memo.Memo.{Memo}
-use Rattle.shm_graph.specs.declared.memo.Step.{Step}
-use Rattle.shm_graph.specs.declared.memo.Test.{Test}
-use Rattle.shm_graph.specs.Asks.{call_after}
-use Rattle.shm_graph.specs.Agents.{with_last, stepped, ended, is_gone}
-use Rattle.shm_graph.specs.Telling.{spot_told}
-use Rattle.shm_graph.specs.MemoAfterRead.{read_on}
-use Rattle.shm_graph.specs.MemoAfterStore.{stored_on}
-use Rattle.shm_graph.specs.MemoAfterExchange.{exchanged_on}
+use Rattle.std.specs.{Prelude.{Bool, ◌&&◌, ◌==◌, true, false, if◌then◌else◌, Option, None, []}, List.filter}
+use Rattle.shm_graph.specs.declared.{spot.Spot.{Spot, TheVariants.{Tail, QueueHead}}, memo.Fact.Fact}
+use Rattle.shm_graph.specs.declared.{memo.{Fact.TheVariants.Counter, Memo.Memo, Step.Step, Test.Test}, ask.Ask.Ask}
+use Rattle.shm_graph.specs.{declared.ask.Ask.TheVariants.{Load, Store, Exchange}, Asks.call_after}
+use Rattle.shm_graph.specs.{Agents.{with_last, stepped, ended, is_gone}, Telling.spot_told, MemoAfterRead.read_on}
+use Rattle.shm_graph.specs.{MemoAfterStore.stored_on, MemoAfterExchange.exchanged_on}
 
 -- what was read of tails and heads, which only grow
 abbrev pub is_lane_count : Fact → Bool

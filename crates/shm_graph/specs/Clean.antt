@@ -1,14 +1,8 @@
 -- a pool in which nobody is at work and each count is right
 use Rattle.std.specs.Prelude.{Bool, ◌≡◌, ◌≢◌, ℕ, ◌+◌, ◌<◌, ◌≤◌, Some, ◌⊎◌}
-use Rattle.shm_words.specs.declared.geometry.Geometry.{Geometry}
-use Rattle.shm_words.specs.declared.tag.Tag.{Tag as ATag}
-use Rattle.shm_words.specs.Classes.{IsClass}
-use Rattle.shm_words.specs.Tags.{tag_of}
-use Rattle.shm_graph.specs.declared.spot.Spot.{Spot}
-use Rattle.shm_graph.specs.declared.spot.Spot.TheVariants.{Status, Page, Head, Tag}
-use Rattle.shm_graph.specs.Spots.{class_at}
-use Rattle.shm_graph.specs.Blocks.{classes, headers, IsLive}
-use Rattle.shm_graph.specs.References.{references, references_to}
+use Rattle.shm_words.specs.{declared.{geometry.Geometry.Geometry, tag.Tag.Tag as ATag}, Classes.IsClass, Tags.tag_of}
+use Rattle.shm_graph.specs.{declared.spot.Spot.{Spot, TheVariants.{Status, Page, Head, Tag}}, Spots.class_at}
+use Rattle.shm_graph.specs.{Blocks.{classes, headers, IsLive}, References.{references, references_to}}
 
 -- t is a tag whose words fit a block of k words, by one of n clients
 pub record TagSuits (wide : Bool) (n k t : ℕ) : Type 0 where

@@ -1,13 +1,8 @@
 -- the graph of references, and what a word step may do to it
 use Rattle.std.specs.Prelude.{◌≡◌, ◌≢◌, ℕ, ◌<◌, Bool, true, false, if◌then◌else◌}
-use Rattle.shm_words.specs.declared.geometry.Geometry.{Geometry}
-use Rattle.shm_words.specs.Tags.{tag_refs, tag_shape, shape_author}
-use Rattle.shm_graph.specs.declared.spot.Spot.{Spot}
-use Rattle.shm_graph.specs.declared.spot.Spot.TheVariants.{Root, Tag, Body}
-use Rattle.shm_graph.specs.Spots.{upd}
-use Rattle.shm_graph.specs.Blocks.{IsFree, classes, headers}
-use Rattle.shm_graph.specs.Ops.{indegree}
-use Rattle.shm_graph.specs.Views.{View, at1, targets, held_overs}
+use Rattle.shm_words.specs.{declared.geometry.Geometry.Geometry, Tags.{tag_refs, tag_shape, shape_author}}
+use Rattle.shm_graph.specs.{declared.spot.Spot.{Spot, TheVariants.{Root, Tag, Body}}, Spots.upd}
+use Rattle.shm_graph.specs.{Blocks.{IsFree, classes, headers}, Ops.indegree, Views.{View, at1, targets, held_overs}}
 
 -- which blocks are live, what each holds (its numbers of words and its author: its tag without the link), what each spot names, and the references held over
 pub record Graph : Type 0 where

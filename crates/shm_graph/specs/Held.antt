@@ -1,38 +1,25 @@
 -- the invariant of a pool: every clause, each over the parts that it reads
 use Rattle.std.specs.Prelude.{◌≡◌, ◌≢◌, ℕ, ◌+◌, ◌%◌, ◌^◌, ◌<◌, ◌≤◌, Bool, true, false, ◌==◌, ◌⊎◌, List, [], ◌∷◌, length, slice_index, slice_index_or, Option, Some, None, take}
 use Rattle.std.specs.List.{All, Contains}
-use Rattle.shm_words.specs.declared.geometry.Geometry.{Geometry}
-use Rattle.shm_words.specs.declared.header.Header.{Header}
-use Rattle.shm_words.specs.declared.redo.Redo.{Redo as ARedo}
-use Rattle.shm_words.specs.declared.redo.Redo.TheVariants as redos
-use Rattle.shm_words.specs.Redos.{redo_of, kind_of, odd_of}
-use Rattle.shm_words.specs.Headers.{header_of}
-use Rattle.shm_words.specs.Tags.{tag_refs, tag_plain, tag_author, tag_link, tag_limit}
-use Rattle.shm_words.specs.Classes.{IsClass, class_for}
+use Rattle.shm_words.specs.declared.{geometry.Geometry.Geometry, header.Header.Header, redo.Redo.Redo as ARedo}
+use Rattle.shm_words.specs.{Redos.{redo_of, kind_of, odd_of}, Headers.header_of}
+use Rattle.shm_words.specs.{Tags.{tag_refs, tag_plain, tag_author, tag_link, tag_limit}, Classes.{IsClass, class_for}}
 use Rattle.shm_words.specs.Layout.{GeometryFits}
+use Rattle.shm_words.specs.declared.redo.Redo.TheVariants as redos
 use Rattle.shm_graph.specs.declared.spot.Spot.{Spot}
 use Rattle.shm_graph.specs.declared.spot.Spot.TheVariants.{Spare, Status, Redo, RedoMore, Hold, Latch, Home, Era, Root, Tail, QueueHead, Slot, Segment, Page, Unused, Head, Tag, Body}
-use Rattle.shm_graph.specs.declared.memo.Status.{Status as AStatus}
-use Rattle.shm_graph.specs.declared.memo.Status.TheVariants as status
-use Rattle.shm_graph.specs.declared.memo.First.{First}
+use Rattle.shm_graph.specs.declared.memo.{Status.Status as AStatus, First.First}
 use Rattle.shm_graph.specs.declared.memo.First.TheVariants.{Begun, Committed, Written}
-use Rattle.shm_graph.specs.declared.memo.ChangeStage.TheVariants.{Raising, Lowering}
-use Rattle.shm_graph.specs.declared.memo.Op.{Op}
-use Rattle.shm_graph.specs.declared.memo.Op.TheVariants.{Nothing, Alloc, Up, Down, Change}
-use Rattle.shm_graph.specs.declared.memo.Stored.{Stored}
-use Rattle.shm_graph.specs.declared.memo.Look.{Look}
-use Rattle.shm_graph.specs.declared.memo.Making.{Making}
-use Rattle.shm_graph.specs.declared.memo.Fact.{Fact}
-use Rattle.shm_graph.specs.declared.memo.Fact.TheVariants.{Header as HeaderRead, Counter, Class}
-use Rattle.shm_graph.specs.declared.memo.Test.{Test}
-use Rattle.shm_graph.specs.declared.table.Part.{Part}
-use Rattle.shm_graph.specs.declared.table.Part.TheVariants.{Loose, Table}
-use Rattle.shm_graph.specs.Spots.{IsAt, class_at, spot_address, segment_of}
-use Rattle.shm_graph.specs.Blocks.{IsBlock}
-use Rattle.shm_graph.specs.References.{Words, words_of}
-use Rattle.shm_graph.specs.Tables.{Contents, contents_of, HasShape, IsPartition}
+use Rattle.shm_graph.specs.declared.memo.{ChangeStage.TheVariants.{Raising, Lowering}, Op.Op}
+use Rattle.shm_graph.specs.declared.memo.{Op.TheVariants.{Nothing, Alloc, Up, Down, Change}, Stored.Stored, Look.Look}
+use Rattle.shm_graph.specs.declared.memo.{Making.Making, Fact.Fact}
+use Rattle.shm_graph.specs.declared.memo.{Fact.TheVariants.{Header as HeaderRead, Counter, Class}, Test.Test}
+use Rattle.shm_graph.specs.declared.table.Part.{Part, TheVariants.{Loose, Table}}
+use Rattle.shm_graph.specs.{Spots.{IsAt, class_at, spot_address, segment_of}, Blocks.IsBlock}
+use Rattle.shm_graph.specs.{References.{Words, words_of}, Tables.{Contents, contents_of, HasShape, IsPartition}}
 use Rattle.shm_graph.specs.Ops.{word_at, is_op, slot_of, up_slot, indegree}
 use Rattle.shm_graph.specs.Views.{View, own_word, owner_is, targets, held_overs, ons}
+use Rattle.shm_graph.specs.declared.memo.Status.TheVariants as status
 
 -- ---- words that have few values
 

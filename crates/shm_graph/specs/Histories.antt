@@ -1,12 +1,7 @@
 -- the turns on the way of a run
 use Rattle.shm_words.specs.declared.geometry.Geometry.{Geometry}
-use Rattle.shm_graph.specs.declared.memo.Step.{Step}
-use Rattle.shm_graph.specs.declared.run.Move.{Move}
-use Rattle.shm_graph.specs.Asks.{at_of}
-use Rattle.shm_graph.specs.Events.{Event}
-use Rattle.shm_graph.specs.Laws.{event_on}
-use Rattle.shm_graph.specs.Runs.{Held, IsMove, State, Turned, memos_of}
-use Rattle.shm_graph.specs.Spots.{classes_in, spot_at}
+use Rattle.shm_graph.specs.{declared.{memo.Step.Step, run.Move.Move}, Asks.at_of, Events.Event, Laws.event_on}
+use Rattle.shm_graph.specs.{Runs.{Held, IsMove, State, Turned, memos_of}, Spots.{classes_in, spot_at}}
 
 -- in a state that holds this turn is taken
 pub record IsTaken (g : Geometry) (s : State) (m : Move) : Type 0 where

@@ -1,10 +1,8 @@
 -- an identity between two calls of its client
 use Rattle.std.specs.Prelude.{◌≡◌, ℕ, ◌+◌, Option, Some, None}
-use Rattle.shm_graph.specs.declared.spot.Spot.TheVariants.{Hold}
-use Rattle.shm_graph.specs.declared.memo.Status.TheVariants as status
-use Rattle.shm_graph.specs.declared.memo.Op.TheVariants.{Nothing}
-use Rattle.shm_graph.specs.declared.memo.Memo.{Memo}
+use Rattle.shm_graph.specs.declared.{spot.Spot.TheVariants.Hold, memo.{Op.TheVariants.Nothing, Memo.Memo}}
 use Rattle.shm_graph.specs.Views.{own_word}
+use Rattle.shm_graph.specs.declared.memo.Status.TheVariants as status
 
 -- the hold word of an identity that holds this latch
 abbrev pub hold_word : Option ℕ → ℕ

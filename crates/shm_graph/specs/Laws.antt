@@ -1,32 +1,17 @@
 -- the laws of machines
 use Rattle.std.specs.Prelude.{◌≡◌, ℕ, ◌<◌, Bool, true, false, ◌==◌, if◌then◌else◌, Option, Some, None, List, [], ◌∷◌, ◌++◌, slice_index}
-use Rattle.shm_words.specs.declared.geometry.Geometry.{Geometry}
-use Rattle.shm_words.specs.Layout.{total_of}
-use Rattle.shm_graph.specs.declared.ask.Ask.{Ask}
-use Rattle.shm_graph.specs.declared.ask.Ask.TheVariants.{Store, Exchange}
-use Rattle.shm_graph.specs.declared.ask.Me.{Me}
-use Rattle.shm_graph.specs.declared.ask.Turn.{Turn}
-use Rattle.shm_graph.specs.declared.ask.Turn.TheVariants.{More, Done, Died}
-use Rattle.shm_graph.specs.declared.spot.Spot.{Spot}
-use Rattle.shm_graph.specs.declared.spot.Spot.TheVariants.{Hold, Root, Head}
-use Rattle.shm_graph.specs.declared.memo.First.TheVariants.{Begun}
-use Rattle.shm_graph.specs.declared.memo.Second.TheVariants.{Open}
-use Rattle.shm_graph.specs.declared.memo.ChangeStage.TheVariants.{Raising, Lowering}
-use Rattle.shm_graph.specs.declared.memo.Op.{Op}
-use Rattle.shm_graph.specs.declared.memo.Op.TheVariants as op
-use Rattle.shm_graph.specs.declared.memo.Seen.{Seen}
-use Rattle.shm_graph.specs.declared.memo.Memo.{Memo}
-use Rattle.shm_graph.specs.declared.memo.Step.{Step}
-use Rattle.shm_graph.specs.Spots.{spot_at}
-use Rattle.shm_graph.specs.Blocks.{classes}
-use Rattle.shm_graph.specs.Views.{View, view, at1}
-use Rattle.shm_graph.specs.Held.{HeldAt, Gone}
-use Rattle.shm_graph.specs.Asks.{Trail, at_of, seen_of, words_after, pair, call_before}
-use Rattle.shm_graph.specs.Ops.{IsUncommitted}
-use Rattle.shm_graph.specs.Changes.{memo_on, asked_spot}
-use Rattle.shm_graph.specs.Agents.{recovers}
+use Rattle.shm_words.specs.{declared.geometry.Geometry.Geometry, Layout.total_of}
+use Rattle.shm_graph.specs.declared.ask.{Ask.{Ask, TheVariants.{Store, Exchange}}, Me.Me, Turn.Turn}
+use Rattle.shm_graph.specs.declared.{ask.Turn.TheVariants.{More, Done, Died}, spot.Spot.Spot}
+use Rattle.shm_graph.specs.declared.{spot.Spot.TheVariants.{Hold, Root, Head}, memo.First.TheVariants.Begun}
+use Rattle.shm_graph.specs.declared.memo.{Second.TheVariants.Open, ChangeStage.TheVariants.{Raising, Lowering}, Op.Op}
+use Rattle.shm_graph.specs.{declared.memo.{Seen.Seen, Memo.Memo, Step.Step}, Spots.spot_at, Blocks.classes}
+use Rattle.shm_graph.specs.{Views.{View, view, at1}, Held.{HeldAt, Gone}}
+use Rattle.shm_graph.specs.{Asks.{Trail, at_of, seen_of, words_after, pair, call_before}, Ops.IsUncommitted}
+use Rattle.shm_graph.specs.{Changes.{memo_on, asked_spot}, Agents.recovers}
 use Rattle.shm_graph.specs.Events.{Event, Nothing, Alloc, Up, Down, ChangeUp, ChangeDown, Free, graph_of, Happens}
 use Rattle.shm_graph.specs.Controllers.{IsAllowed, IsEraRaised, IsRowShown}
+use Rattle.shm_graph.specs.declared.memo.Op.TheVariants as op
 
 -- The control of a machine with states S and answers A: its identity, its line, whether it has made no step, whether it is finished, what it asks for, where it goes, and what it then answers
 pub record Control (S A : Type 0) : Type 0 where

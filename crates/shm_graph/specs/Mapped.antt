@@ -1,12 +1,7 @@
 -- a control whose answers are told by those of another one, and its laws
 use Rattle.std.proofs.Common.{◌≡◌, ℕ, refl, ◌∙◌}
-use Rattle.std.specs.Prelude.{Option, Some, None, ◌∷◌, [], ◌++◌}
-use Rattle.std.specs.Option.{option_map}
-use Rattle.shm_graph.specs.declared.memo.Memo.{Memo}
-use Rattle.shm_graph.specs.Asks.{Trail, pair}
-use Rattle.shm_graph.specs.declared.ask.Ask.{Ask}
-use Rattle.shm_graph.specs.declared.ask.Me.{Me}
-use Rattle.shm_graph.specs.declared.spot.Spot.{Spot}
+use Rattle.std.specs.{Prelude.{Option, Some, None, ◌∷◌, [], ◌++◌}, Option.option_map}
+use Rattle.shm_graph.specs.{declared.{memo.Memo.Memo, ask.{Ask.Ask, Me.Me}, spot.Spot.Spot}, Asks.{Trail, pair}}
 use Rattle.shm_graph.specs.Laws.{Control, Frame, KeptAt, Laws, Steady, Inside, Back, Keeps, Then, Outcome, is_some}
 
 -- what holds of a machine with states S on the way, and at its answer

@@ -1,22 +1,13 @@
 -- what an exchange that succeeds leaves in the memo of its identity
 use Rattle.std.specs.Prelude.{ℕ, Bool, ◌&&◌, ◌==◌, if◌then◌else◌, Option, Some, None, List, [], ◌∷◌, ◌++◌}
 use Rattle.std.specs.List.{filter}
-use Rattle.shm_words.specs.Headers.{header_of}
-use Rattle.shm_words.specs.Tags.{tag_refs, tag_plain}
-use Rattle.shm_graph.specs.declared.spot.Spot.{Spot}
-use Rattle.shm_graph.specs.declared.spot.Spot.TheVariants.{Latch, Home, Slot, Segment, Head, Tag}
-use Rattle.shm_graph.specs.declared.memo.First.TheVariants.{Begun, Committed}
-use Rattle.shm_graph.specs.declared.memo.Second.TheVariants.{Open, Closed}
-use Rattle.shm_graph.specs.declared.memo.ChangeStage.TheVariants.{Raising, Lowering}
-use Rattle.shm_graph.specs.declared.memo.Op.{Op}
-use Rattle.shm_graph.specs.declared.memo.Op.TheVariants.{Alloc, Up, Down, Change}
-use Rattle.shm_graph.specs.declared.memo.Stored.{Stored}
-use Rattle.shm_graph.specs.declared.memo.Making.{Making}
-use Rattle.shm_graph.specs.declared.memo.Memo.{Memo}
-use Rattle.shm_graph.specs.Reach.{known_at, shown, sifted, cut_looks}
-use Rattle.shm_graph.specs.MemoAfterRead.{valued}
-use Rattle.shm_graph.specs.MemoAfterStore.{put, other_than, not_block, not_of}
-use Rattle.shm_graph.specs.Chains.{part_set, or_zero}
+use Rattle.shm_words.specs.{Headers.header_of, Tags.{tag_refs, tag_plain}}
+use Rattle.shm_graph.specs.declared.spot.Spot.{Spot, TheVariants.{Latch, Home, Slot, Segment, Head, Tag}}
+use Rattle.shm_graph.specs.declared.memo.{First.TheVariants.{Begun, Committed}, Second.TheVariants.{Open, Closed}}
+use Rattle.shm_graph.specs.declared.memo.{ChangeStage.TheVariants.{Raising, Lowering}, Op.Op}
+use Rattle.shm_graph.specs.declared.memo.{Op.TheVariants.{Alloc, Up, Down, Change}, Stored.Stored, Making.Making}
+use Rattle.shm_graph.specs.{declared.memo.Memo.Memo, Reach.{known_at, shown, sifted, cut_looks}, MemoAfterRead.valued}
+use Rattle.shm_graph.specs.{MemoAfterStore.{put, other_than, not_block, not_of}, Chains.{part_set, or_zero}}
 
 -- ---- a block becomes live
 

@@ -1,25 +1,14 @@
 -- what a word that was read leaves in the memo of its reader
 use Rattle.std.specs.Prelude.{ℕ, ◌+◌, ◌%◌, Bool, true, false, not, ◌&&◌, ◌||◌, ◌==◌, nat_lt, nat_le, if◌then◌else◌, eqb, slice_index, Option, Some, None, List, [], ◌∷◌, ◌++◌}
 use Rattle.std.specs.List.{list_any}
-use Rattle.shm_words.specs.declared.geometry.Geometry.{Geometry}
-use Rattle.shm_words.specs.Headers.{header_of}
+use Rattle.shm_words.specs.{declared.geometry.Geometry.Geometry, Headers.header_of}
 use Rattle.shm_graph.specs.declared.spot.Spot.{Spot}
 use Rattle.shm_graph.specs.declared.spot.Spot.TheVariants.{Hold, Home, Era, Tail, QueueHead, Slot, Page, Head, Tag, Body}
-use Rattle.shm_graph.specs.declared.memo.First.TheVariants.{Begun}
-use Rattle.shm_graph.specs.declared.memo.ChangeStage.TheVariants.{Raising}
-use Rattle.shm_graph.specs.declared.memo.Op.{Op}
-use Rattle.shm_graph.specs.declared.memo.Op.TheVariants.{Nothing, Up, Change}
-use Rattle.shm_graph.specs.declared.memo.Fact.{Fact}
-use Rattle.shm_graph.specs.declared.memo.Fact.TheVariants.{Header as HeaderRead, Counter, Class}
-use Rattle.shm_graph.specs.declared.memo.Test.{Test}
-use Rattle.shm_graph.specs.declared.memo.Memo.{Memo}
-use Rattle.shm_graph.specs.declared.table.Part.{Part}
-use Rattle.shm_graph.specs.Spots.{segment_of}
-use Rattle.shm_graph.specs.Views.{own_word}
-use Rattle.shm_graph.specs.Held.{is_loose}
-use Rattle.shm_graph.specs.Agents.{recovers}
-use Rattle.shm_graph.specs.Reach.{learnt, is_dying}
-use Rattle.shm_graph.specs.Telling.{Claim, claim_of, Role, Entry, role_in, roles}
+use Rattle.shm_graph.specs.declared.memo.{First.TheVariants.Begun, ChangeStage.TheVariants.Raising, Op.Op}
+use Rattle.shm_graph.specs.declared.memo.{Op.TheVariants.{Nothing, Up, Change}, Fact.Fact}
+use Rattle.shm_graph.specs.declared.memo.{Fact.TheVariants.{Header as HeaderRead, Counter, Class}, Test.Test, Memo.Memo}
+use Rattle.shm_graph.specs.{declared.table.Part.Part, Spots.segment_of, Views.own_word, Held.is_loose, Agents.recovers}
+use Rattle.shm_graph.specs.{Reach.{learnt, is_dying}, Telling.{Claim, claim_of, Role, Entry, role_in, roles}}
 
 -- ---- the commit test
 

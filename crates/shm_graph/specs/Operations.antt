@@ -1,16 +1,8 @@
 -- operations: when a machine may begin between two calls of its identity, what it leaves, and that it rests
 use Rattle.std.specs.Prelude.{◌≡◌, ℕ, ◌<◌, true, false, List, []}
 use Rattle.shm_words.specs.Layout.{GeometryFits}
-use Rattle.shm_graph.specs.declared.ask.Me.{Me}
-use Rattle.shm_graph.specs.declared.memo.Memo.{Memo}
-use Rattle.shm_graph.specs.declared.spot.Spot.{Spot}
-use Rattle.shm_graph.specs.Asks.{Trail}
-use Rattle.shm_graph.specs.Events.{Event}
-use Rattle.shm_graph.specs.Held.{HeldAt}
-use Rattle.shm_graph.specs.Idle.{IsIdle}
-use Rattle.shm_graph.specs.Laws.{Control}
-use Rattle.shm_graph.specs.Tells.{Tells, happens_along}
-use Rattle.shm_graph.specs.Views.{view}
+use Rattle.shm_graph.specs.{declared.{ask.Me.Me, memo.Memo.Memo, spot.Spot.Spot}, Asks.Trail, Events.Event, Held.HeldAt}
+use Rattle.shm_graph.specs.{Idle.IsIdle, Laws.Control, Tells.{Tells, happens_along}, Views.view}
 
 -- the memo is that of an identity in a held state
 abbrev pub IsHeld : Me → Memo → Type 0

@@ -1,16 +1,11 @@
 -- count steps in progress: what each does to the references
 use Rattle.std.specs.Prelude.{ℕ, zero, suc, ◌+◌, Bool, true, false, ◌==◌, nat_lt, if◌then◌else◌, Option, Some, None}
 use Rattle.shm_words.specs.declared.geometry.Geometry.{Geometry}
-use Rattle.shm_graph.specs.declared.spot.Spot.{Spot}
-use Rattle.shm_graph.specs.declared.spot.Spot.TheVariants.{Spare, Home, Root, Slot, Body}
-use Rattle.shm_graph.specs.declared.memo.First.{First}
-use Rattle.shm_graph.specs.declared.memo.First.TheVariants.{Begun, Committed, Written}
-use Rattle.shm_graph.specs.declared.memo.Second.{Second}
+use Rattle.shm_graph.specs.declared.{spot.Spot.{Spot, TheVariants.{Spare, Home, Root, Slot, Body}}, memo.First.First}
+use Rattle.shm_graph.specs.declared.memo.{First.TheVariants.{Begun, Committed, Written}, Second.Second}
 use Rattle.shm_graph.specs.declared.memo.Second.TheVariants.{Open, Closed}
-use Rattle.shm_graph.specs.declared.memo.ChangeStage.TheVariants.{Raising, Lowering}
-use Rattle.shm_graph.specs.declared.memo.Op.{Op}
-use Rattle.shm_graph.specs.declared.memo.Op.TheVariants.{Nothing, Alloc, Up, Down, Change}
-use Rattle.shm_graph.specs.Spots.{same_spot}
+use Rattle.shm_graph.specs.declared.memo.{ChangeStage.TheVariants.{Raising, Lowering}, Op.Op}
+use Rattle.shm_graph.specs.{declared.memo.Op.TheVariants.{Nothing, Alloc, Up, Down, Change}, Spots.same_spot}
 use Rattle.shm_graph.specs.References.{Words, sum_below, one_if, references_to}
 
 -- the word at a spot that may be a reference word

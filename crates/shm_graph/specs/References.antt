@@ -1,12 +1,7 @@
 -- reference words, and how many of them name a block
 use Rattle.std.specs.Prelude.{ℕ, zero, suc, ◌+◌, Bool, true, false, ◌==◌, nat_lt, if◌then◌else◌}
-use Rattle.shm_words.specs.declared.geometry.Geometry.{Geometry}
-use Rattle.shm_words.specs.Headers.{header_of}
-use Rattle.shm_words.specs.Tags.{tag_refs}
-use Rattle.shm_words.specs.Layout.{total_of}
-use Rattle.shm_graph.specs.declared.spot.Spot.{Spot}
-use Rattle.shm_graph.specs.declared.spot.Spot.TheVariants.{Home, Root, Slot, Head, Tag, Body}
-use Rattle.shm_graph.specs.Spots.{spot_at}
+use Rattle.shm_words.specs.{declared.geometry.Geometry.Geometry, Headers.header_of, Tags.tag_refs, Layout.total_of}
+use Rattle.shm_graph.specs.{declared.spot.Spot.{Spot, TheVariants.{Home, Root, Slot, Head, Tag, Body}}, Spots.spot_at}
 
 -- f 0 + f 1 + .. + f (n - 1)
 abbrev pub sum_below : ℕ → (ℕ → ℕ) → ℕ

@@ -1,34 +1,15 @@
 -- lists of words and of accounts, and the runs over them
 use Rattle.std.specs.Prelude.{◌≡◌, ℕ, zero, suc, ◌-◌, ◌^◌, ◌<◌, ◌⊎◌, ◌==◌, Bool, true, false, if◌then◌else◌, Option, Some, None, List, [], ◌∷◌, ◌++◌, length, slice_index, slice_index_or, slice_set, replicate}
-use Rattle.shm_words.specs.declared.geometry.Geometry.{Geometry}
-use Rattle.shm_words.specs.declared.place.Place.{Place}
+use Rattle.shm_words.specs.{declared.{geometry.Geometry.Geometry, place.Place.Place}, Layout.{place_at, total_of}}
 use Rattle.shm_words.specs.declared.place.Place.TheVariants as place
-use Rattle.shm_words.specs.Layout.{place_at, total_of}
-use Rattle.shm_graph.specs.declared.spot.Spot.TheVariants.{Era}
-use Rattle.shm_graph.specs.declared.memo.Status.TheVariants.{New, Gone}
-use Rattle.shm_graph.specs.declared.memo.Op.TheVariants.{Nothing}
-use Rattle.shm_graph.specs.declared.memo.Kind.{Kind}
-use Rattle.shm_graph.specs.declared.memo.Kind.TheVariants.{Client, Recoverer}
-use Rattle.shm_graph.specs.declared.memo.Fate.{Fate}
-use Rattle.shm_graph.specs.declared.memo.Fate.TheVariants.{Died}
-use Rattle.shm_graph.specs.declared.memo.Agent.{Agent}
-use Rattle.shm_graph.specs.declared.memo.Memo.{Memo}
-use Rattle.shm_graph.specs.declared.memo.Step.{Step}
-use Rattle.shm_graph.specs.declared.memo.Seen.{Seen}
-use Rattle.shm_graph.specs.declared.table.Part.{Part}
-use Rattle.shm_graph.specs.declared.table.Part.TheVariants.{Loose, Table}
-use Rattle.shm_graph.specs.declared.run.LoggedLine.{LoggedLine}
-use Rattle.shm_graph.specs.declared.run.Start.{Start}
-use Rattle.shm_graph.specs.declared.run.Account.{Account}
-use Rattle.shm_graph.specs.declared.run.Move.{Move}
-use Rattle.shm_graph.specs.declared.run.Move.TheVariants.{Word, Dies, Begins}
-use Rattle.shm_graph.specs.Spots.{see, spot_at, classes_in}
-use Rattle.shm_graph.specs.Views.{view}
-use Rattle.shm_graph.specs.Held.{HeldAt}
-use Rattle.shm_graph.specs.Asks.{at_of, seen_of, words_set, call_after}
-use Rattle.shm_graph.specs.Changes.{memo_after, asked_spot}
-use Rattle.shm_graph.specs.Agents.{died, entered, acts, last_agent}
-use Rattle.shm_graph.specs.Laws.{Stepped, event_on}
+use Rattle.shm_graph.specs.declared.{spot.Spot.TheVariants.Era, memo.Status.TheVariants.{New, Gone}}
+use Rattle.shm_graph.specs.declared.memo.{Op.TheVariants.Nothing, Kind.{Kind, TheVariants.{Client, Recoverer}}}
+use Rattle.shm_graph.specs.declared.memo.{Fate.{Fate, TheVariants.Died}, Agent.Agent, Memo.Memo, Step.Step, Seen.Seen}
+use Rattle.shm_graph.specs.declared.{table.Part.{Part, TheVariants.{Loose, Table}}, run.LoggedLine.LoggedLine}
+use Rattle.shm_graph.specs.declared.run.{Start.Start, Account.Account, Move.{Move, TheVariants.{Word, Dies, Begins}}}
+use Rattle.shm_graph.specs.{Spots.{see, spot_at, classes_in}, Views.view, Held.HeldAt}
+use Rattle.shm_graph.specs.{Asks.{at_of, seen_of, words_set, call_after}, Changes.{memo_after, asked_spot}}
+use Rattle.shm_graph.specs.{Agents.{died, entered, acts, last_agent}, Laws.{Stepped, event_on}}
 
 -- ---- accounts
 

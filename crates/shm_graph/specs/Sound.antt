@@ -1,17 +1,13 @@
 -- what a pool that is at work promises in any state: the part of the invariant that speaks for itself
 use Rattle.std.specs.Prelude.{◌≡◌, ◌≢◌, ℕ, ◌+◌, ◌%◌, ◌<◌, true, false, []}
-use Rattle.shm_words.specs.declared.geometry.Geometry.{Geometry}
-use Rattle.shm_words.specs.Headers.{header_of}
-use Rattle.shm_words.specs.Tags.{tag_author}
+use Rattle.shm_words.specs.{declared.geometry.Geometry.Geometry, Headers.header_of, Tags.tag_author}
 use Rattle.shm_graph.specs.declared.spot.Spot.{Spot}
 use Rattle.shm_graph.specs.declared.spot.Spot.TheVariants.{Status, Redo, RedoMore, Hold, Latch, Home, Era, Root, Tail, QueueHead, Slot, Segment, Page, Unused, Head, Tag, Body}
-use Rattle.shm_graph.specs.declared.memo.Status.TheVariants as status
-use Rattle.shm_graph.specs.declared.memo.Op.TheVariants.{Nothing}
-use Rattle.shm_graph.specs.References.{words_of}
-use Rattle.shm_graph.specs.Tables.{contents_of, HasShape}
+use Rattle.shm_graph.specs.{declared.memo.Op.TheVariants.Nothing, References.words_of, Tables.{contents_of, HasShape}}
 use Rattle.shm_graph.specs.Views.{View, own_word, owner_is, targets, held_overs, ons}
 use Rattle.shm_graph.specs.Held.{status_word, LatchTie, SegmentTie, DyingTie, MakingTie, BlockSound, EraSound, OpTie, CountSound, named_by, LooksSound, LaneSound, IsUnusedLane, PartTie, is_loose, Fresh, IsDying}
 use Rattle.shm_graph.specs.Controllers.{IsController}
+use Rattle.shm_graph.specs.declared.memo.Status.TheVariants as status
 
 -- nothing of an identity is left: no step in progress, no root, latch, zero-count block or segment, no send that isn't published and no receive that is half done
 pub record IsGone (g : Geometry) (w : Spot → ℕ) (v : View) (c : ℕ) : Type 0 where

@@ -1,7 +1,6 @@
 -- the places of a pool once its pages have their classes
 use Rattle.std.specs.Prelude.{◌≡◌, ℕ, ◌+◌, ◌-◌, ◌/◌, ◌%◌, Bool, true, false, ◌&&◌, ◌==◌, if◌then◌else◌, List, slice_index}
-use Rattle.shm_words.specs.declared.geometry.Geometry.{Geometry}
-use Rattle.shm_words.specs.declared.place.Place.{Place}
+use Rattle.shm_words.specs.declared.{geometry.Geometry.Geometry, place.Place.Place}
 use Rattle.shm_words.specs.declared.place.Place.TheVariants as place
 use Rattle.shm_words.specs.Layout as layout
 use Rattle.shm_graph.specs.declared.spot.Spot.{Spot}

@@ -1,14 +1,10 @@
 -- the table that a pool holds: a partition for each identity
 use Rattle.std.specs.Prelude.{◌≡◌, ◌≢◌, ℕ, ◌%◌, ◌^◌, ◌<◌, ◌≤◌, Bool, true, ◌==◌, if◌then◌else◌, List, [], ◌∷◌, map, Option, Some, None, nat_eq}
 use Rattle.std.specs.List.{IsDistinct}
-use Rattle.shm_words.specs.declared.geometry.Geometry.{Geometry}
-use Rattle.shm_words.specs.declared.header.Header.{Header}
+use Rattle.shm_words.specs.declared.{geometry.Geometry.Geometry, header.Header.Header}
 use Rattle.shm_words.specs.Tags.{tag_refs, tag_plain, tag_author}
-use Rattle.shm_graph.specs.declared.spot.Spot.{Spot}
-use Rattle.shm_graph.specs.declared.table.Entry.{Entry}
-use Rattle.shm_graph.specs.declared.spot.Spot.TheVariants.{Home, Tag, Body}
-use Rattle.shm_graph.specs.Blocks.{headers}
-use Rattle.shm_graph.specs.References.{references}
+use Rattle.shm_graph.specs.declared.{spot.Spot.{Spot, TheVariants.{Home, Tag, Body}}, table.Entry.Entry}
+use Rattle.shm_graph.specs.{Blocks.headers, References.references}
 
 -- what a table is read from: headers, tags, the references in blocks and the words of blocks
 pub record Contents : Type 0 where

@@ -1,21 +1,11 @@
 -- the spot of a word as a memo tells it: no word of the pool enters
 use Rattle.std.specs.Prelude.{ℕ, ◌+◌, ◌-◌, Bool, false, ◌&&◌, ◌==◌, nat_lt, if◌then◌else◌, List, [], ◌∷◌, ◌++◌, map, Option, Some, None}
-use Rattle.shm_words.specs.declared.geometry.Geometry.{Geometry}
-use Rattle.shm_words.specs.Layout.{place_at}
+use Rattle.shm_words.specs.{declared.geometry.Geometry.Geometry, Layout.place_at}
 use Rattle.shm_words.specs.Tags.{tag_refs, tag_plain, tag_author}
-use Rattle.shm_graph.specs.declared.spot.Spot.{Spot}
-use Rattle.shm_graph.specs.declared.spot.Spot.TheVariants.{Home, Unused, Head, Tag, Body}
-use Rattle.shm_graph.specs.declared.ask.Ask.{Ask}
-use Rattle.shm_graph.specs.declared.ask.Ask.TheVariants.{Load, Store, Exchange}
-use Rattle.shm_graph.specs.declared.memo.Stored.{Stored}
-use Rattle.shm_graph.specs.declared.memo.Look.{Look}
-use Rattle.shm_graph.specs.declared.memo.Making.{Making}
-use Rattle.shm_graph.specs.declared.memo.Memo.{Memo}
-use Rattle.shm_graph.specs.Spots.{spot_of, spot_address}
-use Rattle.shm_graph.specs.Asks.{at_of}
-use Rattle.shm_graph.specs.Ops.{Cover, Quiet, On, cover_of}
-use Rattle.shm_graph.specs.Held.{is_loose}
-use Rattle.shm_graph.specs.Reach.{reached_blocks, is_dying}
+use Rattle.shm_graph.specs.declared.{spot.Spot.{Spot, TheVariants.{Home, Unused, Head, Tag, Body}}, ask.Ask.Ask}
+use Rattle.shm_graph.specs.declared.{ask.Ask.TheVariants.{Load, Store, Exchange}, memo.{Stored.Stored, Look.Look}}
+use Rattle.shm_graph.specs.{declared.memo.{Making.Making, Memo.Memo}, Spots.{spot_of, spot_address}, Asks.at_of}
+use Rattle.shm_graph.specs.{Ops.{Cover, Quiet, On, cover_of}, Held.is_loose, Reach.{reached_blocks, is_dying}}
 
 -- ---- blocks and their words
 

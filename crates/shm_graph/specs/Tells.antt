@@ -1,13 +1,7 @@
 -- what a machine tells of the events of its steps: by its control and the word found, and no memo
-use Rattle.std.specs.Prelude.{◌≡◌, ℕ, Bool, true, false, None, List, [], ◌∷◌}
-use Rattle.std.specs.List.{filter}
-use Rattle.shm_graph.specs.declared.spot.Spot.{Spot}
-use Rattle.shm_graph.specs.declared.memo.Memo.{Memo}
-use Rattle.shm_graph.specs.declared.memo.Step.{Step}
-use Rattle.shm_graph.specs.Spots.{spot_at}
-use Rattle.shm_graph.specs.Blocks.{classes}
-use Rattle.shm_graph.specs.Asks.{Trail, at_of, seen_of}
-use Rattle.shm_graph.specs.Events.{Event, Nothing}
+use Rattle.std.specs.{Prelude.{◌≡◌, ℕ, Bool, true, false, None, List, [], ◌∷◌}, List.filter}
+use Rattle.shm_graph.specs.{declared.{spot.Spot.Spot, memo.{Memo.Memo, Step.Step}}, Spots.spot_at, Blocks.classes}
+use Rattle.shm_graph.specs.{Asks.{Trail, at_of, seen_of}, Events.{Event, Nothing}}
 use Rattle.shm_graph.specs.Laws.{Control, Frame, framed, Stands, event_on, step_of}
 
 -- whether the graph changes

@@ -1,7 +1,6 @@
 -- trails: what an operation asks, told step by step, and what it answers in the end
 use Rattle.std.specs.Prelude.{◌≡◌, ◌≢◌, ℕ, Bool, true, false, [], ◌∷◌, ◌++◌}
-use Rattle.shm_graph.specs.declared.ask.Ask.{Ask}
-use Rattle.shm_graph.specs.Asks.{Trail, pair}
+use Rattle.shm_graph.specs.{declared.ask.Ask.Ask, Asks.{Trail, pair}}
 
 -- nothing is asked any more, and this is the answer
 abbrev pub Answers : {A : Type 0} → A → Trail → A → Type 0

@@ -3,18 +3,9 @@ use Rattle.std.specs.Prelude.{ℕ, Bool, false, ◌==◌, if◌then◌else◌, L
 use Rattle.shm_words.specs.declared.geometry.Geometry.{Geometry}
 use Rattle.shm_graph.specs.declared.spot.Spot.{Spot}
 use Rattle.shm_graph.specs.declared.spot.Spot.TheVariants.{Redo, RedoMore, Hold, Home, Era, Root, Tail, QueueHead}
-use Rattle.shm_graph.specs.declared.memo.Status.{Status as AStatus}
-use Rattle.shm_graph.specs.declared.memo.Op.{Op}
-use Rattle.shm_graph.specs.declared.memo.Stored.{Stored}
-use Rattle.shm_graph.specs.declared.memo.Look.{Look}
-use Rattle.shm_graph.specs.declared.memo.Making.{Making}
-use Rattle.shm_graph.specs.declared.memo.Fact.{Fact}
-use Rattle.shm_graph.specs.declared.memo.Test.{Test}
-use Rattle.shm_graph.specs.declared.memo.Memo.{Memo}
-use Rattle.shm_graph.specs.declared.table.Part.{Part}
-use Rattle.shm_graph.specs.Spots.{same_spot}
-use Rattle.shm_graph.specs.References.{words_of}
-use Rattle.shm_graph.specs.Ops.{cover_of, held_over_of, on_of, target}
+use Rattle.shm_graph.specs.declared.memo.{Status.Status as AStatus, Op.Op, Stored.Stored, Look.Look, Making.Making}
+use Rattle.shm_graph.specs.{declared.{memo.{Fact.Fact, Test.Test, Memo.Memo}, table.Part.Part}, Spots.same_spot}
+use Rattle.shm_graph.specs.{References.words_of, Ops.{cover_of, held_over_of, on_of, target}}
 
 -- a function with one value changed, by one key and by two
 abbrev pub at1 : {T : Type 0} → (ℕ → T) → ℕ → T → ℕ → T

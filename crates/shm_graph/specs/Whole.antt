@@ -1,13 +1,9 @@
 -- the laws of a machine that runs by itself, over lists; they follow from its laws in any frame
 use Rattle.std.specs.Prelude.{◌≡◌, ℕ, ◌<◌, false, List, slice_index}
 use Rattle.shm_words.specs.Layout.{total_of}
-use Rattle.shm_graph.specs.declared.memo.Memo.{Memo}
-use Rattle.shm_graph.specs.declared.run.Account.{Account}
-use Rattle.shm_graph.specs.declared.run.Move.TheVariants.{Word}
-use Rattle.shm_graph.specs.Asks.{Trail, at_of, seen_of, call_before}
-use Rattle.shm_graph.specs.Changes.{memo_after}
-use Rattle.shm_graph.specs.Laws.{Control, Outcome, step_of}
-use Rattle.shm_graph.specs.Runs.{Held, Turned, state, account_at}
+use Rattle.shm_graph.specs.declared.{memo.Memo.Memo, run.{Account.Account, Move.TheVariants.Word}}
+use Rattle.shm_graph.specs.{Asks.{Trail, at_of, seen_of, call_before}, Changes.memo_after}
+use Rattle.shm_graph.specs.{Laws.{Control, Outcome, step_of}, Runs.{Held, Turned, state, account_at}}
 
 module _ {S A : Type 0} (k : Control S A) where
   -- the machine, the memo before its first step and the memo now: what it has asked is the call, unless it has made no step

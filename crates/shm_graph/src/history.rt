@@ -1,31 +1,19 @@
 //! What a user of a pool may conclude from its runs.
 
 ghost use Rattle.std.specs.Prelude.{◌≡◌, ◌≢◌, ℕ, ◌+◌, ◌<◌, ◌≤◌, ◌⊎◌, false, List, ◌∷◌, ◌++◌, Some};
-ghost use Rattle.shm_words.specs.declared.geometry.Geometry.{Geometry as AGeometry};
-ghost use Rattle.shm_words.specs.Layout.{GeometryFits, total_of};
+ghost use Rattle.shm_words.specs.{declared.geometry.Geometry.Geometry as AGeometry, Layout.{GeometryFits, total_of}};
 ghost use Rattle.shm_words.specs.Tags.{tag_author, tag_plain, tag_refs};
-ghost use Rattle.shm_graph.specs.declared.ask.Ask.TheVariants.{Exchange};
-ghost use Rattle.shm_graph.specs.declared.memo.Agent.{Agent as AnAgent};
+ghost use Rattle.shm_graph.specs.declared.{ask.Ask.TheVariants.Exchange, memo.Agent.Agent as AnAgent};
+ghost use Rattle.shm_graph.specs.declared.{memo.{Kind.Kind as AKind, Step.Step as AStep}, run.Move.Move as AMove};
+ghost use Rattle.shm_graph.specs.declared.run.{Move.TheVariants.{Word, Begins}, Start.Start as AStart};
+ghost use Rattle.shm_graph.specs.{declared.spot.Spot.Spot as ASpot, Agents.{acts, last_agent, steps_made}, Asks.at_of};
+ghost use Rattle.shm_graph.specs.{Blocks.{IsLive, classes, headers}, Controllers.IsController};
+ghost use Rattle.shm_graph.specs.{Events.{Alloc, Up, ChangeUp, Free}, Histories.{IsTaken, event_at}, Ops.indegree};
+ghost use Rattle.shm_graph.specs.{Runs.{EraFits, Held, State, first_state, memos_of, moved, Leads}, Sound.IsSound};
+ghost use Rattle.shm_graph.specs.{Spots.{classes_in, see, spot_at}, Views.{held_overs, own_word, targets, view}};
 ghost use Rattle.shm_graph.specs.declared.memo.Fate.TheVariants as fate;
-ghost use Rattle.shm_graph.specs.declared.memo.Kind.{Kind as AKind};
 ghost use Rattle.shm_graph.specs.declared.memo.Kind.TheVariants as kind;
-ghost use Rattle.shm_graph.specs.declared.memo.Step.{Step as AStep};
-ghost use Rattle.shm_graph.specs.declared.run.Move.{Move as AMove};
-ghost use Rattle.shm_graph.specs.declared.run.Move.TheVariants.{Word, Begins};
-ghost use Rattle.shm_graph.specs.declared.run.Start.{Start as AStart};
-ghost use Rattle.shm_graph.specs.declared.spot.Spot.{Spot as ASpot};
 ghost use Rattle.shm_graph.specs.declared.spot.Spot.TheVariants as spot;
-ghost use Rattle.shm_graph.specs.Agents.{acts, last_agent, steps_made};
-ghost use Rattle.shm_graph.specs.Asks.{at_of};
-ghost use Rattle.shm_graph.specs.Blocks.{IsLive, classes, headers};
-ghost use Rattle.shm_graph.specs.Controllers.{IsController};
-ghost use Rattle.shm_graph.specs.Events.{Alloc, Up, ChangeUp, Free};
-ghost use Rattle.shm_graph.specs.Histories.{IsTaken, event_at};
-ghost use Rattle.shm_graph.specs.Ops.{indegree};
-ghost use Rattle.shm_graph.specs.Runs.{EraFits, Held, State, first_state, memos_of, moved, Leads};
-ghost use Rattle.shm_graph.specs.Sound.{IsSound};
-ghost use Rattle.shm_graph.specs.Spots.{classes_in, see, spot_at};
-ghost use Rattle.shm_graph.specs.Views.{held_overs, own_word, targets, view};
 
 /// Each state of a run from a pool's first state is sound, and each turn of a run is taken in a state to which the turns before it
 /// lead.

@@ -1,32 +1,19 @@
 //! The laws of runs, and of machines that run by themselves.
 
 ghost use Rattle.std.specs.Prelude.{◌≡◌, ◌≢◌, ℕ, Bool, true, false, ◌<◌, ◌⊎◌, List, [], ◌∷◌, ◌++◌, length};
-ghost use Rattle.shm_words.specs.declared.geometry.Geometry.{Geometry as AGeometry};
-ghost use Rattle.shm_words.specs.Layout.{total_of};
-ghost use Rattle.shm_graph.specs.declared.ask.Ask.{Ask as AnAsk};
-ghost use Rattle.shm_graph.specs.declared.ask.Ask.TheVariants.{Load, Store, Exchange};
-ghost use Rattle.shm_graph.specs.declared.ask.Me.{Me as AMe};
-ghost use Rattle.shm_graph.specs.declared.memo.Memo.{Memo as AMemo};
-ghost use Rattle.shm_graph.specs.declared.spot.Spot.{Spot as ASpot};
-ghost use Rattle.shm_graph.specs.declared.spot.Spot.TheVariants.{Status};
-ghost use Rattle.shm_graph.specs.declared.memo.Kind.{Kind as AKind};
-ghost use Rattle.shm_graph.specs.declared.memo.Status.TheVariants.{New, Gone};
-ghost use Rattle.shm_graph.specs.declared.run.Account.{Account as AnAccount};
-ghost use Rattle.shm_graph.specs.declared.run.Move.{Move as AMove};
+ghost use Rattle.shm_words.specs.{declared.geometry.Geometry.Geometry as AGeometry, Layout.total_of};
+ghost use Rattle.shm_graph.specs.declared.ask.{Ask.{Ask as AnAsk, TheVariants.{Load, Store, Exchange}}, Me.Me as AMe};
+ghost use Rattle.shm_graph.specs.declared.memo.{Memo.Memo as AMemo, Kind.Kind as AKind, Status.TheVariants.{New, Gone}};
+ghost use Rattle.shm_graph.specs.declared.spot.Spot.{Spot as ASpot, TheVariants.Status};
+ghost use Rattle.shm_graph.specs.declared.run.{Account.Account as AnAccount, Move.Move as AMove};
 ghost use Rattle.shm_graph.specs.declared.run.Move.TheVariants.{Dies, Begins};
-ghost use Rattle.shm_graph.specs.Spots.{spot_at, classes_in, see, is_in_body};
-ghost use Rattle.shm_graph.specs.Blocks.{classes};
-ghost use Rattle.shm_graph.specs.Views.{View, view};
-ghost use Rattle.shm_graph.specs.Held.{HeldAt};
-ghost use Rattle.shm_graph.specs.Controllers.{IsAllowed};
-ghost use Rattle.shm_graph.specs.Events.{Event};
+ghost use Rattle.shm_graph.specs.{Spots.{spot_at, classes_in, see, is_in_body}, Blocks.classes, Views.{View, view}};
+ghost use Rattle.shm_graph.specs.{Held.HeldAt, Controllers.IsAllowed, Events.Event};
 ghost use Rattle.shm_graph.specs.Asks.{Trail, at_of, words_after, words_set};
 ghost use Rattle.shm_graph.specs.Laws.{Frame, Stands, KeptAt, GoneNow, MayEnd};
 ghost use Rattle.shm_graph.specs.Runs.{Held, State, memos_of, moved, IsMove, Turned, Leads};
 ghost use Rattle.shm_graph.specs.CallEvents.{steps_of_call, events_of, steps_in, events_in, IsUnbroken};
-ghost use Rattle.shm_graph.specs.Sound.{IsSound};
-ghost use Rattle.shm_graph.specs.Clean.{IsClean};
-ghost use Rattle.shm_graph.specs.Whole.{fits_now, gives_now, WholeInside, WholeKeeps};
+ghost use Rattle.shm_graph.specs.{Sound.IsSound, Clean.IsClean, Whole.{fits_now, gives_now, WholeInside, WholeKeeps}};
 ghost use Rattle.shm_graph.specs.Tells.{Tells, GoesOn, machine_steps, tells_along};
 
 use crate::machine::Machine;

@@ -1,9 +1,7 @@
 //! Machines: programs that take one word step at a time.
 
 ghost use Rattle.std.specs.Prelude.{◌≡◌, false};
-ghost use Rattle.shm_graph.specs.declared.memo.Memo.{Memo as AMemo};
-ghost use Rattle.shm_graph.specs.Asks.{Trail};
-ghost use Rattle.shm_graph.specs.Laws.{Control, Laws, turn_of};
+ghost use Rattle.shm_graph.specs.{declared.memo.Memo.Memo as AMemo, Asks.Trail, Laws.{Control, Laws, turn_of}};
 
 use crate::ask::{Ask, Me, Turn};
 use crate::site::Site;

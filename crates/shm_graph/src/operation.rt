@@ -1,10 +1,7 @@
 //! Operations: machines that begin between two calls of their identity.
 
 ghost use Rattle.std.specs.Prelude.{ℕ, List};
-ghost use Rattle.shm_graph.specs.declared.memo.Memo.{Memo as AMemo};
-ghost use Rattle.shm_graph.specs.Asks.{Trail};
-ghost use Rattle.shm_graph.specs.Events.{Event};
-ghost use Rattle.shm_graph.specs.Operations.{OperationLaws};
+ghost use Rattle.shm_graph.specs.{declared.memo.Memo.Memo as AMemo, Asks.Trail, Events.Event, Operations.OperationLaws};
 
 use crate::machine::Machine;
 

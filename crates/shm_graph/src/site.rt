@@ -1,8 +1,7 @@
 //! Where word steps are made.
 
 ghost use Rattle.std.specs.Prelude.{◌≡◌, ℕ, ◌<◌, slice_index, vec_len};
-ghost use Rattle.shm_graph.specs.declared.ask.Ask.{Ask as AnAsk};
-ghost use Rattle.shm_graph.specs.Asks.{at_of, seen_of, words_set};
+ghost use Rattle.shm_graph.specs.{declared.ask.Ask.Ask as AnAsk, Asks.{at_of, seen_of, words_set}};
 
 use crate::act::make_step;
 use crate::ask::Ask;

@@ -1,22 +1,16 @@
 //! What a user of a pool may conclude from its states: of any sound state, and of a clean pool.
 
 ghost use Rattle.std.specs.Prelude.{◌≡◌, ◌≢◌, ℕ, ◌+◌, ◌<◌, ◌≤◌, ◌%◌, if◌then◌else◌, List, Some, slice_index, take};
-ghost use Rattle.shm_words.specs.declared.geometry.Geometry.{Geometry as AGeometry};
-ghost use Rattle.shm_words.specs.declared.redo.Redo.TheVariants as redos;
-ghost use Rattle.shm_words.specs.Layout.{GeometryFits, total_of};
+ghost use Rattle.shm_words.specs.{declared.geometry.Geometry.Geometry as AGeometry, Layout.{GeometryFits, total_of}};
 ghost use Rattle.shm_words.specs.Redos.{redo_of};
-ghost use Rattle.shm_graph.specs.declared.memo.First.{First as AFirst};
-ghost use Rattle.shm_graph.specs.declared.memo.ChangeStage.TheVariants.{Raising};
-ghost use Rattle.shm_graph.specs.declared.memo.Op.TheVariants.{Nothing, Up, Down, Change};
-ghost use Rattle.shm_graph.specs.declared.spot.Spot.{Spot as ASpot};
-ghost use Rattle.shm_graph.specs.declared.spot.Spot.TheVariants as spot;
-ghost use Rattle.shm_graph.specs.Spots.{see, spot_at, spot_address};
-ghost use Rattle.shm_graph.specs.Blocks.{IsLive, classes, headers};
+ghost use Rattle.shm_words.specs.declared.redo.Redo.TheVariants as redos;
+ghost use Rattle.shm_graph.specs.declared.memo.{First.First as AFirst, ChangeStage.TheVariants.Raising};
+ghost use Rattle.shm_graph.specs.declared.{memo.Op.TheVariants.{Nothing, Up, Down, Change}, spot.Spot.Spot as ASpot};
+ghost use Rattle.shm_graph.specs.{Spots.{see, spot_at, spot_address}, Blocks.{IsLive, classes, headers}};
 ghost use Rattle.shm_graph.specs.References.{references_in_all, references, references_to, sum_below};
-ghost use Rattle.shm_graph.specs.Views.{View, targets, held_overs, ons};
-ghost use Rattle.shm_graph.specs.Held.{Shown, odd};
-ghost use Rattle.shm_graph.specs.Sound.{IsSound};
+ghost use Rattle.shm_graph.specs.{Views.{View, targets, held_overs, ons}, Held.{Shown, odd}, Sound.IsSound};
 ghost use Rattle.shm_graph.specs.Clean.{IsClean};
+ghost use Rattle.shm_graph.specs.declared.spot.Spot.TheVariants as spot;
 
 /// In a sound state each block that a word names is live, with a count above 0; a free block is named by no word, so that none is
 /// handed out while a reference reaches it; and where no change is between its halves the count of a live block is the number of

@@ -1,7 +1,6 @@
 -- Writes one after another.
 use Rattle.std.proofs.Common.{◌≡◌, ℕ, ◌+◌, List, ◌++◌, take, drop, Option, Some, None, sym, ap, ◌∙◌}
-use Rattle.std.proofs.Math.Seq.{take-add}
-use Rattle.std.proofs.lemmas.List.{append_assoc}
+use Rattle.std.proofs.{Math.Seq.take-add, lemmas.List.append_assoc}
 use Rattle.shm_io.specs.Writing.{Appends}
 
 -- a front of the text, and then a front of its rest

@@ -1,7 +1,6 @@
 -- What stands behind the standard sides, and their counts of faults.
 use Rattle.std.specs.Prelude.{ℕ}
-use Rattle.shm_io.specs.declared.standard.StdSource.{StdSource}
-use Rattle.shm_io.specs.declared.standard.StdSink.{StdSink}
+use Rattle.shm_io.specs.declared.standard.{StdSource.StdSource, StdSink.StdSink}
 
 -- the reader that the bytes come from
 abbrev pub reader_of : {R : Type 0} → StdSource R → R

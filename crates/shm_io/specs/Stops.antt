@@ -1,8 +1,6 @@
 -- Why a reading stopped before its end.
 use Rattle.std.specs.Prelude.{◌≡◌, ℕ, List, codes}
-use Rattle.shm_io.specs.Faults.{Rose}
-use Rattle.shm_io.specs.declared.reading.ReadStop.{ReadStop}
-use Rattle.shm_io.specs.declared.reading.ReadStop.TheVariants.{Memory, Fault}
+use Rattle.shm_io.specs.{Faults.Rose, declared.reading.ReadStop.{ReadStop, TheVariants.{Memory, Fault}}}
 
 -- a fault is told only where the count of faults rose, and want of memory only where it stayed
 abbrev pub HasCause : ℕ → ℕ → ReadStop → Type 0

@@ -1,6 +1,5 @@
 //! The numbers of calls, from 1, and lists of those that fail.
-ghost use Rattle.std.specs.Prelude.{◌↔◌, IsTrue};
-ghost use Rattle.std.specs.List.{Contains};
+ghost use Rattle.std.specs.{Prelude.{◌↔◌, IsTrue}, List.Contains};
 
 // Whether the call of this number stands in the list.
 pub(crate) fn is_listed(calls: &[u32], number: u64) -> bool

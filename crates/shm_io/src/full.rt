@@ -1,7 +1,6 @@
 //! Reads of as many bytes as a buffer has room for, and of bytes that nobody keeps.
 ghost use Rattle.std.specs.Prelude.{◌≡◌, ◌≤◌, ℕ, List, length, take, IfOk, OnOk, OnErr};
-ghost use Rattle.shm_io.specs.Faults.{Rose};
-ghost use Rattle.shm_io.specs.Reading.{TakesFront, LosesFront};
+ghost use Rattle.shm_io.specs.{Faults.Rose, Reading.{TakesFront, LosesFront}};
 
 use crate::{Failed, Source};
 

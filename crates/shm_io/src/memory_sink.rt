@@ -1,8 +1,7 @@
 //! A sink into memory.
 ghost use Rattle.std.specs.Prelude.{◌≡◌, ◌<◌, ◌≤◌, ◌⊎◌, ◌↔◌, [], min, length, take, Some, IfOk, OnOk, OnErr, IsErr, IsTrue};
 ghost use Rattle.std.specs.List.{Contains};
-ghost use Rattle.shm_io.specs.Faults.{Rose, next_count};
-ghost use Rattle.shm_io.specs.Writing.{Appends};
+ghost use Rattle.shm_io.specs.{Faults.{Rose, next_count}, Writing.Appends};
 ghost use Rattle.shm_io.specs.Store.{after_write, after_failed_write, IsUsedUp, free_room};
 
 use crate::calls::is_listed;

@@ -1,10 +1,7 @@
 //! A source over bytes in memory.
 ghost use Rattle.std.specs.Prelude.{◌≡◌, ◌<◌, ◌≤◌, ◌↔◌, ◌++◌, min, length, take, drop, Some, IfOk, OnOk, OnErr, IsErr, IsTrue};
-ghost use Rattle.std.specs.List.{Contains};
-ghost use Rattle.std.specs.Io.KnownBytes.{IsAtEnd};
-ghost use Rattle.shm_io.specs.Faults.{Rose, next_count};
-ghost use Rattle.shm_io.specs.Reading.{Moves};
-ghost use Rattle.shm_io.specs.Supply.{after_read, after_failed_read};
+ghost use Rattle.std.specs.{List.Contains, Io.KnownBytes.IsAtEnd};
+ghost use Rattle.shm_io.specs.{Faults.{Rose, next_count}, Reading.Moves, Supply.{after_read, after_failed_read}};
 
 use crate::calls::is_listed;
 use crate::filling::put_at;

@@ -2,8 +2,7 @@
 ghost use Rattle.std.specs.Prelude.{◌≡◌, ◌<◌, ◌≤◌, ◌+◌, length, IfOk, OnOk, IfErr, OnErr, Some};
 ghost use Rattle.std.specs.Io.KnownBytes.{IsAtEnd};
 ghost use Rattle.shm_io.specs.Reading.{TakesFront, LosesFront, ReadsOn};
-ghost use Rattle.shm_io.specs.declared.reading.ReadStop.TheVariants.{Memory, Fault};
-ghost use Rattle.shm_io.specs.Stops.{HasCause, text_of};
+ghost use Rattle.shm_io.specs.{declared.reading.ReadStop.TheVariants.{Memory, Fault}, Stops.{HasCause, text_of}};
 
 use crate::{Failed, Source};
 use std::alloc::{AllocError, Global};

@@ -1,7 +1,6 @@
 //! Where bytes go.
 ghost use Rattle.std.specs.Prelude.{◌≡◌, ◌<◌, ◌≤◌, ℕ, List, Option, length, take, IfOk, OnOk, OnErr};
-ghost use Rattle.shm_io.specs.Faults.{Rose};
-ghost use Rattle.shm_io.specs.Writing.{Appends};
+ghost use Rattle.shm_io.specs.{Faults.Rose, Writing.Appends};
 
 use crate::Failed;
 

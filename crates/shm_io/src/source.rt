@@ -1,8 +1,6 @@
 //! Where bytes come from.
-ghost use Rattle.std.specs.Prelude.{◌≡◌, ◌<◌, ◌≤◌, ℕ, List, Option, length, IfOk, OnOk, OnErr};
-ghost use Rattle.std.specs.Io.KnownBytes.{IsAtEnd};
-ghost use Rattle.shm_io.specs.Faults.{Rose};
-ghost use Rattle.shm_io.specs.Reading.{Moves};
+ghost use Rattle.std.specs.{Prelude.{◌≡◌, ◌<◌, ◌≤◌, ℕ, List, Option, length, IfOk, OnOk, OnErr}, Io.KnownBytes.IsAtEnd};
+ghost use Rattle.shm_io.specs.{Faults.Rose, Reading.Moves};
 
 use crate::Failed;
 

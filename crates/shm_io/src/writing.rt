@@ -1,7 +1,6 @@
 //! A whole text into a sink.
 ghost use Rattle.std.specs.Prelude.{◌≡◌, ◌≤◌, OnOk, OnErr};
-ghost use Rattle.shm_io.specs.Faults.{Rose};
-ghost use Rattle.shm_io.specs.Writing.{Appends, AppendsFront};
+ghost use Rattle.shm_io.specs.{Faults.Rose, Writing.{Appends, AppendsFront}};
 
 use crate::{Failed, Sink};
 

@@ -1,43 +1,34 @@
 -- the exchange that makes a free block live keeps the invariant, and is one event
 use Rattle.std.proofs.Math.Path.{fun_ext}
 use Rattle.std.proofs.Common.{◌≡◌, ◌≢◌, ℕ, ◌+◌, ◌^◌, ◌<◌, ◌≤◌, refl, sym, ap, ◌∙◌, arith, true, false, Bool, cond, eqb, ltb, le-ltb, eq-eqb, subst, inl, inr, ◌⊎◌, ◌&&◌, List, [], ◌∷◌, ◌++◌, Option, Some, None}
-use Rattle.std.specs.List.{All, Contains, filter}
 use Rattle.std.proofs.lemmas.List.Elements.{All-cons, All-weaker, All-contains, All-append}
 use Rattle.std.proofs.lemmas.Bool.{cases_Bool, cases_eq, true≢false, ne_eqb, false_from_ne_true, cond-true}
-use Rattle.shm_words.specs.declared.geometry.Geometry.{Geometry}
-use Rattle.shm_words.specs.declared.header.Header.{Header}
-use Rattle.shm_words.specs.declared.redo.Redo.TheVariants as redos
-use Rattle.shm_words.specs.Headers.{header_of}
+use Rattle.std.specs.List.{All, Contains, filter}
+use Rattle.shm_words.specs.{declared.{geometry.Geometry.Geometry, header.Header.Header}, Headers.header_of}
 use Rattle.shm_words.specs.Tags.{tag_refs, tag_author, tag_link, tag_shape, shape_author}
+use Rattle.shm_words.specs.declared.redo.Redo.TheVariants as redos
 use Rattle.shm_words.proofs.Words.{header_of_zero}
 use Rattle.shm_graph.specs.declared.spot.Spot.{Spot}
 use Rattle.shm_graph.specs.declared.spot.Spot.TheVariants.{Redo, RedoMore, Home, Era, Root, Tail, QueueHead, Slot, Segment, Page, Head, Tag, Body}
-use Rattle.shm_graph.specs.declared.memo.Status.TheVariants as status
-use Rattle.shm_graph.specs.declared.memo.First.TheVariants.{Begun, Committed}
-use Rattle.shm_graph.specs.declared.memo.Op.{Op}
-use Rattle.shm_graph.specs.declared.memo.Op.TheVariants.{Alloc}
-use Rattle.shm_graph.specs.declared.memo.Making.{Making}
-use Rattle.shm_graph.specs.declared.memo.Stored.{Stored}
+use Rattle.shm_graph.specs.declared.memo.{First.TheVariants.{Begun, Committed}, Op.{Op, TheVariants.Alloc}}
+use Rattle.shm_graph.specs.declared.memo.{Making.Making, Stored.Stored}
 use Rattle.shm_graph.specs.Spots.{upd, same_spot, IsAt, class_at, segment_of, spot_address}
 use Rattle.shm_graph.specs.Blocks.{IsBlock, classes, headers}
 use Rattle.shm_graph.specs.Events.{graph_of, with_live, with_target, IsSame, Happens, Alloc as AllocEvent}
 use Rattle.shm_graph.specs.References.{one_if, refs_of, words_of}
 use Rattle.shm_graph.specs.Ops.{cover, cover_of, covered, slot_of, up_slot, indegree, held_over_of, on_of, is_op}
-use Rattle.shm_graph.specs.Views.{View, at1, targets, ons, held_overs}
-use Rattle.shm_graph.specs.Tables.{contents_of, HasShape}
+use Rattle.shm_graph.specs.{Views.{View, at1, targets, ons, held_overs}, Tables.{contents_of, HasShape}}
 use Rattle.shm_graph.specs.Held.{HeldAt, CountSound, SlotOf, reach_of, named_by, TagSound, MakingTie, MakingSound, InBlock, ZeroAt, TestAt, KnownAt, LooksSound, LaneSound, IsDying, OwnSound, OpTie, OpSound, Allowed, TailSound, room_of, IsUnusedLane, PartTie, ValueAt, MadeAt, is_loose}
+use Rattle.shm_graph.specs.MemoAfterStore.{other_than}
+use Rattle.shm_graph.specs.declared.memo.Status.TheVariants as status
 use Rattle.shm_graph.proofs.Spots.Spotting.{same_spot_is, same_spot_self, block_is_at, in_pool}
-use Rattle.shm_graph.proofs.States.Holders.{InReach}
-use Rattle.shm_graph.proofs.Runs.Lists.{at1_here, at1_other}
+use Rattle.shm_graph.proofs.{States.{Holders.InReach, Counting.covered_none}, Runs.Lists.{at1_here, at1_other}}
 use Rattle.shm_graph.proofs.Memos.Frames.{at1_all}
-use Rattle.shm_graph.proofs.States.Counting.{covered_none}
-use Rattle.shm_laws.proofs.Owns.{mine_other, small_stored, there_stored}
-use Rattle.shm_laws.proofs.Sum.{refs_target, commit_target}
+use Rattle.shm_laws.proofs.{Owns.{mine_other, small_stored, there_stored}, Sum.{refs_target, commit_target}}
 use Rattle.shm_laws.proofs.Keep.{All-kept, era_of_zero, count_of_zero}
 use Rattle.shm_laws.proofs.ExchangeFields.{era_exchange, facts_committed, count_free, count_exchange, named_kept, slot_kept, looks_kept, known_kept, apart}
 use Rattle.shm_laws.proofs.References.{live_some, part_lives, queued_kept, values_kept, made_some, made_kept}
 use Rattle.shm_laws.specs.HeaderExchanges.{AllocNeeds, alloc_view}
-use Rattle.shm_graph.specs.MemoAfterStore.{other_than}
 
 module _ (g : Geometry) (w : Spot → ℕ) (v : View) (c k b e to tag : ℕ) (m : Making) (h : HeldAt g w v) (a : AllocNeeds g w v c k b e to tag m) where
   m_at : MakingSound g (classes w) (λ i. w (Segment i)) (λ i. w (Head i)) (λ i. w (Tag i)) (λ i j. w (Body i j)) c m

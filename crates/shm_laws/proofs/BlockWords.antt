@@ -1,34 +1,21 @@
 -- other words of blocks keep the invariant and leave the graph, where no live block's words change but the links of dying ones
 use Rattle.std.proofs.Math.Path.{fun_ext}
 use Rattle.std.proofs.Common.{◌≡◌, ◌≢◌, ℕ, ◌^◌, ◌<◌, ◌≤◌, refl, sym, ap, ◌∙◌, arith, true, false, cond, ltb, ltb-true, subst, inl, inr, ◌⊎◌, List, [], ◌∷◌, Option, Some, None, Bool}
+use Rattle.std.proofs.lemmas.{List.Elements.All-weaker, Bool.{cases_Bool, cases_eq, ne_eqb, false_from_ne_true}}
 use Rattle.std.specs.List.{All, Contains}
-use Rattle.std.proofs.lemmas.List.Elements.{All-weaker}
-use Rattle.std.proofs.lemmas.Bool.{cases_Bool, cases_eq, ne_eqb, false_from_ne_true}
-use Rattle.shm_words.specs.declared.geometry.Geometry.{Geometry}
-use Rattle.shm_words.specs.declared.header.Header.{Header}
-use Rattle.shm_words.specs.Headers.{header_of}
-use Rattle.shm_words.specs.Classes.{class_for}
-use Rattle.shm_words.specs.Tags.{tag_refs, tag_plain, tag_author, tag_link, tag_shape, tag_limit}
+use Rattle.shm_words.specs.{declared.{geometry.Geometry.Geometry, header.Header.Header}, Headers.header_of}
+use Rattle.shm_words.specs.{Classes.class_for, Tags.{tag_refs, tag_plain, tag_author, tag_link, tag_shape, tag_limit}}
 use Rattle.shm_graph.specs.declared.spot.Spot.{Spot}
 use Rattle.shm_graph.specs.declared.spot.Spot.TheVariants.{Spare, Status, Redo, RedoMore, Hold, Latch, Home, Era, Root, Tail, QueueHead, Slot, Segment, Page, Unused, Head, Tag, Body}
-use Rattle.shm_graph.specs.declared.memo.Status.TheVariants as status
-use Rattle.shm_graph.specs.declared.memo.Making.{Making}
-use Rattle.shm_graph.specs.declared.memo.Stored.{Stored}
-use Rattle.shm_graph.specs.declared.memo.Look.{Look}
-use Rattle.shm_graph.specs.declared.memo.Test.{Test}
-use Rattle.shm_graph.specs.Spots.{IsAt, class_at}
-use Rattle.shm_graph.specs.References.{words_of, refs_of}
-use Rattle.shm_graph.specs.Ops.{word_at, cover_of, covered, slot_of, is_op}
+use Rattle.shm_graph.specs.{declared.memo.{Making.Making, Stored.Stored, Look.Look, Test.Test}, Spots.{IsAt, class_at}}
+use Rattle.shm_graph.specs.{References.{words_of, refs_of}, Ops.{word_at, cover_of, covered, slot_of, is_op}}
 use Rattle.shm_graph.specs.Views.{View, at1, owner_is, own_word, targets, held_overs, ons}
-use Rattle.shm_graph.specs.Tables.{contents_of, HasShape}
-use Rattle.shm_graph.specs.Events.{Nothing, graph_of, Happens}
+use Rattle.shm_graph.specs.{Tables.{contents_of, HasShape}, Events.{Nothing, graph_of, Happens}}
 use Rattle.shm_graph.specs.Held.{HeldAt, CountSound, SlotOf, reach_of, named_by, InLooks, LookAt, LooksSound, MakingTie, TagSound, TestAt, KnownAt, LaneSound, IsUnusedLane, PartTie, ValueAt, MadeAt, IsDying, is_loose}
+use Rattle.shm_graph.specs.declared.memo.Status.TheVariants as status
 use Rattle.shm_graph.proofs.States.Holders.{InReach, reach_counted, reach_target, target_counted}
-use Rattle.shm_graph.proofs.Memos.Frames.{at1_all}
-use Rattle.shm_graph.proofs.Runs.Shapes.{author_above, plain_above, refs_above}
-use Rattle.shm_laws.proofs.Parts.{PartKept, part_kept}
-use Rattle.shm_laws.proofs.References.{IsNamed, live_some}
-use Rattle.shm_laws.proofs.Writing.{tie_other}
+use Rattle.shm_graph.proofs.{Memos.Frames.at1_all, Runs.Shapes.{author_above, plain_above, refs_above}}
+use Rattle.shm_laws.proofs.{Parts.{PartKept, part_kept}, References.{IsNamed, live_some}, Writing.tie_other}
 
 -- the words with other tags and bodies of blocks
 abbrev pub with_blocks : (Spot → ℕ) → (ℕ → ℕ) → (ℕ → ℕ → ℕ) → Spot → ℕ

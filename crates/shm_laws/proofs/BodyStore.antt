@@ -1,33 +1,24 @@
 -- the store of a committed step into a reference word of a block keeps the invariant
 use Rattle.std.proofs.Common.{◌≡◌, ◌≢◌, ℕ, ◌^◌, ◌<◌, ◌≤◌, refl, sym, ap, ◌∙◌, arith, true, false, not, eqb, subst, inl, inr, ◌⊎◌, List, [], ◌∷◌, Option, Some, None}
-use Rattle.std.specs.List.{All, Contains, filter}
 use Rattle.std.proofs.lemmas.List.Elements.{All-cons, All-weaker}
 use Rattle.std.proofs.lemmas.Bool.{cases_Bool, cases_eq, ne_eqb, eqb-true, and_parts, cond-true}
-use Rattle.shm_words.specs.declared.geometry.Geometry.{Geometry}
-use Rattle.shm_words.specs.declared.header.Header.{Header}
-use Rattle.shm_words.specs.Headers.{header_of}
+use Rattle.std.specs.List.{All, Contains, filter}
+use Rattle.shm_words.specs.{declared.{geometry.Geometry.Geometry, header.Header.Header}, Headers.header_of}
 use Rattle.shm_words.specs.Tags.{tag_refs, tag_author}
 use Rattle.shm_words.proofs.Words.{live_not_zero}
 use Rattle.shm_graph.specs.declared.spot.Spot.{Spot}
 use Rattle.shm_graph.specs.declared.spot.Spot.TheVariants.{Home, Era, Root, Tail, QueueHead, Slot, Segment, Page, Head, Tag, Body}
-use Rattle.shm_graph.specs.declared.memo.Op.{Op}
-use Rattle.shm_graph.specs.declared.memo.Making.{Making}
-use Rattle.shm_graph.specs.declared.memo.Stored.{Stored}
-use Rattle.shm_graph.specs.declared.memo.Test.{Test}
-use Rattle.shm_graph.specs.Spots.{same_spot, upd, IsAt}
-use Rattle.shm_graph.specs.Ops.{slot_of, is_op}
-use Rattle.shm_graph.specs.Views.{View, targets, held_overs, ons}
+use Rattle.shm_graph.specs.declared.memo.{Op.Op, Making.Making, Stored.Stored, Test.Test}
+use Rattle.shm_graph.specs.{Spots.{same_spot, upd, IsAt}, Ops.{slot_of, is_op}, Views.{View, targets, held_overs, ons}}
 use Rattle.shm_graph.specs.Tables.{contents_of, HasShape}
 use Rattle.shm_graph.specs.Held.{HeldAt, CountSound, SlotOf, reach_of, named_by, MakingTie, InBlock, FactAt, TestAt, EraSound, KnownAt, LooksSound, LaneSound, IsUnusedLane, PartTie, ValueAt, MadeAt, is_loose}
-use Rattle.shm_graph.proofs.Spots.Spotting.{same_spot_self}
-use Rattle.shm_graph.proofs.States.Holders.{Holds, InReach, reach_counted, one_latch}
+use Rattle.shm_graph.specs.Reach.{not_at}
+use Rattle.shm_graph.proofs.{Spots.Spotting.same_spot_self, States.Holders.{Holds, InReach, reach_counted, one_latch}}
 use Rattle.shm_graph.proofs.Memos.Frames.{at1_all}
-use Rattle.shm_laws.proofs.Keep.{All-kept}
-use Rattle.shm_laws.proofs.Owns.{mine_other, small_stored, there_stored}
+use Rattle.shm_laws.proofs.{Keep.All-kept, Owns.{mine_other, small_stored, there_stored}}
 use Rattle.shm_laws.proofs.References.{part_stored, values_kept, queued_kept}
 use Rattle.shm_laws.proofs.Writing.{at_slot, mine_at, on_same, held_over_same, own_same, allowed_same, tails_same, slots_same, ops_same, targets_same}
 use Rattle.shm_laws.specs.Slotting.{BodyNeeds, body_view}
-use Rattle.shm_graph.specs.Reach.{not_at}
 
 pub body_kept : (g : Geometry) (w : Spot → ℕ) (v : View) (c b i x : ℕ) (o : Op) → HeldAt g w v → BodyNeeds g v c b i x o → HeldAt g (upd w (Body b i) x) (body_view v c b i x o)
 body_kept g w v c b i x o h a =

@@ -1,40 +1,26 @@
 -- the exchange of a change's first half keeps the invariant, and is one event
 use Rattle.std.proofs.Common.{◌≡◌, ◌≢◌, ℕ, ◌+◌, refl, sym, ap, ◌∙◌, arith, true, false, Bool, cond, eqb, eq-eqb, subst, inl, inr, List}
-use Rattle.std.specs.List.{filter}
 use Rattle.std.proofs.lemmas.Bool.{cases_eq, true≢false, ne_eqb, and_parts, false_from_ne_true}
-use Rattle.shm_words.specs.declared.header.Header.{Header}
-use Rattle.shm_words.specs.Headers.{header_of}
-use Rattle.shm_graph.specs.References.{one_if, words_of}
-use Rattle.shm_words.specs.declared.geometry.Geometry.{Geometry}
-use Rattle.shm_graph.specs.declared.spot.Spot.{Spot}
+use Rattle.std.specs.List.{filter}
+use Rattle.shm_words.specs.{declared.{header.Header.Header, geometry.Geometry.Geometry}, Headers.header_of}
+use Rattle.shm_words.specs.declared.redo.Redo.TheVariants as redos
+use Rattle.shm_graph.specs.{References.{one_if, words_of}, declared.spot.Spot.Spot}
 use Rattle.shm_graph.specs.declared.spot.Spot.TheVariants.{Spare, Redo, RedoMore, Home, Era, Root, Tail, QueueHead, Slot, Page, Head, Tag, Body}
-use Rattle.shm_graph.specs.declared.memo.First.TheVariants.{Begun, Committed}
-use Rattle.shm_graph.specs.declared.memo.Op.{Op}
-use Rattle.shm_graph.specs.declared.memo.Op.TheVariants.{Change}
-use Rattle.shm_graph.specs.declared.memo.ChangeStage.TheVariants.{Raising}
-use Rattle.shm_graph.specs.declared.memo.Stored.{Stored}
-use Rattle.shm_graph.specs.declared.memo.Look.{Look}
-use Rattle.shm_graph.proofs.Memos.Frames.{at1_all}
-use Rattle.shm_graph.proofs.Runs.Lists.{at1_here, at1_other, at1_part}
+use Rattle.shm_graph.specs.declared.memo.{First.TheVariants.{Begun, Committed}, Op.{Op, TheVariants.Change}}
+use Rattle.shm_graph.specs.declared.{memo.{ChangeStage.TheVariants.Raising, Stored.Stored, Look.Look}, table.Part.Part}
 use Rattle.shm_graph.specs.Ops.{word_at, cover, cover_of, slot_of, up_slot, indegree, held_over_of, on_of, is_op}
-use Rattle.shm_graph.specs.Spots.{upd, same_spot, spot_address}
-use Rattle.shm_graph.specs.Blocks.{headers}
-use Rattle.shm_graph.specs.Views.{View, targets, held_overs}
-use Rattle.shm_graph.specs.Events.{ChangeUp, graph_of, Happens}
-use Rattle.shm_graph.specs.Blocks.{IsBlock}
+use Rattle.shm_graph.specs.{Spots.{upd, same_spot, spot_address}, Blocks.{headers, IsBlock}}
+use Rattle.shm_graph.specs.{Views.{View, targets, held_overs}, Events.{ChangeUp, graph_of, Happens}}
 use Rattle.shm_graph.specs.Held.{HeldAt, is_slot, odd, SlotOf, reach_of, is_home, LaneSound, OpTie, OpSound, Allowed, room_of}
 use Rattle.shm_graph.specs.MemoAfterStore.{not_block}
+use Rattle.shm_graph.proofs.{Memos.Frames.at1_all, Runs.Lists.{at1_here, at1_other, at1_part}}
+use Rattle.shm_graph.proofs.{Spots.Spotting.same_spot_is, States.Holders.{target_counted, held_live_not_zero}}
 use Rattle.shm_laws.specs.HeaderExchanges.{not_blocks, ChangeNeeds, change_view}
-use Rattle.shm_graph.proofs.Spots.Spotting.{same_spot_is}
-use Rattle.shm_laws.proofs.Sum.{held_over_step, degree_step}
-use Rattle.shm_laws.proofs.Keep.{block_not_zero}
-use Rattle.shm_graph.proofs.States.Holders.{target_counted, held_live_not_zero}
-use Rattle.shm_graph.specs.declared.table.Part.{Part}
+use Rattle.shm_laws.proofs.{Sum.{held_over_step, degree_step}, Keep.block_not_zero}
 use Rattle.shm_laws.proofs.Headers.{dying_raised, live_stays, lives, refs_stay, shape_stays}
 use Rattle.shm_laws.proofs.Slots.{slot_committed, slot_looks, slot_named, slot_names, slot_not_spare}
 use Rattle.shm_laws.proofs.References.{one_name, differs, slot_no_root, part_other, made_kept, made_own}
 use Rattle.shm_laws.proofs.LiveExchange.{Changes, exchanged_kept, tails_stay, moved, unmoved}
-use Rattle.shm_words.specs.declared.redo.Redo.TheVariants as redos
 
 module _ (g : Geometry) (w : Spot → ℕ) (v : View) (c x b e to : ℕ) (p : Spot) (looks' : List Look) (kept : List Stored) (values : List ℕ) (part : Part) (h : HeldAt g w v) (a : ChangeNeeds g w v c x b e to p looks' kept values part) where
   abbrev w' : Spot → ℕ

@@ -1,40 +1,28 @@
 -- the store of the own era closes a step, or the first half of a change, and keeps the invariant
 use Rattle.std.proofs.Math.Path.{fun_ext}
 use Rattle.std.proofs.Common.{◌≡◌, ◌≢◌, ℕ, ◌+◌, ◌%◌, ◌^◌, ◌<◌, ◌≤◌, refl, sym, ap, ◌∙◌, arith, true, false, Bool, cond, eqb, ltb, eq-eqb, subst, inl, inr, ◌&&◌, [], Option, Some, None}
+use Rattle.std.proofs.lemmas.{List.Elements.All-weaker, Bool.{cases_eq, ne_eqb, eqb-true, and_parts, cond-true}}
 use Rattle.std.specs.List.{All}
-use Rattle.std.proofs.lemmas.List.Elements.{All-weaker}
-use Rattle.std.proofs.lemmas.Bool.{cases_eq, ne_eqb, eqb-true, and_parts, cond-true}
-use Rattle.shm_words.specs.declared.geometry.Geometry.{Geometry}
-use Rattle.shm_words.specs.declared.header.Header.{Header}
-use Rattle.shm_words.specs.declared.redo.Redo.TheVariants as redos
-use Rattle.shm_words.specs.Headers.{header_of}
+use Rattle.shm_words.specs.{declared.{geometry.Geometry.Geometry, header.Header.Header}, Headers.header_of}
 use Rattle.shm_words.specs.Tags.{tag_author}
+use Rattle.shm_words.specs.declared.redo.Redo.TheVariants as redos
+use Rattle.shm_words.proofs.Words.{kind_told, change_told}
 use Rattle.shm_graph.specs.declared.spot.Spot.{Spot}
 use Rattle.shm_graph.specs.declared.spot.Spot.TheVariants.{Spare, Status, Redo, RedoMore, Hold, Latch, Home, Era, Root, Tail, QueueHead, Slot, Segment, Page, Unused, Head, Tag, Body}
-use Rattle.shm_graph.specs.declared.memo.Op.{Op}
-use Rattle.shm_graph.specs.declared.memo.Op.TheVariants.{Nothing, Alloc, Up, Down, Change}
+use Rattle.shm_graph.specs.declared.memo.Op.{Op, TheVariants.{Nothing, Alloc, Up, Down, Change}}
 use Rattle.shm_graph.specs.declared.memo.First.TheVariants.{Begun, Committed, Written}
 use Rattle.shm_graph.specs.declared.memo.Second.TheVariants.{Open, Closed}
-use Rattle.shm_graph.specs.declared.memo.ChangeStage.TheVariants.{Raising, Lowering}
-use Rattle.shm_graph.specs.declared.memo.Fact.{Fact}
-use Rattle.shm_graph.specs.declared.memo.Fact.TheVariants.{Header as HeaderRead, Counter, Class}
-use Rattle.shm_graph.specs.declared.memo.Stored.{Stored}
-use Rattle.shm_graph.specs.declared.memo.Test.{Test}
-use Rattle.shm_graph.specs.Spots.{upd, same_spot, IsAt, spot_address}
+use Rattle.shm_graph.specs.declared.memo.{ChangeStage.TheVariants.{Raising, Lowering}, Fact.Fact}
+use Rattle.shm_graph.specs.declared.memo.{Fact.TheVariants.{Header as HeaderRead, Counter, Class}, Stored.Stored}
+use Rattle.shm_graph.specs.{declared.memo.Test.Test, Spots.{upd, same_spot, IsAt, spot_address}}
 use Rattle.shm_graph.specs.References.{Words, words_of}
 use Rattle.shm_graph.specs.Ops.{Cover, Quiet, word_at, held_over_of, on_of, cover, cover_of, covered, slot_of, is_op}
-use Rattle.shm_graph.specs.Views.{View, at1, targets, ons, held_overs}
-use Rattle.shm_graph.specs.Tables.{contents_of, HasShape}
+use Rattle.shm_graph.specs.{Views.{View, at1, targets, ons, held_overs}, Tables.{contents_of, HasShape}}
 use Rattle.shm_graph.specs.Held.{HeldAt, CountSound, LaneSound, EraSound, Committing, Bound, FactAt, CounterAt, OwnSound, OpTie, TailSound, Allowed, room_of, odd, SlotOf, reach_of, named_by, KnownAt, LooksSound, TestAt, IsUnusedLane, PartTie, ValueAt, MadeAt, is_loose}
-use Rattle.shm_graph.proofs.Spots.Spotting.{same_spot_is, same_spot_self}
-use Rattle.shm_graph.proofs.Runs.Lists.{at1_here, at1_other}
-use Rattle.shm_graph.proofs.States.Holders.{one_holder}
-use Rattle.shm_words.proofs.Words.{kind_told, change_told}
+use Rattle.shm_graph.proofs.{Spots.Spotting.{same_spot_is, same_spot_self}, Runs.Lists.{at1_here, at1_other}}
+use Rattle.shm_graph.proofs.States.{Holders.one_holder, Counting.{cover_slot, covered_alone, covered_none}}
 use Rattle.shm_graph.proofs.Memos.Frames.{at1_all}
-use Rattle.shm_graph.proofs.States.Counting.{cover_slot, covered_alone, covered_none}
-use Rattle.shm_laws.proofs.Owns.{mine_stored, small_stored, there_stored}
-use Rattle.shm_laws.proofs.Sum.{covered_same}
-use Rattle.shm_laws.proofs.ExchangeFields.{apart}
+use Rattle.shm_laws.proofs.{Owns.{mine_stored, small_stored, there_stored}, Sum.covered_same, ExchangeFields.apart}
 use Rattle.shm_laws.specs.OwnWords.{CloseNeeds, close_view, Closes}
 
 -- the eras after a store of c's own

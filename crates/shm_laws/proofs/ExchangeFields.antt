@@ -1,29 +1,18 @@
 -- what the exchanges of headers have in common
 use Rattle.std.proofs.Common.{◌≡◌, ◌≢◌, ℕ, ◌+◌, ◌%◌, ◌<◌, ◌≤◌, sym, ap, ◌∙◌, arith, true, false, Bool, cond, eqb, subst, inl, inr, ◌⊎◌, List, [], ◌∷◌, Option, Some, None}
-use Rattle.std.specs.List.{Contains}
 use Rattle.std.proofs.lemmas.List.Elements.{All-contains, Contains-append_cases, Contains-push_cases}
 use Rattle.std.proofs.lemmas.Bool.{cases_Bool, cases_eq, true≢false, ne_eqb, false_from_ne_true}
-use Rattle.shm_words.specs.declared.header.Header.{Header}
-use Rattle.shm_words.specs.Headers.{header_of}
-use Rattle.shm_graph.specs.Held.{Shown, CountSound, EraSound, Committing, Bound, FactAt, SlotOf, IsDying, named_by, InLooks, LookAt, LooksSound, KnownAt}
-use Rattle.shm_graph.specs.References.{one_if, references_to}
-use Rattle.shm_graph.specs.Views.{at1}
-use Rattle.shm_graph.proofs.Memos.Frames.{at1_all}
-use Rattle.shm_graph.proofs.Runs.Lists.{at1_here, at1_other}
-use Rattle.shm_words.specs.declared.geometry.Geometry.{Geometry}
-use Rattle.shm_graph.specs.declared.spot.Spot.{Spot}
-use Rattle.shm_graph.specs.declared.spot.Spot.TheVariants.{Spare, Home, Root, Slot, Tag, Body}
-use Rattle.shm_graph.specs.declared.memo.Op.{Op}
-use Rattle.shm_graph.specs.declared.memo.Look.{Look}
-use Rattle.shm_graph.specs.declared.memo.Fact.{Fact}
-use Rattle.shm_graph.specs.declared.memo.Fact.TheVariants.{Header as HeaderRead, Counter, Class}
-use Rattle.shm_graph.specs.Spots.{upd, same_spot, spot_at, IsAt}
+use Rattle.std.specs.List.{Contains}
+use Rattle.shm_words.specs.{declared.{header.Header.Header, geometry.Geometry.Geometry}, Headers.header_of}
 use Rattle.shm_words.specs.Layout.{total_of}
+use Rattle.shm_graph.specs.Held.{Shown, CountSound, EraSound, Committing, Bound, FactAt, SlotOf, IsDying, named_by, InLooks, LookAt, LooksSound, KnownAt}
+use Rattle.shm_graph.specs.{References.{one_if, references_to}, Views.at1, declared.spot.Spot.Spot}
+use Rattle.shm_graph.specs.declared.{spot.Spot.TheVariants.{Spare, Home, Root, Slot, Tag, Body}, memo.Op.Op}
+use Rattle.shm_graph.specs.declared.memo.{Look.Look, Fact.{Fact, TheVariants.{Header as HeaderRead, Counter, Class}}}
+use Rattle.shm_graph.specs.Spots.{upd, same_spot, spot_at, IsAt}
 use Rattle.shm_graph.specs.Ops.{on_of, indegree, cover, cover_of, slot_of, is_op}
-use Rattle.shm_graph.proofs.Spots.Spotting.{same_spot_is}
-use Rattle.shm_graph.proofs.Spots.Sums.{sum_none}
-use Rattle.shm_graph.proofs.States.Counting.{cover_slot, cover_idle}
-use Rattle.shm_graph.proofs.States.Holders.{looks_targets}
+use Rattle.shm_graph.proofs.{Memos.Frames.at1_all, Runs.Lists.{at1_here, at1_other}, Spots.Spotting.same_spot_is}
+use Rattle.shm_graph.proofs.{Spots.Sums.sum_none, States.{Counting.{cover_slot, cover_idle}, Holders.looks_targets}}
 use Rattle.shm_laws.proofs.Sum.{degree_step}
 
 -- ---- eras

@@ -1,36 +1,26 @@
 -- the store that frees a dying block keeps the invariant, and is one event
 use Rattle.std.proofs.Common.{◌≡◌, ◌≢◌, ℕ, ◌^◌, ◌<◌, ◌≤◌, refl, sym, ap, ◌∙◌, arith, true, false, not, cond, eqb, eq-eqb, ltb, lt-ltb, subst, inl, inr, ◌⊎◌, List, [], lit<, Option, Some, None}
-use Rattle.std.specs.List.{All, Contains, filter}
 use Rattle.std.proofs.lemmas.List.Elements.{All-weaker, All-contains}
 use Rattle.std.proofs.lemmas.Bool.{cases_Bool, cases_eq, true≢false, ne_eqb, cond-true}
-use Rattle.shm_words.specs.declared.header.Header.{Header}
-use Rattle.shm_words.specs.Headers.{header_of}
+use Rattle.std.specs.List.{All, Contains, filter}
+use Rattle.shm_words.specs.{declared.{header.Header.Header, geometry.Geometry.Geometry}, Headers.header_of}
+use Rattle.shm_words.specs.Tags.{tag_refs, tag_author, tag_link, tag_shape}
 use Rattle.shm_words.proofs.Words.{header_of_zero}
 use Rattle.shm_graph.specs.Held.{Shown, HeldAt, CountSound, SlotOf, reach_of, named_by, TagSound, MakingTie, ZeroAt, TestAt, KnownAt, LooksSound, LaneSound, Committing, IsDying, IsUnusedLane, PartTie, ValueAt, MadeAt, is_loose}
-use Rattle.shm_words.specs.declared.geometry.Geometry.{Geometry}
 use Rattle.shm_graph.specs.declared.spot.Spot.{Spot}
 use Rattle.shm_graph.specs.declared.spot.Spot.TheVariants.{Spare, Home, Era, Root, Tail, QueueHead, Slot, Segment, Page, Head, Tag, Body}
-use Rattle.shm_graph.specs.declared.memo.Making.{Making}
-use Rattle.shm_graph.specs.declared.memo.Stored.{Stored}
-use Rattle.shm_graph.specs.declared.memo.Test.{Test}
-use Rattle.shm_graph.proofs.Memos.Frames.{at1_all}
-use Rattle.shm_graph.proofs.Runs.Lists.{at1_here, at1_other, at1_part}
-use Rattle.shm_graph.specs.References.{words_of, refs_of}
-use Rattle.shm_graph.specs.Spots.{upd, IsAt, class_at}
-use Rattle.shm_graph.specs.Views.{View, at1, targets, ons, held_overs}
-use Rattle.shm_graph.specs.Blocks.{headers}
+use Rattle.shm_graph.specs.{declared.memo.{Making.Making, Stored.Stored, Test.Test}, References.{words_of, refs_of}}
+use Rattle.shm_graph.specs.{Spots.{upd, IsAt, class_at}, Views.{View, at1, targets, ons, held_overs}, Blocks.headers}
 use Rattle.shm_graph.specs.Events.{Free, graph_of, Happens}
 use Rattle.shm_graph.specs.Ops.{cover, cover_of, covered, slot_of, indegree, on_of, is_op}
-use Rattle.shm_words.specs.Tags.{tag_refs, tag_author, tag_link, tag_shape}
-use Rattle.shm_laws.specs.Preparing.{FreeNeeds, free_view}
-use Rattle.shm_graph.specs.MemoAfterStore.{not_block, not_of, is_of}
-use Rattle.shm_laws.proofs.Owns.{mine_other, small_stored, there_stored}
+use Rattle.shm_graph.specs.{MemoAfterStore.{not_block, not_of, is_of}, Tables.{contents_of, HasShape}}
+use Rattle.shm_graph.proofs.{Memos.Frames.at1_all, Runs.Lists.{at1_here, at1_other, at1_part}}
 use Rattle.shm_graph.proofs.Spots.Spotting.{block_is_at}
 use Rattle.shm_graph.proofs.States.Holders.{held_live_not_zero, held_over_counted, reach_counted, target_counted}
 use Rattle.shm_graph.proofs.States.Counting.{covered_none, cover_idle}
-use Rattle.shm_laws.proofs.Sum.{refs_target}
+use Rattle.shm_laws.specs.Preparing.{FreeNeeds, free_view}
+use Rattle.shm_laws.proofs.{Owns.{mine_other, small_stored, there_stored}, Sum.refs_target}
 use Rattle.shm_laws.proofs.Keep.{live_block, All-kept, Contains-filter, filter_from}
-use Rattle.shm_graph.specs.Tables.{contents_of, HasShape}
 use Rattle.shm_laws.proofs.References.{IsNamed, part_lives, values_kept, made_kept, queued_kept}
 use Rattle.shm_laws.proofs.ExchangeFields.{slot_kept, known_kept, apart}
 

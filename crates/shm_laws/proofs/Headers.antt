@@ -1,23 +1,15 @@
 -- the header of a live block is exchanged for a live one: what stays, and which blocks die where a count is lowered
 use Rattle.std.proofs.Common.{◌≡◌, ◌≢◌, ℕ, ◌<◌, refl, sym, ap, ◌∙◌, true, false, Bool, cond, eqb, eq-eqb, subst, inl, inr, ◌⊎◌, List, [], ◌∷◌, ◌++◌, Option, Some, None}
-use Rattle.std.specs.List.{Contains}
 use Rattle.std.proofs.lemmas.List.Elements.{Contains-push, Contains-push_cases, Contains-append_left}
 use Rattle.std.proofs.lemmas.Bool.{cases_Bool, cases_eq, true≢false, eqb-true}
-use Rattle.shm_words.specs.Headers.{header_of}
-use Rattle.shm_words.specs.declared.geometry.Geometry.{Geometry}
-use Rattle.shm_words.specs.Tags.{tag_link, tag_shape}
+use Rattle.std.specs.List.{Contains}
+use Rattle.shm_words.specs.{Headers.header_of, declared.geometry.Geometry.Geometry, Tags.{tag_link, tag_shape}}
 use Rattle.shm_words.proofs.Words.{live_not_zero}
-use Rattle.shm_graph.specs.declared.spot.Spot.{Spot}
-use Rattle.shm_graph.specs.declared.spot.Spot.TheVariants.{Segment, Page, Head, Tag, Body}
-use Rattle.shm_graph.specs.declared.memo.Making.{Making}
-use Rattle.shm_graph.specs.Spots.{upd, class_at}
-use Rattle.shm_graph.specs.Blocks.{classes, headers}
-use Rattle.shm_graph.specs.References.{words_of, refs_of}
-use Rattle.shm_graph.specs.Views.{View, at1, targets, held_overs}
-use Rattle.shm_graph.specs.Events.{graph_of, with_target, IsSame}
+use Rattle.shm_graph.specs.declared.{spot.Spot.{Spot, TheVariants.{Segment, Page, Head, Tag, Body}}, memo.Making.Making}
+use Rattle.shm_graph.specs.{Spots.{upd, class_at}, Blocks.{classes, headers}, References.{words_of, refs_of}}
+use Rattle.shm_graph.specs.{Views.{View, at1, targets, held_overs}, Events.{graph_of, with_target, IsSame}}
 use Rattle.shm_graph.specs.Held.{HeldAt, BlockSound, DyingTie, IsDying, MakingTie, TagSound, ZeroAt}
-use Rattle.shm_graph.proofs.Runs.Lists.{at1_here, at1_other}
-use Rattle.shm_graph.proofs.Memos.Frames.{at1_all}
+use Rattle.shm_graph.proofs.{Runs.Lists.{at1_here, at1_other}, Memos.Frames.at1_all}
 use Rattle.shm_laws.specs.HeaderExchanges.{dying_after}
 
 module _ (g : Geometry) (w : Spot → ℕ) (v : View) (h : HeldAt g w v) (b to : ℕ) (live : (headers w b).live ≡ true) (counted : (headers w b).count ≢ 0) (now : (header_of to).live ≡ true) where

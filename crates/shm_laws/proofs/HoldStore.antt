@@ -2,17 +2,11 @@
 use Rattle.std.proofs.Common.{◌≡◌, ℕ, ◌^◌, ◌<◌, ◌≤◌, refl, sym, ap, ◌∙◌, arith, eq-eqb, subst, inl, inr, Option, Some, None}
 use Rattle.std.proofs.lemmas.Bool.{cases_eq, ne_eqb}
 use Rattle.shm_words.specs.declared.geometry.Geometry.{Geometry}
-use Rattle.shm_graph.specs.declared.spot.Spot.{Spot}
-use Rattle.shm_graph.specs.declared.spot.Spot.TheVariants.{Hold, Latch, Era, Page}
-use Rattle.shm_graph.specs.declared.memo.Test.{Test}
-use Rattle.shm_graph.specs.Views.{at1, View, ons}
-use Rattle.shm_graph.specs.Spots.{upd, IsAt}
-use Rattle.shm_graph.specs.Events.{Nothing, graph_of, Happens}
+use Rattle.shm_graph.specs.declared.{spot.Spot.{Spot, TheVariants.{Hold, Latch, Era, Page}}, memo.Test.Test}
+use Rattle.shm_graph.specs.{Views.{at1, View, ons}, Spots.{upd, IsAt}, Events.{Nothing, graph_of, Happens}}
 use Rattle.shm_graph.specs.Held.{HeldAt, LatchTie, TestAt}
-use Rattle.shm_graph.proofs.Memos.Frames.{at1_all}
-use Rattle.shm_graph.proofs.Runs.Lists.{at1_other}
-use Rattle.shm_laws.proofs.Owns.{mine_stored, small_stored, there_stored}
-use Rattle.shm_laws.proofs.Quiet.{quiet}
+use Rattle.shm_graph.proofs.{Memos.Frames.at1_all, Runs.Lists.at1_other}
+use Rattle.shm_laws.proofs.{Owns.{mine_stored, small_stored, there_stored}, Quiet.quiet}
 use Rattle.shm_laws.specs.OwnWords.{HoldNeeds, hold_view}
 
 pub hold_kept : (g : Geometry) (w : Spot → ℕ) (v : View) (c x : ℕ) → HeldAt g w v → HoldNeeds g w v c x → HeldAt g (upd w (Hold c) x) (hold_view v c x)

@@ -1,26 +1,17 @@
 -- the store of a committed step into the own home keeps the invariant, and the graph stays
 use Rattle.std.proofs.Common.{◌≡◌, ◌≢◌, ℕ, ◌^◌, ◌<◌, refl, sym, ap, ◌∙◌, true, false, eq-eqb, subst, inl, inr, [], Option, None}
-use Rattle.std.specs.List.{All}
 use Rattle.std.proofs.lemmas.Bool.{cases_eq, ne_eqb, cond-true}
-use Rattle.shm_words.specs.declared.geometry.Geometry.{Geometry}
-use Rattle.shm_words.specs.declared.header.Header.{Header}
-use Rattle.shm_words.specs.Headers.{header_of}
+use Rattle.std.specs.List.{All}
+use Rattle.shm_words.specs.{declared.{geometry.Geometry.Geometry, header.Header.Header}, Headers.header_of}
 use Rattle.shm_words.specs.Tags.{tag_author}
 use Rattle.shm_graph.specs.declared.spot.Spot.{Spot}
 use Rattle.shm_graph.specs.declared.spot.Spot.TheVariants.{Home, Era, Root, Tail, QueueHead, Slot, Page, Head, Tag, Body}
-use Rattle.shm_graph.specs.declared.memo.Op.{Op}
-use Rattle.shm_graph.specs.declared.memo.Stored.{Stored}
-use Rattle.shm_graph.specs.declared.memo.Test.{Test}
-use Rattle.shm_graph.specs.Spots.{same_spot, upd, IsAt}
-use Rattle.shm_graph.specs.Ops.{slot_of, is_op}
-use Rattle.shm_graph.specs.Views.{View, targets, held_overs, ons}
-use Rattle.shm_graph.specs.Events.{Nothing, graph_of, Happens}
-use Rattle.shm_graph.specs.Tables.{contents_of, HasShape}
+use Rattle.shm_graph.specs.{declared.memo.{Op.Op, Stored.Stored, Test.Test}, Spots.{same_spot, upd, IsAt}}
+use Rattle.shm_graph.specs.{Ops.{slot_of, is_op}, Views.{View, targets, held_overs, ons}}
+use Rattle.shm_graph.specs.{Events.{Nothing, graph_of, Happens}, Tables.{contents_of, HasShape}}
 use Rattle.shm_graph.specs.Held.{HeldAt, CountSound, SlotOf, reach_of, named_by, FactAt, TestAt, EraSound, KnownAt, LooksSound, LaneSound, IsUnusedLane, PartTie, ValueAt, MadeAt, is_loose}
-use Rattle.shm_graph.proofs.Spots.Spotting.{same_spot_self}
-use Rattle.shm_graph.proofs.Memos.Frames.{at1_all}
-use Rattle.shm_laws.proofs.Owns.{mine_stored, small_stored, there_stored}
-use Rattle.shm_laws.proofs.Quiet.{quiet}
+use Rattle.shm_graph.proofs.{Spots.Spotting.same_spot_self, Memos.Frames.at1_all}
+use Rattle.shm_laws.proofs.{Owns.{mine_stored, small_stored, there_stored}, Quiet.quiet}
 use Rattle.shm_laws.proofs.Writing.{at_slot, on_same, held_over_same, own_same, allowed_same, tails_same, slots_same, ops_same, targets_same}
 use Rattle.shm_laws.specs.Slotting.{HomeNeeds, home_view}
 

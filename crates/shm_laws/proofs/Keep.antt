@@ -1,24 +1,16 @@
 -- what several kinds use
 use Rattle.std.proofs.Common.{◌≡◌, ◌≢◌, ℕ, refl, sym, ◌∙◌, arith, true, false, Bool, cond, List, [], ◌∷◌, inl, inr}
-use Rattle.std.specs.List.{All, Contains, filter}
 use Rattle.std.proofs.lemmas.List.Elements.{All-nil, All-cons, All-head, All-tail, All-weaker, All-contains, All-contains_itself, Contains-push, Contains-append_left, Contains-append_right}
 use Rattle.std.proofs.lemmas.Bool.{true≢false}
-use Rattle.shm_words.specs.declared.redo.Redo.{Redo as ARedo}
-use Rattle.shm_words.specs.Headers.{header_of}
-use Rattle.shm_words.proofs.Words.{live_not_zero}
-use Rattle.shm_words.specs.declared.geometry.Geometry.{Geometry}
-use Rattle.shm_graph.specs.declared.spot.Spot.{Spot}
-use Rattle.shm_graph.specs.declared.spot.Spot.TheVariants.{Page, Head}
-use Rattle.shm_graph.specs.declared.memo.ChangeStage.TheVariants.{Raising, Lowering}
-use Rattle.shm_graph.specs.declared.memo.Op.{Op}
-use Rattle.shm_graph.specs.declared.memo.Op.TheVariants.{Nothing, Alloc, Up, Down, Change}
-use Rattle.shm_graph.specs.References.{Words}
-use Rattle.shm_graph.specs.Spots.{IsAt}
-use Rattle.shm_graph.specs.Blocks.{IsBlock}
-use Rattle.shm_graph.specs.Ops.{slot_of, is_op}
-use Rattle.shm_graph.specs.Held.{OpTie, FirstNames, RedoTie}
-use Rattle.shm_graph.proofs.Spots.Spotting.{is_at_block, in_pool}
+use Rattle.std.specs.List.{All, Contains, filter}
+use Rattle.shm_words.specs.{declared.{redo.Redo.Redo as ARedo, geometry.Geometry.Geometry}, Headers.header_of}
 use Rattle.shm_words.specs.declared.redo.Redo.TheVariants as redos
+use Rattle.shm_words.proofs.Words.{live_not_zero}
+use Rattle.shm_graph.specs.declared.spot.Spot.{Spot, TheVariants.{Page, Head}}
+use Rattle.shm_graph.specs.declared.memo.{ChangeStage.TheVariants.{Raising, Lowering}, Op.Op}
+use Rattle.shm_graph.specs.{declared.memo.Op.TheVariants.{Nothing, Alloc, Up, Down, Change}, References.Words}
+use Rattle.shm_graph.specs.{Spots.IsAt, Blocks.IsBlock, Ops.{slot_of, is_op}, Held.{OpTie, FirstNames, RedoTie}}
+use Rattle.shm_graph.proofs.Spots.Spotting.{is_at_block, in_pool}
 
 -- a live block is there
 pub live_block : (g : Geometry) (w : Spot → ℕ) → ((p : Spot) → w p ≢ 0 → IsAt g (λ s q. w (Page s q)) p) → (b : ℕ) → (header_of (w (Head b))).live ≡ true → IsBlock g (λ s q. w (Page s q)) b

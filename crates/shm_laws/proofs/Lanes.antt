@@ -1,17 +1,11 @@
 -- queues where one slot's target changes
 use Rattle.std.proofs.Math.Path.{fun_ext}
 use Rattle.std.proofs.Common.{◌≡◌, ◌≢◌, ℕ, ◌+◌, ◌%◌, ◌<◌, ◌≤◌, refl, sym, ap, ◌∙◌, arith, List, [], ◌∷◌, ◌++◌, length, get_or, take, length-append, true, false, eqb, ltb, ltb-true, subst, inl, inr, ◌⊎◌, ◌&&◌}
-use Rattle.std.proofs.lemmas.List.{take-append-le}
-use Rattle.std.proofs.lemmas.Grind.{common_steps}
-use Rattle.std.proofs.lemmas.List.Elements.{All-push}
+use Rattle.std.proofs.lemmas.{List.{take-append-le, Elements.All-push}, Grind.common_steps}
 use Rattle.std.proofs.lemmas.Bool.{cases_lt, cases_Bool, and_parts, and_cases, eqb-true, cond-true}
-use Rattle.shm_words.specs.declared.geometry.Geometry.{Geometry}
-use Rattle.shm_words.specs.Layout.{GeometryFits}
-use Rattle.shm_graph.specs.declared.spot.Spot.TheVariants.{Slot}
-use Rattle.shm_graph.specs.Spots.{IsAt}
-use Rattle.shm_graph.specs.Held.{LaneSound}
-use Rattle.shm_graph.proofs.Spots.SpotPlaces.{at_is_in}
-use Rattle.shm_graph.proofs.States.Holders.{apart_slots}
+use Rattle.shm_words.specs.{declared.geometry.Geometry.Geometry, Layout.GeometryFits}
+use Rattle.shm_graph.specs.{declared.spot.Spot.TheVariants.Slot, Spots.IsAt, Held.LaneSound}
+use Rattle.shm_graph.proofs.{Spots.SpotPlaces.at_is_in, States.Holders.apart_slots}
 use Rattle.shm_laws.specs.OwnWords.{at2}
 
 -- the block is in the slot at the tail

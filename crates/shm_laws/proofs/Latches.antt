@@ -1,27 +1,18 @@
 -- the exchange that takes a latch keeps the invariant, and the store that gives it back
 use Rattle.std.proofs.Common.{◌≡◌, ◌≢◌, ℕ, ◌+◌, ◌^◌, ◌<◌, ◌≤◌, refl, sym, ap, ◌∙◌, arith, false, eq-eqb, subst, inl, inr, ◌⊎◌, List, [], ◌∷◌, lit<, Option, Some, None, Bool}
+use Rattle.std.proofs.lemmas.{List.Elements.All-weaker, Bool.{cases_eq, true≢false, ne_eqb}}
 use Rattle.std.specs.List.{All}
-use Rattle.std.proofs.lemmas.List.Elements.{All-weaker}
-use Rattle.std.proofs.lemmas.Bool.{cases_eq, true≢false, ne_eqb}
-use Rattle.shm_words.specs.declared.header.Header.{Header}
-use Rattle.shm_words.specs.Headers.{header_of}
-use Rattle.shm_words.specs.declared.geometry.Geometry.{Geometry}
+use Rattle.shm_words.specs.{declared.{header.Header.Header, geometry.Geometry.Geometry}, Headers.header_of}
+use Rattle.shm_words.specs.Tags.{tag_author}
 use Rattle.shm_graph.specs.declared.spot.Spot.{Spot}
 use Rattle.shm_graph.specs.declared.spot.Spot.TheVariants.{Hold, Latch, Home, Era, Tail, QueueHead, Slot, Page, Head, Tag, Body}
-use Rattle.shm_graph.specs.declared.memo.Stored.{Stored}
-use Rattle.shm_graph.specs.declared.memo.Look.{Look}
-use Rattle.shm_graph.specs.declared.memo.Test.{Test}
-use Rattle.shm_graph.specs.Views.{at1, View, targets, ons}
-use Rattle.shm_graph.proofs.Memos.Frames.{at1_all}
-use Rattle.shm_graph.proofs.Runs.Lists.{at1_here, at1_other}
-use Rattle.shm_graph.specs.Spots.{upd, IsAt}
-use Rattle.shm_graph.specs.Ops.{slot_of, is_op}
-use Rattle.shm_words.specs.Tags.{tag_author}
+use Rattle.shm_graph.specs.{declared.memo.{Stored.Stored, Look.Look, Test.Test}, Views.{at1, View, targets, ons}}
+use Rattle.shm_graph.specs.{Spots.{upd, IsAt}, Ops.{slot_of, is_op}}
 use Rattle.shm_graph.specs.Held.{HeldAt, SlotOf, reach_of, named_by, KnownAt, LookAt, LooksSound, LatchTie, TestAt, InLooks, ValueAt}
-use Rattle.shm_laws.proofs.Owns.{mine_other, small_stored, there_stored}
-use Rattle.shm_laws.proofs.ExchangeFields.{slot_kept, known_kept}
-use Rattle.shm_laws.specs.Latches.{LatchNeeds, latch_view, BackNeeds, back_view}
 use Rattle.shm_graph.specs.Tables.{contents_of}
+use Rattle.shm_graph.proofs.{Memos.Frames.at1_all, Runs.Lists.{at1_here, at1_other}}
+use Rattle.shm_laws.proofs.{Owns.{mine_other, small_stored, there_stored}, ExchangeFields.{slot_kept, known_kept}}
+use Rattle.shm_laws.specs.Latches.{LatchNeeds, latch_view, BackNeeds, back_view}
 
 -- without a latch there are no looks, and then all is true of them
 no_looks : (home home' : ℕ → ℕ) (body body' : ℕ → ℕ → ℕ) (author author' : ℕ → ℕ) (latch latch' : Option ℕ) (named named' : ℕ → Type 0) (earlier looks : List Look) → latch ≡ None → LooksSound home body author latch named earlier looks → LooksSound home' body' author' latch' named' earlier looks

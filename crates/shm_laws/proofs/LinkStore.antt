@@ -1,28 +1,19 @@
 -- the store of the link of a dying block keeps the invariant, and leaves the graph
 use Rattle.std.proofs.Math.Path.{fun_ext}
-use Rattle.shm_words.specs.Tags.{tag_shape, tag_limit}
 use Rattle.std.proofs.Common.{◌≡◌, ◌≢◌, ℕ, ◌^◌, ◌<◌, refl, sym, ap, ◌∙◌, arith, true, not, subst, inl, List, ◌∷◌, Option, Some, None}
+use Rattle.std.proofs.lemmas.{List.Elements.{All-cons, All-weaker}, Bool.{eq-eqb, true≢false}}
 use Rattle.std.specs.List.{All, filter}
-use Rattle.std.proofs.lemmas.List.Elements.{All-cons, All-weaker}
-use Rattle.std.proofs.lemmas.Bool.{eq-eqb, true≢false}
-use Rattle.shm_words.specs.declared.geometry.Geometry.{Geometry}
-use Rattle.shm_words.specs.Headers.{header_of}
-use Rattle.shm_words.proofs.Words.{live_not_zero}
-use Rattle.shm_words.proofs.Words.{tag_limit_small}
+use Rattle.shm_words.specs.{Tags.{tag_shape, tag_limit}, declared.geometry.Geometry.Geometry, Headers.header_of}
+use Rattle.shm_words.proofs.Words.{live_not_zero, tag_limit_small}
 use Rattle.shm_graph.specs.declared.spot.Spot.{Spot}
 use Rattle.shm_graph.specs.declared.spot.Spot.TheVariants.{Spare, Status, Redo, RedoMore, Hold, Latch, Home, Era, Root, Tail, QueueHead, Slot, Segment, Page, Unused, Head, Tag, Body}
-use Rattle.shm_graph.specs.declared.memo.Making.{Making}
-use Rattle.shm_graph.specs.declared.memo.Stored.{Stored}
-use Rattle.shm_graph.specs.Spots.{IsAt, same_spot, upd}
-use Rattle.shm_graph.specs.Views.{View, at1}
-use Rattle.shm_graph.specs.Events.{Nothing, graph_of, Happens}
-use Rattle.shm_graph.specs.Held.{HeldAt, IsDying, InBlock, MakingTie}
-use Rattle.shm_graph.proofs.Runs.Lists.{at1_here, at1_other}
-use Rattle.shm_graph.proofs.Memos.Frames.{at1_all, at1_same}
+use Rattle.shm_graph.specs.{declared.memo.{Making.Making, Stored.Stored}, Spots.{IsAt, same_spot, upd}}
+use Rattle.shm_graph.specs.{Views.{View, at1}, Events.{Nothing, graph_of, Happens}}
+use Rattle.shm_graph.specs.{Held.{HeldAt, IsDying, InBlock, MakingTie}, Reach.not_at}
+use Rattle.shm_graph.proofs.{Runs.Lists.{at1_here, at1_other}, Memos.Frames.{at1_all, at1_same}}
 use Rattle.shm_laws.proofs.Keep.{All-kept}
 use Rattle.shm_laws.proofs.BlockWords.{with_blocks, blocks_view, BlocksMay, Old, New, pair_kept, blocks_kept, blocks_quiet}
 use Rattle.shm_laws.specs.Preparing.{LinkNeeds, link_view}
-use Rattle.shm_graph.specs.Reach.{not_at}
 
 module _ (g : Geometry) (w : Spot → ℕ) (v : View) (c b x : ℕ) (h : HeldAt g w v) (a : LinkNeeds g w v c b x) where
   abbrev tags : ℕ → ℕ

@@ -1,36 +1,23 @@
 -- the exchange of a live block's header keeps the invariant, whichever step makes it: what the kinds share, and what each kind gives
 use Rattle.std.proofs.Math.Path.{fun_ext}
 use Rattle.std.proofs.Common.{◌≡◌, ◌≢◌, ℕ, ◌^◌, ◌<◌, ◌≤◌, refl, sym, ap, ◌∙◌, arith, true, false, eq-eqb, subst, inl, inr, ◌⊎◌, List, [], Some, None}
+use Rattle.std.proofs.lemmas.{List.Elements.All-weaker, Bool.{cases_eq, ne_eqb}}
 use Rattle.std.specs.List.{All, Contains}
-use Rattle.std.proofs.lemmas.List.Elements.{All-weaker}
-use Rattle.std.proofs.lemmas.Bool.{cases_eq, ne_eqb}
-use Rattle.shm_words.specs.declared.geometry.Geometry.{Geometry}
-use Rattle.shm_words.specs.declared.header.Header.{Header}
-use Rattle.shm_words.specs.Headers.{header_of}
+use Rattle.shm_words.specs.{declared.{geometry.Geometry.Geometry, header.Header.Header}, Headers.header_of}
 use Rattle.shm_words.specs.Tags.{tag_author}
 use Rattle.shm_graph.specs.declared.spot.Spot.{Spot}
 use Rattle.shm_graph.specs.declared.spot.Spot.TheVariants.{Redo, RedoMore, Home, Era, Root, Tail, QueueHead, Slot, Page, Head, Tag, Body}
-use Rattle.shm_graph.specs.declared.memo.Op.{Op}
-use Rattle.shm_graph.specs.declared.memo.Look.{Look}
-use Rattle.shm_graph.specs.declared.memo.Stored.{Stored}
-use Rattle.shm_graph.specs.declared.memo.Status.TheVariants as status
-use Rattle.shm_graph.specs.declared.table.Part.{Part}
-use Rattle.shm_graph.specs.Spots.{upd, IsAt}
-use Rattle.shm_graph.specs.References.{words_of}
-use Rattle.shm_graph.specs.Ops.{slot_of, up_slot, on_of, is_op}
-use Rattle.shm_graph.specs.Views.{View, at1, targets, ons, held_overs}
-use Rattle.shm_graph.specs.Blocks.{classes, headers}
+use Rattle.shm_graph.specs.{declared.{memo.{Op.Op, Look.Look, Stored.Stored}, table.Part.Part}, Spots.{upd, IsAt}}
+use Rattle.shm_graph.specs.{References.words_of, Ops.{slot_of, up_slot, on_of, is_op}}
+use Rattle.shm_graph.specs.{Views.{View, at1, targets, ons, held_overs}, Blocks.{classes, headers}}
 use Rattle.shm_graph.specs.Tables.{contents_of, HasShape}
 use Rattle.shm_graph.specs.Held.{HeldAt, CountSound, SlotOf, reach_of, named_by, IsUnusedLane, TailSound, PartTie, ValueAt, MadeAt, is_loose, TestAt, KnownAt, LooksSound, LaneSound, DyingTie, OwnSound, OpTie, Allowed, InLooks, NothingWaits, room_of}
-use Rattle.shm_graph.proofs.Memos.Frames.{at1_all}
-use Rattle.shm_graph.proofs.Runs.Lists.{at1_here, at1_other}
-use Rattle.shm_graph.proofs.Spots.Spotting.{block_is_at}
+use Rattle.shm_graph.specs.declared.memo.Status.TheVariants as status
+use Rattle.shm_graph.proofs.{Memos.Frames.at1_all, Runs.Lists.{at1_here, at1_other}, Spots.Spotting.block_is_at}
 use Rattle.shm_laws.specs.HeaderExchanges.{RowShows}
-use Rattle.shm_laws.proofs.Owns.{mine_other, small_stored, there_stored}
-use Rattle.shm_laws.proofs.Keep.{live_block}
+use Rattle.shm_laws.proofs.{Owns.{mine_other, small_stored, there_stored}, Keep.live_block}
 use Rattle.shm_laws.proofs.Headers.{blocks_stay, dying_stays, lives, making_stays, zero_stays}
-use Rattle.shm_laws.proofs.References.{values_kept, queued_kept}
-use Rattle.shm_laws.proofs.Parts.{PartKept, part_kept}
+use Rattle.shm_laws.proofs.{References.{values_kept, queued_kept}, Parts.{PartKept, part_kept}}
 use Rattle.shm_laws.proofs.ExchangeFields.{era_exchange, facts_committed, slot_kept, known_kept}
 
 -- ---- what a step makes of the memos

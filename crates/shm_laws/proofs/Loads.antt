@@ -1,20 +1,13 @@
 -- the loads of the commit test keep the invariant, its window with them
 use Rattle.std.proofs.Common.{refl, ◌≡◌, ◌≢◌, ℕ, ◌+◌, ◌<◌, ◌≤◌, ap, arith, subst, inl, inr, List, ◌∷◌, Option, Some}
+use Rattle.std.proofs.lemmas.{List.Elements.All-cons, Bool.{cases_eq, ne_eqb, eq-eqb}}
 use Rattle.std.specs.List.{All}
-use Rattle.std.proofs.lemmas.List.Elements.{All-cons}
-use Rattle.std.proofs.lemmas.Bool.{cases_eq, ne_eqb, eq-eqb}
-use Rattle.shm_words.specs.Headers.{header_of}
-use Rattle.shm_words.specs.declared.geometry.Geometry.{Geometry}
-use Rattle.shm_graph.specs.declared.spot.Spot.{Spot}
-use Rattle.shm_graph.specs.declared.spot.Spot.TheVariants.{Era, Tail, QueueHead, Page, Head}
-use Rattle.shm_graph.specs.declared.memo.Fact.{Fact}
-use Rattle.shm_graph.specs.declared.memo.Fact.TheVariants.{Header as HeaderRead, Counter}
-use Rattle.shm_graph.specs.declared.memo.Test.{Test}
-use Rattle.shm_graph.specs.Views.{at1, View, ons}
-use Rattle.shm_graph.proofs.Memos.Frames.{at1_all}
-use Rattle.shm_graph.specs.Events.{Nothing, graph_of, Happens}
-use Rattle.shm_graph.specs.Held.{HeldAt, FactAt, TestAt}
+use Rattle.shm_words.specs.{Headers.header_of, declared.geometry.Geometry.Geometry}
+use Rattle.shm_graph.specs.declared.{spot.Spot.{Spot, TheVariants.{Era, Tail, QueueHead, Page, Head}}, memo.Fact.Fact}
+use Rattle.shm_graph.specs.declared.memo.{Fact.TheVariants.{Header as HeaderRead, Counter}, Test.Test}
+use Rattle.shm_graph.specs.{Views.{at1, View, ons}, Events.{Nothing, graph_of, Happens}, Held.{HeldAt, FactAt, TestAt}}
 use Rattle.shm_graph.specs.MemoAfterRead.{next_row}
+use Rattle.shm_graph.proofs.Memos.Frames.{at1_all}
 use Rattle.shm_laws.specs.Loads.{header_view, row_view}
 
 -- one more fact that holds, another window that holds

@@ -1,30 +1,20 @@
 -- the load of a reference word under its author's latch: what was read joins the looks
 use Rattle.std.proofs.Common.{◌≡◌, ◌≢◌, ℕ, ◌<◌, refl, sym, ap, ◌∙◌, true, false, ltb, lt-ltb, subst, inl, inr, List, [], ◌∷◌, ◌++◌, Option, Some, None}
-use Rattle.std.specs.List.{All, filter}
 use Rattle.std.proofs.lemmas.List.Elements.{All-cons, All-weaker, Contains-append_left}
 use Rattle.std.proofs.lemmas.Bool.{cases_eq, ne_eqb, cond-true}
-use Rattle.shm_words.specs.declared.header.Header.{Header}
-use Rattle.shm_words.specs.Headers.{header_of}
-use Rattle.shm_words.specs.declared.geometry.Geometry.{Geometry}
+use Rattle.std.specs.List.{All, filter}
+use Rattle.shm_words.specs.{declared.{header.Header.Header, geometry.Geometry.Geometry}, Headers.header_of}
+use Rattle.shm_words.specs.Tags.{tag_refs, tag_author}
 use Rattle.shm_graph.specs.declared.spot.Spot.{Spot}
 use Rattle.shm_graph.specs.declared.spot.Spot.TheVariants.{Home, Era, Tail, QueueHead, Slot, Page, Head, Tag, Body}
-use Rattle.shm_graph.specs.declared.memo.Stored.{Stored}
-use Rattle.shm_graph.specs.declared.memo.Look.{Look}
-use Rattle.shm_graph.specs.declared.memo.Test.{Test}
-use Rattle.shm_graph.proofs.Memos.Frames.{at1_all}
-use Rattle.shm_graph.specs.References.{words_of, refs_of}
-use Rattle.shm_graph.specs.Views.{View, targets, ons}
-use Rattle.shm_graph.specs.Ops.{cover, cover_of, covered, slot_of, is_op}
-use Rattle.shm_words.specs.Tags.{tag_refs, tag_author}
+use Rattle.shm_graph.specs.{declared.memo.{Stored.Stored, Look.Look, Test.Test}, References.{words_of, refs_of}}
+use Rattle.shm_graph.specs.{Views.{View, targets, ons}, Ops.{cover, cover_of, covered, slot_of, is_op}}
 use Rattle.shm_graph.specs.Events.{Nothing, graph_of, Happens}
 use Rattle.shm_graph.specs.Held.{HeldAt, reach_of, named_by, KnownAt, LooksSound, TestAt, ValueAt, InLooks}
-use Rattle.shm_graph.specs.Reach.{learnt, not_at}
-use Rattle.shm_laws.proofs.Keep.{All-kept}
-use Rattle.shm_graph.proofs.States.Holders.{one_latch, reach_counted}
-use Rattle.shm_graph.specs.Tables.{contents_of}
-use Rattle.shm_laws.proofs.ExchangeFields.{slot_kept, known_kept, apart}
-use Rattle.shm_graph.proofs.Memos.Looking.{looks_push}
+use Rattle.shm_graph.specs.{Reach.{learnt, not_at}, Tables.contents_of}
+use Rattle.shm_graph.proofs.{Memos.{Frames.at1_all, Looking.looks_push}, States.Holders.{one_latch, reach_counted}}
 use Rattle.shm_graph.proofs.States.Counting.{cover_idle, covered_none}
+use Rattle.shm_laws.proofs.{Keep.All-kept, ExchangeFields.{slot_kept, known_kept, apart}}
 use Rattle.shm_laws.specs.Latches.{LookNeeds, look_view}
 
 -- a look leaves the graph

@@ -2,15 +2,10 @@
 use Rattle.std.proofs.Common.{◌≡◌, ℕ, refl, ap, ◌∙◌, arith, true, false, Bool, cond, eqb, eq-eqb, eqb-true, subst, inl, inr, ◌⊎◌, List, [], ◌∷◌, Option, sym}
 use Rattle.std.proofs.lemmas.List.Elements.{Contains-push, Contains-push_cases, Contains-append_cases, Contains-append_left, Contains-append_right}
 use Rattle.std.proofs.lemmas.Bool.{cases_eq, ne_eqb, cases_Bool, false≢true, or_parts}
-use Rattle.shm_graph.specs.declared.spot.Spot.{Spot}
-use Rattle.shm_graph.specs.declared.spot.Spot.TheVariants.{Home, Body}
-use Rattle.shm_graph.specs.declared.memo.Look.{Look}
-use Rattle.shm_graph.specs.Held.{InLooks, LookAt, LooksSound}
-use Rattle.shm_graph.specs.Reach.{upto, is_look_from}
-use Rattle.std.specs.List.{list_any}
-use Rattle.shm_graph.specs.Spots.{same_spot}
+use Rattle.std.specs.{List.list_any, Prelude.◌||◌}
+use Rattle.shm_graph.specs.declared.{spot.Spot.{Spot, TheVariants.{Home, Body}}, memo.Look.Look}
+use Rattle.shm_graph.specs.{Held.{InLooks, LookAt, LooksSound}, Reach.{upto, is_look_from}, Spots.same_spot}
 use Rattle.shm_graph.proofs.Spots.Spotting.{same_spot_is}
-use Rattle.std.specs.Prelude.{◌||◌}
 
 in_split : (k : Look) (ks : List Look) (b : ℕ) → InLooks (k ∷ ks) b → (k.block ≡ b) ⊎ InLooks ks b
 in_split k ks b x = elim (Contains-append_cases (k ∷ []) ks x.0 x.1) [

@@ -1,37 +1,26 @@
 -- the exchange that lowers a live block keeps the invariant, for any slot, and is one event
 use mathlib.Core.Path.{fun_ext}
 use Rattle.std.proofs.Common.{◌≡◌, ◌≢◌, ℕ, ◌+◌, ◌%◌, ◌<◌, ◌≤◌, refl, sym, ap, ◌∙◌, arith, true, false, Bool, cond, eqb, eq-eqb, subst, inl, inr, ◌⊎◌, ◌&&◌, List}
-use Rattle.std.specs.List.{filter}
 use Rattle.std.proofs.lemmas.Bool.{cases_Bool, cases_eq, ne_eqb, eqb-true, and_parts}
-use Rattle.shm_words.specs.declared.header.Header.{Header}
-use Rattle.shm_words.specs.Headers.{header_of}
-use Rattle.shm_graph.specs.References.{one_if, words_of}
-use Rattle.shm_words.specs.declared.geometry.Geometry.{Geometry}
-use Rattle.shm_graph.specs.declared.spot.Spot.{Spot}
+use Rattle.std.specs.List.{filter}
+use Rattle.shm_words.specs.{declared.{header.Header.Header, geometry.Geometry.Geometry}, Headers.header_of}
+use Rattle.shm_words.specs.declared.redo.Redo.TheVariants as redos
+use Rattle.shm_graph.specs.{References.{one_if, words_of}, declared.spot.Spot.Spot}
 use Rattle.shm_graph.specs.declared.spot.Spot.TheVariants.{Redo, RedoMore, Home, Era, Root, Tail, QueueHead, Slot, Head, Body}
-use Rattle.shm_graph.specs.declared.memo.First.TheVariants.{Begun, Committed}
-use Rattle.shm_graph.specs.declared.memo.Op.{Op}
-use Rattle.shm_graph.specs.declared.memo.Op.TheVariants.{Down}
-use Rattle.shm_graph.specs.declared.memo.Stored.{Stored}
-use Rattle.shm_graph.specs.declared.memo.Look.{Look}
-use Rattle.shm_graph.proofs.Memos.Frames.{at1_all}
+use Rattle.shm_graph.specs.declared.memo.{First.TheVariants.{Begun, Committed}, Op.{Op, TheVariants.Down}}
+use Rattle.shm_graph.specs.declared.{memo.{Stored.Stored, Look.Look}, table.Part.Part}
 use Rattle.shm_graph.specs.Ops.{word_at, cover, cover_of, slot_of, up_slot, indegree, held_over_of, on_of, is_op}
-use Rattle.shm_graph.specs.Spots.{upd, same_spot, IsAt, spot_address}
-use Rattle.shm_graph.specs.Views.{View, targets, held_overs}
+use Rattle.shm_graph.specs.{Spots.{upd, same_spot, IsAt, spot_address}, Views.{View, targets, held_overs}}
 use Rattle.shm_graph.specs.Held.{HeldAt, CountSound, is_home, LaneSound, OpTie, OpSound, Allowed, room_of}
-use Rattle.shm_graph.specs.MemoAfterStore.{not_block}
+use Rattle.shm_graph.specs.{MemoAfterStore.not_block, Blocks.{classes, headers}}
+use Rattle.shm_graph.specs.Events.{graph_of, Happens, Down as DownEvent}
+use Rattle.shm_graph.proofs.{Memos.Frames.at1_all, States.Holders.{Holds, held_live_not_zero}}
 use Rattle.shm_laws.specs.HeaderExchanges.{LowerNeeds, lower_view, dying_after, unsent_back, untaken_after}
 use Rattle.shm_laws.proofs.Lanes.{lane_up, lane_taken, lane_same, other_lane, this_lane, lane_clients, lane_from}
-use Rattle.shm_graph.proofs.States.Holders.{Holds, held_live_not_zero}
-use Rattle.shm_graph.specs.declared.table.Part.{Part}
-use Rattle.shm_graph.specs.Blocks.{classes, headers}
-use Rattle.shm_graph.specs.Events.{graph_of, Happens, Down as DownEvent}
 use Rattle.shm_laws.proofs.Headers.{dying_lowered, graph_stays, lives, refs_stay}
 use Rattle.shm_laws.proofs.Slots.{slot_committed, slot_looks, slot_named, slot_names, slot_not_spare}
 use Rattle.shm_laws.proofs.References.{one_name, differs, slot_no_root, part_other, made_kept, made_own}
-use Rattle.shm_laws.proofs.LiveExchange.{Changes, exchanged_kept, tails_stay, moved}
-use Rattle.shm_laws.proofs.ExchangeFields.{count_exchange}
-use Rattle.shm_words.specs.declared.redo.Redo.TheVariants as redos
+use Rattle.shm_laws.proofs.{LiveExchange.{Changes, exchanged_kept, tails_stay, moved}, ExchangeFields.count_exchange}
 
 module _ (g : Geometry) (w : Spot → ℕ) (v : View) (c b e n to : ℕ) (p : Spot) (looks' : List Look) (kept : List Stored) (values : List ℕ) (part : Part) (h : HeldAt g w v) (a : LowerNeeds g w v c b e n to p looks' kept values part) where
   new_live : (header_of to).live ≡ true

@@ -1,13 +1,10 @@
 -- spots, and an identity's own words
 use Rattle.std.proofs.Common.{◌≡◌, ◌≢◌, ℕ, ◌<◌, refl, sym, ap, ◌∙◌, true, false, cond, subst, List, ◌∷◌}
 use Rattle.std.proofs.lemmas.Bool.{eqb-true, false_from_ne_true, true≢false}
-use Rattle.shm_graph.specs.Views.{at1, own_word, owner_is}
-use Rattle.shm_graph.proofs.Memos.Frames.{at1_all}
-use Rattle.shm_graph.specs.declared.spot.Spot.{Spot}
+use Rattle.shm_graph.specs.{Views.{at1, own_word, owner_is}, declared.spot.Spot.Spot}
 use Rattle.shm_graph.specs.declared.spot.Spot.TheVariants.{Redo, RedoMore, Hold, Home, Era, Root, Tail, QueueHead}
-use Rattle.shm_graph.specs.declared.memo.Stored.{Stored}
-use Rattle.shm_graph.specs.Spots.{upd, same_spot}
-use Rattle.shm_graph.proofs.Spots.Spotting.{same_spot_is}
+use Rattle.shm_graph.specs.{declared.memo.Stored.Stored, Spots.{upd, same_spot}}
+use Rattle.shm_graph.proofs.{Memos.Frames.at1_all, Spots.Spotting.same_spot_is}
 
 one_owner : (c d : ℕ) (p : Spot) → owner_is c p ≡ true → owner_is d p ≡ true → c ≡ d
 one_owner c d (Redo e) h k = eqb-true c e h ∙ sym (eqb-true d e k)

@@ -1,31 +1,22 @@
 -- the store of a page's class keeps the invariant
 use Rattle.std.proofs.Common.{◌≡◌, ◌≢◌, ℕ, ◌+◌, ◌^◌, ◌<◌, refl, sym, ap, ◌∙◌, arith, true, false, Bool, cond, eqb, subst, inl, inr, ◌&&◌, List, ◌∷◌, Option, Some, None}
-use Rattle.std.specs.List.{All, filter}
 use Rattle.std.proofs.lemmas.List.Elements.{All-cons, All-weaker, All-contains}
 use Rattle.std.proofs.lemmas.Bool.{cases_Bool, cases_eq, true≢false}
-use Rattle.shm_words.specs.Headers.{header_of}
-use Rattle.shm_words.specs.declared.geometry.Geometry.{Geometry}
+use Rattle.std.specs.List.{All, filter}
+use Rattle.shm_words.specs.{Headers.header_of, declared.geometry.Geometry.Geometry, Classes.IsClass}
 use Rattle.shm_graph.specs.declared.spot.Spot.{Spot}
 use Rattle.shm_graph.specs.declared.spot.Spot.TheVariants.{Spare, Status, Redo, RedoMore, Hold, Latch, Home, Era, Root, Tail, QueueHead, Slot, Segment, Page, Unused, Head, Tag, Body}
-use Rattle.shm_graph.specs.declared.memo.Making.{Making}
-use Rattle.shm_graph.specs.declared.memo.Fact.{Fact}
-use Rattle.shm_graph.specs.declared.memo.Test.{Test}
-use Rattle.shm_graph.specs.declared.memo.Fact.TheVariants.{Header as HeaderRead, Counter, Class}
-use Rattle.shm_graph.proofs.Memos.Frames.{at1_all}
-use Rattle.shm_graph.specs.Spots.{upd, IsAt, spot_address, spot_at}
-use Rattle.shm_graph.specs.Views.{View, targets, ons, held_overs}
-use Rattle.shm_graph.specs.Blocks.{IsBlock}
-use Rattle.shm_graph.specs.References.{words_of}
-use Rattle.shm_graph.specs.Ops.{cover_of, slot_of}
+use Rattle.shm_graph.specs.declared.memo.{Making.Making, Fact.Fact}
+use Rattle.shm_graph.specs.declared.memo.{Fact.TheVariants.{Header as HeaderRead, Counter, Class}, Test.Test}
+use Rattle.shm_graph.specs.{Spots.{upd, IsAt, spot_address, spot_at}, Views.{View, targets, ons, held_overs}}
+use Rattle.shm_graph.specs.{Blocks.IsBlock, References.words_of, Ops.{cover_of, slot_of}}
 use Rattle.shm_graph.specs.Held.{HeldAt, SlotOf, reach_of, TagSound, MakingTie, FactAt, ZeroAt, TestAt}
-use Rattle.shm_words.specs.Classes.{IsClass}
-use Rattle.shm_laws.specs.Segments.{ClassNeeds, class_view}
 use Rattle.shm_graph.specs.MemoAfterStore.{other_than}
-use Rattle.shm_laws.proofs.Owns.{mine_other, small_stored, there_stored}
-use Rattle.shm_graph.proofs.Spots.Spotting.{same_spot_self, alone}
+use Rattle.shm_graph.proofs.{Memos.Frames.at1_all, Spots.Spotting.{same_spot_self, alone}}
 use Rattle.shm_graph.proofs.Spots.PageSpots.{same_page, page_spot, stays_at, page_of_block, is_unused}
 use Rattle.shm_graph.proofs.States.Counting.{has_place, target_not_spare}
-use Rattle.shm_laws.proofs.Sum.{degree_same}
+use Rattle.shm_laws.specs.Segments.{ClassNeeds, class_view}
+use Rattle.shm_laws.proofs.{Owns.{mine_other, small_stored, there_stored}, Sum.degree_same}
 use Rattle.shm_laws.proofs.Keep.{live_block, op_moved, redo_moved, All-kept}
 
 pub class_kept : (g : Geometry) (w : Spot → ℕ) (v : View) (c s q k : ℕ) → HeldAt g w v → ClassNeeds g w v c s q k → HeldAt g (upd w (Page s q) k) (class_view v c s q k)

@@ -1,11 +1,8 @@
 -- partitions, value blocks and made blocks where a step changes what they don't read
 use Rattle.std.proofs.Common.{◌≡◌, ℕ, ◌<◌, ◌≤◌, sym, ap, ◌∙◌, arith, true, List, [], ◌∷◌, subst, get_or}
 use Rattle.shm_words.specs.Tags.{tag_refs, tag_plain, tag_author}
-use Rattle.shm_graph.specs.declared.table.Part.{Part}
-use Rattle.shm_graph.specs.declared.table.Part.TheVariants.{Loose, Table}
-use Rattle.shm_graph.specs.declared.table.Entry.{Entry}
-use Rattle.shm_graph.specs.Tables.{Contents, HasShape, IsEntry, IsChain, IsPartition}
-use Rattle.shm_graph.specs.Held.{PartTie}
+use Rattle.shm_graph.specs.declared.table.{Part.{Part, TheVariants.{Loose, Table}}, Entry.Entry}
+use Rattle.shm_graph.specs.{Tables.{Contents, HasShape, IsEntry, IsChain, IsPartition}, Held.PartTie}
 
 -- what stays of the blocks that are named: they stay live with their tags and plain words, and those of c keep their references
 pub record PartKept (x y : Contents) (named : ℕ → Type 0) (c : ℕ) : Type 0 where

@@ -1,29 +1,19 @@
 -- the store of a word of a free block that is prepared keeps the invariant, and leaves the graph
 use Rattle.std.proofs.Math.Path.{fun_ext}
-use Rattle.shm_words.specs.Tags.{tag_shape, tag_limit}
 use Rattle.std.proofs.Common.{◌≡◌, ◌≢◌, ℕ, ◌+◌, ◌^◌, ◌<◌, refl, sym, ap, ◌∙◌, arith, true, false, not, subst, List, [], Option, Some, None}
+use Rattle.std.proofs.lemmas.{List.Elements.{All-nil, All-cons, All-weaker}, Bool.{true≢false, false_from_ne_true}}
 use Rattle.std.specs.List.{All, filter}
-use Rattle.std.proofs.lemmas.List.Elements.{All-nil, All-cons, All-weaker}
-use Rattle.std.proofs.lemmas.Bool.{true≢false, false_from_ne_true}
-use Rattle.shm_words.specs.declared.geometry.Geometry.{Geometry}
-use Rattle.shm_words.specs.Headers.{header_of}
+use Rattle.shm_words.specs.{Tags.{tag_shape, tag_limit}, declared.geometry.Geometry.Geometry, Headers.header_of}
 use Rattle.shm_words.proofs.Words.{live_not_zero}
 use Rattle.shm_graph.specs.declared.spot.Spot.{Spot}
 use Rattle.shm_graph.specs.declared.spot.Spot.TheVariants.{Spare, Status, Redo, RedoMore, Hold, Latch, Home, Era, Root, Tail, QueueHead, Slot, Segment, Page, Unused, Head, Tag, Body}
-use Rattle.shm_graph.specs.declared.memo.Making.{Making}
-use Rattle.shm_graph.specs.declared.memo.Stored.{Stored}
-use Rattle.shm_graph.specs.Spots.{IsAt, same_spot, upd, class_at, segment_of}
-use Rattle.shm_graph.specs.Views.{View, at1}
-use Rattle.shm_graph.specs.Events.{Nothing, graph_of, Happens}
-use Rattle.shm_graph.specs.Held.{HeldAt, InBlock, MakingTie}
-use Rattle.shm_graph.proofs.Spots.Spotting.{same_spot_is}
-use Rattle.shm_graph.proofs.Spots.Updating.{upd_here}
-use Rattle.shm_graph.proofs.Memos.Frames.{at1_all, at1_same}
-use Rattle.shm_laws.proofs.Keep.{All-kept}
-use Rattle.shm_laws.proofs.Owns.{small_stored, there_stored}
+use Rattle.shm_graph.specs.declared.memo.{Making.Making, Stored.Stored}
+use Rattle.shm_graph.specs.{Spots.{IsAt, same_spot, upd, class_at, segment_of}, Views.{View, at1}}
+use Rattle.shm_graph.specs.{Events.{Nothing, graph_of, Happens}, Held.{HeldAt, InBlock, MakingTie}, Reach.not_at}
+use Rattle.shm_graph.proofs.{Spots.{Spotting.same_spot_is, Updating.upd_here}, Memos.Frames.{at1_all, at1_same}}
+use Rattle.shm_laws.proofs.{Keep.All-kept, Owns.{small_stored, there_stored}}
 use Rattle.shm_laws.proofs.BlockWords.{with_blocks, blocks_view, BlocksMay, Old, New, known_live, pair_kept, blocks_kept, blocks_quiet}
 use Rattle.shm_laws.specs.Preparing.{IsOf, IsMaking, words_with, PrepareNeeds, prepare_view}
-use Rattle.shm_graph.specs.Reach.{not_at}
 
 module _ (g : Geometry) (w : Spot → ℕ) (v : View) (c b k : ℕ) (p : Spot) (x : ℕ) (h : HeldAt g w v) (a : PrepareNeeds g w v c b k p x) where
   abbrev class : ℕ → ℕ → ℕ

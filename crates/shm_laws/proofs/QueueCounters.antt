@@ -1,28 +1,19 @@
 -- the store of a tail or a head that rises keeps the invariant: what both share, and what each gives
 use Rattle.std.proofs.Math.Path.{fun_ext}
 use Rattle.std.proofs.Common.{◌≡◌, ◌≢◌, ℕ, ◌%◌, ◌^◌, ◌<◌, ◌≤◌, sym, ap, ◌∙◌, arith, true, subst, inl, inr, List, [], ◌∷◌, Option, None}
-use Rattle.std.proofs.lemmas.List.Elements.{All-weaker}
-use Rattle.std.proofs.lemmas.Bool.{cases_eq, true≢false, ne_eqb}
-use Rattle.shm_words.specs.declared.header.Header.{Header}
-use Rattle.shm_words.specs.Headers.{header_of}
+use Rattle.std.proofs.lemmas.{List.Elements.All-weaker, Bool.{cases_eq, true≢false, ne_eqb}}
+use Rattle.shm_words.specs.{declared.{header.Header.Header, geometry.Geometry.Geometry}, Headers.header_of}
 use Rattle.shm_words.specs.Tags.{tag_author}
-use Rattle.shm_words.specs.declared.geometry.Geometry.{Geometry}
 use Rattle.shm_graph.specs.declared.spot.Spot.{Spot}
 use Rattle.shm_graph.specs.declared.spot.Spot.TheVariants.{Home, Era, Root, Tail, QueueHead, Slot, Page, Head, Tag, Body}
-use Rattle.shm_graph.specs.declared.memo.Op.TheVariants.{Nothing}
-use Rattle.shm_graph.specs.declared.memo.Stored.{Stored}
-use Rattle.shm_graph.specs.declared.memo.Test.{Test}
-use Rattle.shm_graph.specs.declared.memo.Status.TheVariants as status
-use Rattle.shm_graph.specs.declared.memo.Fact.{Fact}
-use Rattle.shm_graph.specs.declared.memo.Fact.TheVariants.{Header as HeaderRead, Counter, Class}
-use Rattle.shm_graph.specs.Spots.{upd, IsAt}
-use Rattle.shm_graph.specs.Ops.{slot_of, is_op}
-use Rattle.shm_graph.specs.Views.{View, at1, targets, ons, own_word, owner_is}
+use Rattle.shm_graph.specs.declared.memo.{Op.TheVariants.Nothing, Stored.Stored, Test.Test, Fact.Fact}
+use Rattle.shm_graph.specs.{declared.memo.Fact.TheVariants.{Header as HeaderRead, Counter, Class}, Spots.{upd, IsAt}}
+use Rattle.shm_graph.specs.{Ops.{slot_of, is_op}, Views.{View, at1, targets, ons, own_word, owner_is}}
 use Rattle.shm_graph.specs.Tables.{contents_of}
 use Rattle.shm_graph.specs.Held.{HeldAt, FactAt, CounterAt, LaneSound, SlotOf, reach_of, named_by, KnownAt, TestAt, TailSound, ValueAt}
+use Rattle.shm_graph.specs.declared.memo.Status.TheVariants as status
 use Rattle.shm_graph.proofs.Memos.Frames.{at1_all}
-use Rattle.shm_laws.proofs.Owns.{mine_stored, small_stored, there_stored}
-use Rattle.shm_laws.proofs.ExchangeFields.{looks_kept}
+use Rattle.shm_laws.proofs.{Owns.{mine_stored, small_stored, there_stored}, ExchangeFields.looks_kept}
 
 -- the words with these tails and heads
 abbrev pub with_counters : (Spot → ℕ) → (ℕ → ℕ → ℕ) → (ℕ → ℕ → ℕ) → Spot → ℕ

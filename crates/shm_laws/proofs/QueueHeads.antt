@@ -2,11 +2,8 @@
 use Rattle.std.proofs.Common.{◌≡◌, ◌≢◌, ℕ, ◌+◌, ◌%◌, ◌<◌, ◌≤◌, refl, sym, ◌∙◌, arith, true, false, Bool, eqb, eq-eqb, subst, inl, inr, ◌&&◌, [], ◌∷◌, ◌++◌}
 use Rattle.std.proofs.lemmas.Bool.{cases_Bool, eqb-true, and_parts}
 use Rattle.shm_words.specs.declared.geometry.Geometry.{Geometry}
-use Rattle.shm_graph.specs.declared.spot.Spot.{Spot}
-use Rattle.shm_graph.specs.declared.spot.Spot.TheVariants.{Tail, QueueHead, Slot}
-use Rattle.shm_graph.specs.Spots.{upd}
-use Rattle.shm_graph.specs.Views.{View, targets}
-use Rattle.shm_graph.specs.Held.{HeldAt, LaneSound, named_by}
+use Rattle.shm_graph.specs.{declared.spot.Spot.{Spot, TheVariants.{Tail, QueueHead, Slot}}, Spots.upd}
+use Rattle.shm_graph.specs.{Views.{View, targets}, Held.{HeldAt, LaneSound, named_by}}
 use Rattle.shm_graph.proofs.Spots.Spotting.{same_spot_self}
 use Rattle.shm_laws.proofs.QueueCounters.{Counters, counter_kept, with_counters}
 use Rattle.shm_laws.proofs.Lanes.{lane_received, at2_all, no_self}

@@ -1,31 +1,21 @@
 -- the store of a committed step into a slot of a queue, also where it was stored before, keeps the invariant, and the graph stays
 use Rattle.std.proofs.Common.{◌≡◌, ◌≢◌, ℕ, ◌%◌, ◌^◌, ◌<◌, refl, sym, ap, ◌∙◌, arith, true, false, eq-eqb, subst, inl, inr, [], Option, None}
-use Rattle.std.specs.List.{All}
 use Rattle.std.proofs.lemmas.List.Elements.{All-weaker, All-get_or}
 use Rattle.std.proofs.lemmas.Bool.{cases_eq, ne_eqb, cond-true, cond-false, true≢false, false≢true, false_from_ne_true}
-use Rattle.shm_words.specs.declared.geometry.Geometry.{Geometry}
-use Rattle.shm_words.specs.declared.header.Header.{Header}
-use Rattle.shm_words.specs.Headers.{header_of}
+use Rattle.std.specs.List.{All}
+use Rattle.shm_words.specs.{declared.{geometry.Geometry.Geometry, header.Header.Header}, Headers.header_of}
 use Rattle.shm_words.specs.Tags.{tag_author}
 use Rattle.shm_graph.specs.declared.spot.Spot.{Spot}
 use Rattle.shm_graph.specs.declared.spot.Spot.TheVariants.{Home, Era, Root, Tail, QueueHead, Slot, Page, Head, Tag, Body}
-use Rattle.shm_graph.specs.declared.memo.First.TheVariants.{Committed, Written}
-use Rattle.shm_graph.specs.declared.memo.Op.{Op}
-use Rattle.shm_graph.specs.declared.memo.Op.TheVariants.{Alloc, Up, Down, Change}
-use Rattle.shm_graph.specs.declared.memo.Stored.{Stored}
-use Rattle.shm_graph.specs.declared.memo.Test.{Test}
-use Rattle.shm_graph.specs.Spots.{same_spot, upd, IsAt}
-use Rattle.shm_graph.specs.Ops.{On, cover, slot_of, is_op}
-use Rattle.shm_graph.specs.Views.{View, targets, held_overs, ons}
-use Rattle.shm_graph.specs.Events.{Nothing, graph_of, Happens}
+use Rattle.shm_graph.specs.declared.memo.{First.TheVariants.{Committed, Written}, Op.Op}
+use Rattle.shm_graph.specs.declared.memo.{Op.TheVariants.{Alloc, Up, Down, Change}, Stored.Stored, Test.Test}
+use Rattle.shm_graph.specs.{Spots.{same_spot, upd, IsAt}, Ops.{On, cover, slot_of, is_op}}
+use Rattle.shm_graph.specs.{Views.{View, targets, held_overs, ons}, Events.{Nothing, graph_of, Happens}}
 use Rattle.shm_graph.specs.Tables.{contents_of, HasShape}
 use Rattle.shm_graph.specs.Held.{HeldAt, CountSound, SlotOf, reach_of, named_by, FactAt, TestAt, EraSound, KnownAt, LooksSound, LaneSound, IsUnusedLane, PartTie, ValueAt, MadeAt, Allowed, is_loose, is_root, is_slot, is_slot_to}
-use Rattle.shm_graph.proofs.Spots.Spotting.{same_spot_self, same_spot_is}
-use Rattle.shm_graph.proofs.States.Holders.{Holds, apart_slots}
+use Rattle.shm_graph.proofs.{Spots.Spotting.{same_spot_self, same_spot_is}, States.Holders.{Holds, apart_slots}}
 use Rattle.shm_graph.proofs.Memos.Frames.{at1_all}
-use Rattle.shm_laws.proofs.Lanes.{lane_clients}
-use Rattle.shm_laws.proofs.Owns.{mine_other, small_stored, there_stored}
-use Rattle.shm_laws.proofs.Quiet.{quiet}
+use Rattle.shm_laws.proofs.{Lanes.lane_clients, Owns.{mine_other, small_stored, there_stored}, Quiet.quiet}
 use Rattle.shm_laws.proofs.Slots.{slot_names}
 use Rattle.shm_laws.proofs.Writing.{written, at_slot, mine_at, on_same, held_over_same, own_same, allowed_same, tails_same, slots_same, ops_same, targets_same}
 use Rattle.shm_laws.specs.Slotting.{Writes, QueueNeeds, queue_view}

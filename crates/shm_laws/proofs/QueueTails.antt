@@ -2,15 +2,10 @@
 use Rattle.std.proofs.Common.{◌≡◌, ◌≢◌, ℕ, ◌+◌, ◌%◌, ◌<◌, ◌≤◌, refl, sym, ap, ◌∙◌, arith, true, false, eqb, eq-eqb, subst, inl, inr, ◌⊎◌, ◌&&◌, [], ◌∷◌, ◌++◌}
 use Rattle.std.proofs.lemmas.Bool.{cases_Bool, ne_eqb, eqb-true, and_parts}
 use Rattle.shm_words.specs.declared.geometry.Geometry.{Geometry}
-use Rattle.shm_graph.specs.declared.spot.Spot.{Spot}
-use Rattle.shm_graph.specs.declared.spot.Spot.TheVariants.{Era, Tail, QueueHead, Slot, Spare}
-use Rattle.shm_graph.specs.Spots.{upd}
-use Rattle.shm_graph.specs.Views.{View, targets}
-use Rattle.shm_graph.specs.Ops.{up_slot}
-use Rattle.shm_graph.specs.Held.{HeldAt, LaneSound, named_by, room_of, TailSound}
+use Rattle.shm_graph.specs.{declared.spot.Spot.{Spot, TheVariants.{Era, Tail, QueueHead, Slot, Spare}}, Spots.upd}
+use Rattle.shm_graph.specs.{Views.{View, targets}, Ops.up_slot, Held.{HeldAt, LaneSound, named_by, room_of, TailSound}}
 use Rattle.shm_graph.proofs.Spots.Spotting.{same_spot_self}
-use Rattle.shm_laws.proofs.QueueCounters.{Counters, counter_kept, with_counters}
-use Rattle.shm_laws.proofs.Lanes.{lane_sent, at2_all, no_self}
+use Rattle.shm_laws.proofs.{QueueCounters.{Counters, counter_kept, with_counters}, Lanes.{lane_sent, at2_all, no_self}}
 use Rattle.shm_laws.specs.OwnWords.{at2, TailNeeds, tail_view}
 
 pub tail_kept : (g : Geometry) (w : Spot → ℕ) (v : View) (c r : ℕ) → HeldAt g w v → TailNeeds g w v c r → HeldAt g (upd w (Tail c r) (w (Tail c r) + 1)) (tail_view v c r (w (Tail c r) + 1))

@@ -3,18 +3,12 @@ use Rattle.std.proofs.Common.{◌≡◌, ℕ, ◌+◌, refl, ap, List}
 use Rattle.shm_words.specs.declared.geometry.Geometry.{Geometry}
 use Rattle.shm_graph.specs.declared.spot.Spot.{Spot}
 use Rattle.shm_graph.specs.declared.spot.Spot.TheVariants.{Redo, Latch, Era, Root, Tail, QueueHead, Page, Head, Tag, Body}
-use Rattle.shm_graph.specs.declared.memo.Op.{Op}
-use Rattle.shm_graph.specs.declared.memo.Stored.{Stored}
-use Rattle.shm_graph.specs.Spots.{upd}
-use Rattle.shm_graph.specs.Views.{View, targets, held_overs}
-use Rattle.shm_graph.specs.Events.{Nothing, graph_of, Happens}
-use Rattle.shm_graph.specs.Held.{HeldAt}
-use Rattle.shm_laws.proofs.RedoAndRows.{begin_targets, begin_held_overs}
-use Rattle.shm_laws.proofs.CloseOp.{close_targets, close_held_overs}
+use Rattle.shm_graph.specs.{declared.memo.{Op.Op, Stored.Stored}, Spots.upd, Views.{View, targets, held_overs}}
+use Rattle.shm_graph.specs.{Events.{Nothing, graph_of, Happens}, Held.HeldAt}
+use Rattle.shm_laws.proofs.{RedoAndRows.{begin_targets, begin_held_overs}, CloseOp.{close_targets, close_held_overs}}
 use Rattle.shm_laws.proofs.Writing.{targets_same, held_over_same}
 use Rattle.shm_laws.specs.OwnWords.{BeginNeeds, begin_view, RowNeeds, row_store_view, CloseNeeds, close_view, TailNeeds, tail_view, QueueHeadNeeds, head_view}
-use Rattle.shm_laws.specs.Slotting.{RootNeeds, root_view, BodyNeeds, body_view}
-use Rattle.shm_laws.specs.Segments.{ClassNeeds, class_view}
+use Rattle.shm_laws.specs.{Slotting.{RootNeeds, root_view, BodyNeeds, body_view}, Segments.{ClassNeeds, class_view}}
 use Rattle.shm_laws.specs.Latches.{BackNeeds, back_view, LatchNeeds, latch_view}
 
 -- no header and no tag changed, and targets and blocks held over stay

@@ -1,30 +1,22 @@
 -- the store of a redo word begins an op, and the store of a row, and both keep the invariant
 use Rattle.std.proofs.Math.Path.{fun_ext}
 use Rattle.std.proofs.Common.{◌≡◌, ◌≢◌, ℕ, ◌^◌, ◌<◌, ◌≤◌, refl, sym, ap, ◌∙◌, arith, true, false, Bool, cond, eqb, eq-eqb, subst, inl, inr, ◌&&◌, [], Option, Some, None, ◌%◌}
-use Rattle.std.specs.List.{All}
 use Rattle.std.proofs.lemmas.List.Elements.{All-weaker, All-contains}
 use Rattle.std.proofs.lemmas.Bool.{cases_Bool, cases_eq, ne_eqb, eqb-true, and_parts}
-use Rattle.shm_words.specs.declared.header.Header.{Header}
-use Rattle.shm_words.specs.Headers.{header_of}
-use Rattle.shm_words.specs.declared.geometry.Geometry.{Geometry}
+use Rattle.std.specs.List.{All}
+use Rattle.shm_words.specs.{declared.{header.Header.Header, geometry.Geometry.Geometry}, Headers.header_of}
+use Rattle.shm_words.specs.Tags.{tag_author}
 use Rattle.shm_graph.specs.declared.spot.Spot.{Spot}
 use Rattle.shm_graph.specs.declared.spot.Spot.TheVariants.{Redo, RedoMore, Home, Era, Tail, QueueHead, Slot, Page, Head, Tag, Body, Spare, Root}
-use Rattle.shm_graph.specs.declared.memo.Op.{Op}
-use Rattle.shm_graph.specs.declared.memo.Stored.{Stored}
-use Rattle.shm_graph.specs.declared.memo.Test.{Test}
-use Rattle.shm_graph.specs.declared.memo.Fact.{Fact}
+use Rattle.shm_graph.specs.declared.memo.{Op.Op, Stored.Stored, Test.Test, Fact.Fact}
 use Rattle.shm_graph.specs.declared.memo.Fact.TheVariants.{Header as HeaderRead, Counter, Class}
-use Rattle.shm_graph.proofs.Memos.Frames.{at1_all}
-use Rattle.shm_graph.proofs.Runs.Lists.{at1_here, at1_other}
 use Rattle.shm_graph.specs.Ops.{Cover, held_over_of, on_of, target, cover_of, slot_of, up_slot, is_op}
-use Rattle.shm_graph.specs.References.{words_of}
-use Rattle.shm_graph.specs.Spots.{upd, IsAt}
-use Rattle.shm_graph.specs.Views.{View, at1, targets, ons, held_overs}
-use Rattle.shm_words.specs.Tags.{tag_author}
+use Rattle.shm_graph.specs.{References.words_of, Spots.{upd, IsAt}, Views.{View, at1, targets, ons, held_overs}}
 use Rattle.shm_graph.specs.Held.{HeldAt, CountSound, LaneSound, EraSound, Bound, FactAt, CounterAt, OwnSound, OpTie, RedoTie, Allowed, SlotOf, reach_of, named_by, KnownAt, LooksSound, TestAt, IsUnusedLane, TailSound, PartTie, ValueAt, MadeAt, is_loose}
+use Rattle.shm_graph.specs.Tables.{HasShape, contents_of}
+use Rattle.shm_graph.proofs.{Memos.Frames.at1_all, Runs.Lists.{at1_here, at1_other}}
 use Rattle.shm_laws.proofs.Owns.{mine_stored, small_stored, there_stored}
 use Rattle.shm_laws.specs.OwnWords.{BeginNeeds, begin_view, RowNeeds, row_store_view}
-use Rattle.shm_graph.specs.Tables.{HasShape, contents_of}
 
 -- an op that begins covers no word and holds no reference over
 pub begin_held_overs : (g : Geometry) (w : Spot → ℕ) (v : View) (c x : ℕ) (o : Op) → BeginNeeds g w v c x o → held_overs (begin_view v c x o) ≡ held_overs v

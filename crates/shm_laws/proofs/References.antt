@@ -1,28 +1,19 @@
 -- blocks that a word names: their counts, and the partitions that a step of another identity leaves
 use Rattle.std.proofs.Common.{◌≡◌, ◌≢◌, ℕ, ◌<◌, ◌≤◌, refl, sym, ap, ◌∙◌, arith, Bool, true, false, eqb, inl, inr, ◌⊎◌, subst}
+use Rattle.std.proofs.lemmas.{List.Elements.All-weaker, Bool.{cases_eq, eq-eqb, true≢false, ne_eqb, false_from_ne_true}}
 use Rattle.std.specs.List.{All, filter}
-use Rattle.std.proofs.lemmas.List.Elements.{All-weaker}
-use Rattle.std.proofs.lemmas.Bool.{cases_eq, eq-eqb, true≢false, ne_eqb, false_from_ne_true}
-use Rattle.shm_words.specs.declared.geometry.Geometry.{Geometry}
-use Rattle.shm_words.specs.declared.header.Header.{Header}
-use Rattle.shm_words.specs.Headers.{header_of}
+use Rattle.shm_words.specs.{declared.{geometry.Geometry.Geometry, header.Header.Header}, Headers.header_of}
 use Rattle.shm_words.specs.Tags.{tag_refs, tag_author}
 use Rattle.shm_graph.specs.declared.spot.Spot.{Spot}
 use Rattle.shm_graph.specs.declared.spot.Spot.TheVariants.{Spare, Home, Root, Tail, QueueHead, Slot, Page, Head, Tag, Body}
-use Rattle.shm_graph.specs.Spots.{same_spot, upd, IsAt}
-use Rattle.shm_graph.specs.MemoAfterStore.{not_block}
-use Rattle.shm_graph.specs.References.{one_if, words_of}
-use Rattle.shm_graph.specs.Tables.{Contents, contents_of, HasShape}
-use Rattle.shm_graph.specs.Ops.{cover_of}
+use Rattle.shm_graph.specs.{Spots.{same_spot, upd, IsAt}, MemoAfterStore.not_block, References.{one_if, words_of}}
+use Rattle.shm_graph.specs.{Tables.{Contents, contents_of, HasShape}, Ops.cover_of}
 use Rattle.shm_graph.specs.Views.{View, at1, targets, held_overs}
 use Rattle.shm_graph.specs.Held.{HeldAt, SlotOf, PartTie, ValueAt, MadeAt, reach_of, is_loose}
-use Rattle.shm_graph.proofs.Spots.Spotting.{same_spot_is, in_pool, is_at_block}
-use Rattle.shm_graph.proofs.Runs.Lists.{at1_here, at1_other}
+use Rattle.shm_graph.proofs.{Spots.Spotting.{same_spot_is, in_pool, is_at_block}, Runs.Lists.{at1_here, at1_other}}
 use Rattle.shm_graph.proofs.States.Counting.{has_place, target_not_spare, indegree_has}
-use Rattle.shm_laws.proofs.Keep.{live_block, count_of_zero, All-kept}
-use Rattle.shm_laws.proofs.Sum.{degree_step, held_over_step}
-use Rattle.shm_laws.proofs.ExchangeFields.{reach_target}
-use Rattle.shm_laws.proofs.Parts.{PartKept, part_kept}
+use Rattle.shm_laws.proofs.{Keep.{live_block, count_of_zero, All-kept}, Sum.{degree_step, held_over_step}}
+use Rattle.shm_laws.proofs.{ExchangeFields.reach_target, Parts.{PartKept, part_kept}}
 
 -- ---- counts
 

@@ -1,36 +1,24 @@
 -- the exchange of a change's second half keeps the invariant, and is one event
 use mathlib.Core.Path.{fun_ext}
 use Rattle.std.proofs.Common.{◌≡◌, ◌≢◌, ℕ, ◌+◌, refl, sym, ap, ◌∙◌, arith, true, eqb, eq-eqb, subst, inl, inr, List}
-use Rattle.std.specs.List.{filter}
 use Rattle.std.proofs.lemmas.Bool.{cases_eq, ne_eqb}
-use Rattle.shm_words.specs.declared.header.Header.{Header}
-use Rattle.shm_words.specs.Headers.{header_of}
-use Rattle.shm_graph.specs.References.{one_if, words_of}
-use Rattle.shm_words.specs.declared.geometry.Geometry.{Geometry}
-use Rattle.shm_graph.specs.declared.spot.Spot.{Spot}
-use Rattle.shm_graph.specs.declared.spot.Spot.TheVariants.{Spare, Redo, RedoMore, Era, Root, Page, Head}
-use Rattle.shm_graph.specs.declared.memo.Op.{Op}
-use Rattle.shm_graph.specs.declared.memo.Op.TheVariants.{Change}
-use Rattle.shm_graph.specs.declared.memo.Second.TheVariants.{Open, Closed}
-use Rattle.shm_graph.specs.declared.memo.ChangeStage.TheVariants.{Lowering}
-use Rattle.shm_graph.specs.declared.memo.Stored.{Stored}
-use Rattle.shm_graph.specs.declared.memo.Look.{Look}
-use Rattle.shm_graph.proofs.Memos.Frames.{at1_all}
-use Rattle.shm_graph.proofs.Runs.Lists.{at1_here, at1_other, at1_part}
-use Rattle.shm_graph.specs.Ops.{Cover, word_at, target, cover_of, up_slot, indegree, held_over_of, on_of}
-use Rattle.shm_graph.specs.Spots.{upd, spot_address}
-use Rattle.shm_graph.specs.Blocks.{headers}
-use Rattle.shm_graph.specs.Views.{View, targets, held_overs}
-use Rattle.shm_graph.specs.Events.{ChangeDown, graph_of, Happens}
-use Rattle.shm_graph.specs.Held.{HeldAt, odd, OpTie, OpSound, Allowed, room_of}
-use Rattle.shm_graph.specs.MemoAfterStore.{not_block}
-use Rattle.shm_laws.specs.HeaderExchanges.{SecondNeeds, second_view, dying_after}
-use Rattle.shm_laws.proofs.Sum.{refs_target, held_over_step}
-use Rattle.shm_laws.proofs.Keep.{block_not_zero}
-use Rattle.shm_laws.proofs.Headers.{dying_lowered, live_stays, lives, refs_stay, shape_stays}
-use Rattle.shm_laws.proofs.References.{differs, live_some, part_lives, name_and_held_over, part_lives, made_kept, made_own}
-use Rattle.shm_laws.proofs.LiveExchange.{Changes, exchanged_kept, tails_stay, moved, unmoved}
+use Rattle.std.specs.List.{filter}
+use Rattle.shm_words.specs.{declared.{header.Header.Header, geometry.Geometry.Geometry}, Headers.header_of}
 use Rattle.shm_words.specs.declared.redo.Redo.TheVariants as redos
+use Rattle.shm_graph.specs.{References.{one_if, words_of}, declared.spot.Spot.Spot}
+use Rattle.shm_graph.specs.declared.{spot.Spot.TheVariants.{Spare, Redo, RedoMore, Era, Root, Page, Head}, memo.Op.Op}
+use Rattle.shm_graph.specs.declared.memo.{Op.TheVariants.Change, Second.TheVariants.{Open, Closed}}
+use Rattle.shm_graph.specs.declared.memo.{ChangeStage.TheVariants.Lowering, Stored.Stored, Look.Look}
+use Rattle.shm_graph.specs.Ops.{Cover, word_at, target, cover_of, up_slot, indegree, held_over_of, on_of}
+use Rattle.shm_graph.specs.{Spots.{upd, spot_address}, Blocks.headers, Views.{View, targets, held_overs}}
+use Rattle.shm_graph.specs.Events.{ChangeDown, graph_of, Happens}
+use Rattle.shm_graph.specs.{Held.{HeldAt, odd, OpTie, OpSound, Allowed, room_of}, MemoAfterStore.not_block}
+use Rattle.shm_graph.proofs.{Memos.Frames.at1_all, Runs.Lists.{at1_here, at1_other, at1_part}}
+use Rattle.shm_laws.specs.HeaderExchanges.{SecondNeeds, second_view, dying_after}
+use Rattle.shm_laws.proofs.{Sum.{refs_target, held_over_step}, Keep.block_not_zero}
+use Rattle.shm_laws.proofs.Headers.{dying_lowered, live_stays, lives, refs_stay, shape_stays}
+use Rattle.shm_laws.proofs.References.{differs, live_some, part_lives, name_and_held_over, made_kept, made_own}
+use Rattle.shm_laws.proofs.LiveExchange.{Changes, exchanged_kept, tails_stay, moved, unmoved}
 
 module _ (g : Geometry) (w : Spot → ℕ) (v : View) (c b y e n to : ℕ) (p : Spot) (looks' : List Look) (kept : List Stored) (values : List ℕ) (h : HeldAt g w v) (a : SecondNeeds g w v c b y e n to p looks' kept values) where
   abbrev w' : Spot → ℕ

@@ -1,24 +1,17 @@
 -- the store that gives an own segment up keeps the invariant, and leaves the graph
 use Rattle.std.proofs.Common.{◌≡◌, ◌≢◌, ℕ, ◌+◌, ◌^◌, ◌<◌, ◌≤◌, refl, sym, ap, ◌∙◌, arith, true, false, eqb, eq-eqb, inl, inr, lit<, List, Option, Some, None}
+use Rattle.std.proofs.lemmas.{List.Elements.All-weaker, Bool.{cases_eq, ne_eqb, true≢false}}
 use Rattle.std.specs.List.{All, Contains, filter}
-use Rattle.std.proofs.lemmas.List.Elements.{All-weaker}
-use Rattle.std.proofs.lemmas.Bool.{cases_eq, ne_eqb, true≢false}
 use Rattle.shm_words.specs.declared.geometry.Geometry.{Geometry}
-use Rattle.shm_graph.specs.declared.spot.Spot.{Spot}
-use Rattle.shm_graph.specs.declared.spot.Spot.TheVariants.{Era, Segment, Page, Head, Tag, Body}
-use Rattle.shm_graph.specs.declared.memo.Making.{Making}
-use Rattle.shm_graph.specs.declared.memo.Test.{Test}
-use Rattle.shm_graph.specs.Views.{at1, View, ons}
-use Rattle.shm_graph.specs.Spots.{upd, IsAt, segment_of}
-use Rattle.shm_graph.specs.Events.{Nothing, graph_of, Happens}
+use Rattle.shm_graph.specs.declared.spot.Spot.{Spot, TheVariants.{Era, Segment, Page, Head, Tag, Body}}
+use Rattle.shm_graph.specs.{declared.memo.{Making.Making, Test.Test}, Views.{at1, View, ons}}
+use Rattle.shm_graph.specs.{Spots.{upd, IsAt, segment_of}, Events.{Nothing, graph_of, Happens}}
 use Rattle.shm_graph.specs.Held.{HeldAt, MakingTie, SegmentTie, TestAt, ZeroAt}
-use Rattle.shm_graph.proofs.Memos.Frames.{at1_all}
-use Rattle.shm_graph.proofs.Runs.Lists.{at1_other}
-use Rattle.shm_laws.proofs.Owns.{mine_other, small_stored, there_stored}
-use Rattle.shm_laws.proofs.Keep.{All-kept, Contains-filter, filter_from}
-use Rattle.shm_laws.proofs.Quiet.{quiet}
-use Rattle.shm_laws.specs.Segments.{SegmentBackNeeds, segment_back_view}
 use Rattle.shm_graph.specs.MemoAfterStore.{not_segment, outside_of}
+use Rattle.shm_graph.proofs.{Memos.Frames.at1_all, Runs.Lists.at1_other}
+use Rattle.shm_laws.proofs.Owns.{mine_other, small_stored, there_stored}
+use Rattle.shm_laws.proofs.{Keep.{All-kept, Contains-filter, filter_from}, Quiet.quiet}
+use Rattle.shm_laws.specs.Segments.{SegmentBackNeeds, segment_back_view}
 
 pub segment_back_kept : (g : Geometry) (w : Spot → ℕ) (v : View) (c s : ℕ) → HeldAt g w v → SegmentBackNeeds g v c s → HeldAt g (upd w (Segment s) 0) (segment_back_view g v c s)
 segment_back_kept g w v c s h a =

@@ -1,22 +1,15 @@
 -- the exchange by which a segment becomes the identity's keeps the invariant, and leaves the graph
 use Rattle.std.proofs.Common.{◌≡◌, ℕ, ◌+◌, ◌^◌, ◌<◌, ◌≤◌, refl, ap, ◌∙◌, arith, inl, inr, List, [], ◌∷◌, Option, Some, None}
-use Rattle.std.specs.List.{Contains}
 use Rattle.std.proofs.lemmas.List.Elements.{All-cons, All-weaker, All-contains, All-contains_itself, Contains-append_right}
 use Rattle.std.proofs.lemmas.Bool.{cases_eq, ne_eqb}
+use Rattle.std.specs.List.{Contains}
 use Rattle.shm_words.specs.declared.geometry.Geometry.{Geometry}
-use Rattle.shm_graph.specs.declared.spot.Spot.{Spot}
-use Rattle.shm_graph.specs.declared.spot.Spot.TheVariants.{Era, Segment, Page, Head, Tag, Body}
-use Rattle.shm_graph.specs.declared.memo.Making.{Making}
-use Rattle.shm_graph.specs.declared.memo.Test.{Test}
-use Rattle.shm_graph.specs.Views.{at1, View, ons}
-use Rattle.shm_graph.specs.Spots.{upd, IsAt, segment_of}
-use Rattle.shm_graph.specs.Events.{Nothing, graph_of, Happens}
+use Rattle.shm_graph.specs.declared.spot.Spot.{Spot, TheVariants.{Era, Segment, Page, Head, Tag, Body}}
+use Rattle.shm_graph.specs.{declared.memo.{Making.Making, Test.Test}, Views.{at1, View, ons}}
+use Rattle.shm_graph.specs.{Spots.{upd, IsAt, segment_of}, Events.{Nothing, graph_of, Happens}}
 use Rattle.shm_graph.specs.Held.{HeldAt, MakingTie, SegmentTie, TestAt, ZeroAt}
-use Rattle.shm_graph.proofs.Memos.Frames.{at1_all}
-use Rattle.shm_graph.proofs.Runs.Lists.{at1_here, at1_other}
-use Rattle.shm_laws.proofs.Owns.{mine_other, small_stored, there_stored}
-use Rattle.shm_laws.proofs.Quiet.{quiet}
-use Rattle.shm_laws.proofs.Keep.{newest}
+use Rattle.shm_graph.proofs.{Memos.Frames.at1_all, Runs.Lists.{at1_here, at1_other}}
+use Rattle.shm_laws.proofs.{Owns.{mine_other, small_stored, there_stored}, Quiet.quiet, Keep.newest}
 use Rattle.shm_laws.specs.Segments.{ClaimNeeds, claim_view}
 
 -- what a list has it has with an element in front

@@ -1,17 +1,12 @@
 -- the slot of c's step: nobody else stores it, and what another identity reads is another word
 use Rattle.std.proofs.Common.{◌≡◌, ◌≢◌, ℕ, ◌%◌, ◌<◌, refl, sym, ap, ◌∙◌, arith, false, ltb, lt-ltb, subst, inl, inr, [], Some}
 use Rattle.std.proofs.lemmas.Bool.{true≢false, false_from_ne_true, cond-true}
-use Rattle.shm_words.specs.declared.geometry.Geometry.{Geometry}
-use Rattle.shm_words.specs.Tags.{tag_author}
+use Rattle.shm_words.specs.{declared.geometry.Geometry.Geometry, Tags.tag_author}
 use Rattle.shm_graph.specs.declared.spot.Spot.{Spot}
 use Rattle.shm_graph.specs.declared.spot.Spot.TheVariants.{Spare, Home, Root, Tail, QueueHead, Slot, Head, Tag, Body}
-use Rattle.shm_graph.specs.declared.memo.Op.{Op}
-use Rattle.shm_graph.specs.Spots.{same_spot, upd}
-use Rattle.shm_graph.specs.References.{words_of, refs_of}
-use Rattle.shm_graph.specs.Ops.{Quiet, On, word_at, cover, cover_of, covered, target}
-use Rattle.shm_graph.specs.Blocks.{headers}
-use Rattle.shm_graph.specs.Views.{View, at1, targets}
-use Rattle.shm_graph.specs.Held.{HeldAt, LooksSound, is_home, named_by}
+use Rattle.shm_graph.specs.{declared.memo.Op.Op, Spots.{same_spot, upd}, References.{words_of, refs_of}}
+use Rattle.shm_graph.specs.{Ops.{Quiet, On, word_at, cover, cover_of, covered, target}, Blocks.headers}
+use Rattle.shm_graph.specs.{Views.{View, at1, targets}, Held.{HeldAt, LooksSound, is_home, named_by}}
 use Rattle.shm_graph.proofs.Spots.Spotting.{same_spot_is}
 use Rattle.shm_graph.proofs.States.Holders.{Holds, InReach, apart_slots, held_live_not_zero, one_holder, one_latch, target_counted}
 use Rattle.shm_graph.proofs.States.Counting.{covered_alone}

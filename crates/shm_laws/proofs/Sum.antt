@@ -2,20 +2,15 @@
 use Rattle.std.proofs.Math.Path.{fun_ext}
 use Rattle.std.proofs.Common.{◌≡◌, ◌≢◌, ℕ, zero, suc, ◌+◌, ◌<◌, refl, sym, ap, ◌∙◌, arith, true, false, Bool, cond, eqb, ltb, ltb-true, lt-ltb, subst, inl, inr, ◌⊎◌}
 use Rattle.std.proofs.lemmas.Bool.{false_from_ne_true, cond-true}
-use Rattle.shm_graph.specs.References.{one_if, references_to, Words}
-use Rattle.shm_laws.proofs.Sums.{sum_but, sum_same}
-use Rattle.shm_graph.specs.Views.{at1}
-use Rattle.shm_graph.proofs.Memos.Frames.{at1_all}
-use Rattle.shm_graph.proofs.Runs.Lists.{at1_here, at1_other}
-use Rattle.shm_words.specs.declared.geometry.Geometry.{Geometry}
-use Rattle.shm_graph.specs.declared.spot.Spot.{Spot}
+use Rattle.shm_graph.specs.{References.{one_if, references_to, Words}, Views.at1, declared.spot.Spot.Spot}
 use Rattle.shm_graph.specs.declared.spot.Spot.TheVariants.{Spare, Status, Redo, RedoMore, Hold, Latch, Home, Era, Root, Tail, QueueHead, Slot, Segment, Page, Unused, Head, Tag, Body}
-use Rattle.shm_graph.specs.declared.memo.Op.{Op}
-use Rattle.shm_graph.specs.Spots.{same_spot, upd, spot_at, spot_address, IsAt}
-use Rattle.shm_words.specs.Layout.{total_of}
+use Rattle.shm_graph.specs.{declared.memo.Op.Op, Spots.{same_spot, upd, spot_at, spot_address, IsAt}}
 use Rattle.shm_graph.specs.Ops.{Cover, cover, cover_of, covered, target, indegree, Quiet, On}
+use Rattle.shm_graph.proofs.{Memos.Frames.at1_all, Runs.Lists.{at1_here, at1_other}}
 use Rattle.shm_graph.proofs.Spots.Spotting.{same_spot_is, same_spot_self, alone, in_pool}
 use Rattle.shm_graph.proofs.States.Counting.{covered_alone}
+use Rattle.shm_laws.proofs.Sums.{sum_but, sum_same}
+use Rattle.shm_words.specs.{declared.geometry.Geometry.Geometry, Layout.total_of}
 
 pub covered_same : (n : ℕ) (p : Spot) (x : ℕ) (ps ps' : ℕ → Cover) → ((d : ℕ) → d < n → (y : ℕ) → cover (ps' d) p y ≡ cover (ps d) p y) → covered ps' n p x ≡ covered ps n p x
 covered_same zero p x ps ps' h = refl

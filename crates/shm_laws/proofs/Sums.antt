@@ -1,6 +1,5 @@
 -- sums over the numbers below a number, where one term changes
-use Rattle.std.proofs.Common.{◌≡◌, ◌≢◌, ℕ, zero, suc, inl, inr, ◌+◌, ◌<◌, refl, ap, arith}
-use Rattle.std.proofs.lemmas.Bool.{cases_eq}
+use Rattle.std.proofs.{Common.{◌≡◌, ◌≢◌, ℕ, zero, suc, inl, inr, ◌+◌, ◌<◌, refl, ap, arith}, lemmas.Bool.cases_eq}
 use Rattle.shm_graph.specs.References.{sum_below}
 
 -- two functions that agree have one sum

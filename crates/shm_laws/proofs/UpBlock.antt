@@ -1,32 +1,23 @@
 -- the exchange that raises a live block keeps the invariant, for any slot, and is one event
 use Rattle.std.proofs.Math.Path.{fun_ext}
 use Rattle.std.proofs.Common.{◌≡◌, ◌≢◌, ℕ, ◌+◌, ◌%◌, ◌<◌, ◌≤◌, refl, sym, ap, ◌∙◌, arith, true, false, Bool, cond, eqb, eq-eqb, subst, inl, inr, ◌⊎◌, ◌&&◌, []}
-use Rattle.std.specs.List.{filter}
 use Rattle.std.proofs.lemmas.List.Elements.{All-weaker}
 use Rattle.std.proofs.lemmas.Bool.{cases_Bool, cases_eq, true≢false, ne_eqb, eqb-true, and_parts, false_from_ne_true}
-use Rattle.shm_words.specs.declared.geometry.Geometry.{Geometry}
-use Rattle.shm_words.specs.declared.header.Header.{Header}
-use Rattle.shm_words.specs.declared.redo.Redo.TheVariants as redos
-use Rattle.shm_words.specs.Headers.{header_of}
+use Rattle.std.specs.List.{filter}
+use Rattle.shm_words.specs.{declared.{geometry.Geometry.Geometry, header.Header.Header}, Headers.header_of}
 use Rattle.shm_words.specs.Tags.{tag_author}
+use Rattle.shm_words.specs.declared.redo.Redo.TheVariants as redos
 use Rattle.shm_graph.specs.declared.spot.Spot.{Spot}
 use Rattle.shm_graph.specs.declared.spot.Spot.TheVariants.{Redo, RedoMore, Home, Era, Root, Tail, QueueHead, Slot, Head, Tag, Body}
-use Rattle.shm_graph.specs.declared.table.Part.{Part}
-use Rattle.shm_graph.specs.declared.memo.First.TheVariants.{Begun, Committed}
-use Rattle.shm_graph.specs.declared.memo.Op.{Op}
-use Rattle.shm_graph.specs.declared.memo.Op.TheVariants.{Up}
-use Rattle.shm_graph.specs.declared.memo.Stored.{Stored}
-use Rattle.shm_graph.specs.Spots.{upd, same_spot, IsAt, spot_address}
-use Rattle.shm_graph.specs.References.{one_if, words_of}
+use Rattle.shm_graph.specs.declared.{table.Part.Part, memo.{First.TheVariants.{Begun, Committed}, Op.Op}}
+use Rattle.shm_graph.specs.declared.memo.{Op.TheVariants.Up, Stored.Stored}
+use Rattle.shm_graph.specs.{Spots.{upd, same_spot, IsAt, spot_address}, References.{one_if, words_of}}
 use Rattle.shm_graph.specs.Ops.{word_at, cover, cover_of, slot_of, indegree, held_over_of, on_of, is_op}
-use Rattle.shm_graph.specs.Views.{View, at1, targets, held_overs}
-use Rattle.shm_graph.specs.Blocks.{classes, headers}
-use Rattle.shm_graph.specs.Events.{graph_of, Happens, Up as UpEvent}
-use Rattle.shm_graph.specs.Tables.{contents_of, HasShape}
+use Rattle.shm_graph.specs.{Views.{View, at1, targets, held_overs}, Blocks.{classes, headers}}
+use Rattle.shm_graph.specs.{Events.{graph_of, Happens, Up as UpEvent}, Tables.{contents_of, HasShape}}
 use Rattle.shm_graph.specs.Held.{HeldAt, CountSound, reach_of, named_by, LooksSound, is_slot, is_slot_to, LaneSound, OpTie, OpSound, Allowed, TailSound, room_of, is_loose}
-use Rattle.shm_graph.proofs.Spots.Spotting.{same_spot_is}
-use Rattle.shm_graph.proofs.States.Holders.{Holds}
-use Rattle.shm_graph.proofs.Runs.Lists.{at1_here}
+use Rattle.shm_graph.specs.MemoAfterStore.{not_block}
+use Rattle.shm_graph.proofs.{Spots.Spotting.same_spot_is, States.Holders.Holds, Runs.Lists.at1_here}
 use Rattle.shm_graph.proofs.Memos.Frames.{at1_all}
 use Rattle.shm_laws.proofs.Lanes.{lane_up, lane_same, other_lane, this_lane, no_self, lane_clients, lane_to}
 use Rattle.shm_laws.proofs.LiveExchange.{Changes, exchanged_kept, moved, unmoved}
@@ -35,7 +26,6 @@ use Rattle.shm_laws.proofs.Headers.{dying_raised, lives, refs_stay, graph_stays}
 use Rattle.shm_laws.proofs.Slots.{slot_not_spare, slot_names, slot_committed}
 use Rattle.shm_laws.proofs.References.{one_name, differs, live_some, named_count, slot_no_root, part_other, values_kept, made_kept, made_own}
 use Rattle.shm_laws.specs.HeaderExchanges.{UpNeeds, up_view, unsent_after}
-use Rattle.shm_graph.specs.MemoAfterStore.{not_block}
 
 module _ (g : Geometry) (w : Spot → ℕ) (v : View) (c b e to : ℕ) (p : Spot) (part : Part) (h : HeldAt g w v) (a : UpNeeds g w v c b e to p part) where
   new_live : (header_of to).live ≡ true

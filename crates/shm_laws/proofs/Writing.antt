@@ -5,20 +5,15 @@ use Rattle.std.proofs.lemmas.Bool.{false_from_ne_true, cond-true}
 use Rattle.shm_words.specs.declared.geometry.Geometry.{Geometry}
 use Rattle.shm_graph.specs.declared.spot.Spot.{Spot}
 use Rattle.shm_graph.specs.declared.spot.Spot.TheVariants.{Spare, Status, Redo, RedoMore, Hold, Latch, Home, Era, Root, Tail, QueueHead, Slot, Segment, Page, Unused, Head, Tag, Body}
-use Rattle.shm_graph.specs.declared.memo.First.{First}
-use Rattle.shm_graph.specs.declared.memo.First.TheVariants.{Begun, Committed, Written}
-use Rattle.shm_graph.specs.declared.memo.ChangeStage.TheVariants.{Raising, Lowering}
-use Rattle.shm_graph.specs.declared.memo.Op.{Op}
+use Rattle.shm_graph.specs.declared.memo.First.{First, TheVariants.{Begun, Committed, Written}}
+use Rattle.shm_graph.specs.declared.memo.{ChangeStage.TheVariants.{Raising, Lowering}, Op.Op}
 use Rattle.shm_graph.specs.declared.memo.Op.TheVariants.{Nothing, Alloc, Up, Down, Change}
-use Rattle.shm_graph.specs.Spots.{same_spot, upd, IsAt}
-use Rattle.shm_graph.specs.References.{Words, words_of}
+use Rattle.shm_graph.specs.{Spots.{same_spot, upd, IsAt}, References.{Words, words_of}}
 use Rattle.shm_graph.specs.Ops.{On, word_at, cover, cover_of, covered, target, slot_of, up_slot, held_over_of, on_of, is_op}
 use Rattle.shm_graph.specs.Views.{View, at1, targets, held_overs, ons}
 use Rattle.shm_graph.specs.Held.{HeldAt, OpTie, OwnSound, TailSound, Allowed, room_of}
-use Rattle.shm_graph.proofs.Spots.Spotting.{same_spot_is, same_spot_self}
-use Rattle.shm_graph.proofs.States.Holders.{Holds, one_holder}
-use Rattle.shm_graph.proofs.Memos.Frames.{at1_all}
-use Rattle.shm_graph.proofs.States.Counting.{covered_alone, op_at}
+use Rattle.shm_graph.proofs.{Spots.Spotting.{same_spot_is, same_spot_self}, States.Holders.{Holds, one_holder}}
+use Rattle.shm_graph.proofs.{States.Counting.{covered_alone, op_at}, Memos.Frames.at1_all}
 use Rattle.shm_laws.proofs.Slots.{slot_alone}
 use Rattle.shm_laws.specs.Slotting.{Writes, WritesFrom}
 

@@ -1,25 +1,17 @@
 -- the kinds of step that exchange a header: what each needs, and what it makes of the memos
 use Rattle.std.specs.Prelude.{◌≡◌, ◌≢◌, ℕ, ◌+◌, ◌^◌, ◌<◌, ◌≤◌, Bool, true, false, ◌&&◌, ◌==◌, if◌then◌else◌, List, [], ◌∷◌, ◌++◌, Some, None}
 use Rattle.std.specs.List.{All, Contains, filter}
-use Rattle.shm_words.specs.declared.header.Header.{Header}
-use Rattle.shm_words.specs.Headers.{header_of}
-use Rattle.shm_words.specs.declared.geometry.Geometry.{Geometry}
+use Rattle.shm_words.specs.{declared.{header.Header.Header, geometry.Geometry.Geometry}, Headers.header_of}
+use Rattle.shm_words.specs.{Classes.class_for, Tags.{tag_refs, tag_plain, tag_author, tag_link, tag_limit}}
 use Rattle.shm_graph.specs.declared.spot.Spot.{Spot}
 use Rattle.shm_graph.specs.declared.spot.Spot.TheVariants.{Home, Era, Root, Tail, QueueHead, Slot, Head, Tag, Body}
 use Rattle.shm_graph.specs.declared.memo.First.TheVariants.{Begun, Committed}
 use Rattle.shm_graph.specs.declared.memo.Op.TheVariants.{Alloc, Up, Down, Change}
 use Rattle.shm_graph.specs.declared.memo.ChangeStage.TheVariants.{Raising, Lowering}
-use Rattle.shm_graph.specs.declared.memo.Second.TheVariants.{Open, Closed}
-use Rattle.shm_graph.specs.declared.memo.Stored.{Stored}
-use Rattle.shm_graph.specs.declared.memo.Look.{Look}
-use Rattle.shm_graph.specs.declared.memo.Making.{Making}
-use Rattle.shm_words.specs.Classes.{class_for}
-use Rattle.shm_words.specs.Tags.{tag_refs, tag_plain, tag_author, tag_link, tag_limit}
-use Rattle.shm_graph.specs.Spots.{upd}
-use Rattle.shm_graph.specs.MemoAfterStore.{other_than, not_block}
+use Rattle.shm_graph.specs.declared.memo.{Second.TheVariants.{Open, Closed}, Stored.Stored, Look.Look, Making.Making}
+use Rattle.shm_graph.specs.{declared.table.Part.Part, Spots.upd, MemoAfterStore.{other_than, not_block}}
 use Rattle.shm_graph.specs.Views.{View, targets, at1}
 use Rattle.shm_graph.specs.Held.{KnownAt, ValueAt, PartTie, is_loose, is_slot, reach_of, named_by, SlotOf, LooksSound}
-use Rattle.shm_graph.specs.declared.table.Part.{Part}
 use Rattle.shm_graph.specs.Tables.{contents_of, HasShape}
 use Rattle.shm_graph.specs.declared.memo.Status.TheVariants as status
 

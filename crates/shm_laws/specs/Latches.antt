@@ -1,17 +1,9 @@
 -- the kinds of step of latches, and the load of a reference word under a latch: what each needs, and what it makes of the memos
-use Rattle.std.specs.Prelude.{◌≡◌, ◌≢◌, ℕ, ◌+◌, ◌<◌, List, [], ◌∷◌, ◌++◌, Some, None}
-use Rattle.std.specs.List.{All}
-use Rattle.shm_words.specs.declared.geometry.Geometry.{Geometry}
-use Rattle.shm_graph.specs.declared.spot.Spot.{Spot}
-use Rattle.shm_graph.specs.declared.spot.Spot.TheVariants.{Hold, Latch, Tail, QueueHead, Slot, Page, Tag, Body}
-use Rattle.shm_graph.specs.declared.memo.Op.TheVariants.{Nothing}
-use Rattle.shm_graph.specs.declared.memo.Stored.{Stored}
-use Rattle.shm_words.specs.Tags.{tag_refs, tag_author}
-use Rattle.shm_graph.specs.Spots.{IsAt}
-use Rattle.shm_graph.specs.Reach.{learnt}
-use Rattle.shm_graph.specs.Views.{View, own_word, targets, at1}
-use Rattle.shm_graph.specs.Held.{KnownAt, ValueAt, reach_of}
-use Rattle.shm_graph.specs.Tables.{contents_of}
+use Rattle.std.specs.{Prelude.{◌≡◌, ◌≢◌, ℕ, ◌+◌, ◌<◌, List, [], ◌∷◌, ◌++◌, Some, None}, List.All}
+use Rattle.shm_words.specs.{declared.geometry.Geometry.Geometry, Tags.{tag_refs, tag_author}}
+use Rattle.shm_graph.specs.declared.spot.Spot.{Spot, TheVariants.{Hold, Latch, Tail, QueueHead, Slot, Page, Tag, Body}}
+use Rattle.shm_graph.specs.{declared.memo.{Op.TheVariants.Nothing, Stored.Stored}, Spots.IsAt, Reach.learnt}
+use Rattle.shm_graph.specs.{Views.{View, own_word, targets, at1}, Held.{KnownAt, ValueAt, reach_of}, Tables.contents_of}
 use Rattle.shm_graph.specs.declared.memo.Status.TheVariants as status
 
 -- ---- the latch is taken, and given back

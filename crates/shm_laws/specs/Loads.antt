@@ -1,9 +1,7 @@
 -- loads that only read what grows: what they make of the memos
 use Rattle.std.specs.Prelude.{◌≡◌, ◌≢◌, ℕ, ◌+◌, ◌^◌, ◌<◌, ◌≤◌, ◌&&◌, ◌==◌, if◌then◌else◌, ◌∷◌, ◌++◌, Option}
-use Rattle.shm_graph.specs.declared.spot.Spot.TheVariants.{Era}
-use Rattle.shm_graph.specs.declared.memo.Test.{Test}
-use Rattle.shm_graph.specs.declared.memo.Fact.TheVariants.{Header as HeaderRead, Counter}
-use Rattle.shm_graph.specs.Views.{View, at1}
+use Rattle.shm_graph.specs.declared.{spot.Spot.TheVariants.Era, memo.Test.Test}
+use Rattle.shm_graph.specs.{declared.memo.Fact.TheVariants.{Header as HeaderRead, Counter}, Views.{View, at1}}
 
 -- ---- loads that only read what grows: a header, and a row of another identity
 

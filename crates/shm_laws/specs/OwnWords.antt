@@ -1,19 +1,14 @@
 -- the kinds of step that store own words: the words of the redo record, a row, the own era, a tail, a head and the hold word: what each needs, and what it makes of the memos
 use Rattle.std.specs.Prelude.{◌≡◌, ◌≢◌, ℕ, ◌+◌, ◌^◌, ◌<◌, ◌≤◌, true, ◌&&◌, ◌==◌, if◌then◌else◌, [], ◌∷◌, ◌++◌, None}
 use Rattle.std.specs.List.{Contains}
-use Rattle.shm_words.specs.Headers.{header_of}
-use Rattle.shm_words.specs.declared.geometry.Geometry.{Geometry}
+use Rattle.shm_words.specs.{Headers.header_of, declared.geometry.Geometry.Geometry}
 use Rattle.shm_graph.specs.declared.spot.Spot.{Spot}
 use Rattle.shm_graph.specs.declared.spot.Spot.TheVariants.{Redo, RedoMore, Hold, Era, Tail, QueueHead, Page, Head, Tag}
-use Rattle.shm_graph.specs.declared.memo.First.TheVariants.{Written}
-use Rattle.shm_graph.specs.declared.memo.Op.{Op}
+use Rattle.shm_graph.specs.declared.memo.{First.TheVariants.Written, Op.Op}
 use Rattle.shm_graph.specs.declared.memo.Op.TheVariants.{Nothing, Alloc, Up, Down, Change}
 use Rattle.shm_graph.specs.declared.memo.ChangeStage.TheVariants.{Raising, Lowering}
-use Rattle.shm_graph.specs.declared.memo.Second.TheVariants.{Open, Closed}
-use Rattle.shm_graph.specs.declared.memo.Fact.TheVariants.{Header as HeaderRead}
-use Rattle.shm_graph.specs.Spots.{IsAt}
-use Rattle.shm_graph.specs.References.{words_of}
-use Rattle.shm_graph.specs.Ops.{cover_of, on_of, held_over_of, slot_of, is_op, Quiet}
+use Rattle.shm_graph.specs.declared.memo.{Second.TheVariants.{Open, Closed}, Fact.TheVariants.Header as HeaderRead}
+use Rattle.shm_graph.specs.{Spots.IsAt, References.words_of, Ops.{cover_of, on_of, held_over_of, slot_of, is_op, Quiet}}
 use Rattle.shm_graph.specs.Views.{View, targets, at1}
 use Rattle.shm_graph.specs.Held.{Allowed, OpTie, RedoTie, IsSecond, room_of, reach_of, SlotOf}
 use Rattle.shm_graph.specs.declared.memo.Status.TheVariants as status

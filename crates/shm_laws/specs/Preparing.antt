@@ -1,18 +1,9 @@
 -- stores of words that nothing counts: of a free block that is prepared, and of the link of a dying block
-use Rattle.std.specs.Prelude.{◌≡◌, ◌≢◌, ℕ, ◌+◌, ◌^◌, ◌<◌, Option, Some, None, List, [], ◌∷◌}
-use Rattle.std.specs.List.{Contains, filter}
-use Rattle.shm_words.specs.declared.geometry.Geometry.{Geometry}
-use Rattle.shm_graph.specs.declared.spot.Spot.{Spot}
-use Rattle.shm_graph.specs.declared.spot.Spot.TheVariants.{Segment, Page, Head, Tag, Body}
-use Rattle.shm_graph.specs.declared.memo.Stored.{Stored}
-use Rattle.shm_graph.specs.declared.memo.Making.{Making}
-use Rattle.shm_graph.specs.Spots.{IsAt, class_at, segment_of}
-use Rattle.shm_graph.specs.Blocks.{IsBlock}
-use Rattle.shm_graph.specs.Views.{View, at1}
-use Rattle.shm_graph.specs.Reach.{learnt}
-use Rattle.shm_graph.specs.declared.memo.Op.TheVariants.{Nothing}
-use Rattle.shm_words.specs.Tags.{tag_refs, tag_limit, tag_shape}
-use Rattle.shm_graph.specs.MemoAfterStore.{not_block, not_of}
+use Rattle.std.specs.{Prelude.{◌≡◌, ◌≢◌, ℕ, ◌+◌, ◌^◌, ◌<◌, Option, Some, None, List, [], ◌∷◌}, List.{Contains, filter}}
+use Rattle.shm_words.specs.{declared.geometry.Geometry.Geometry, Tags.{tag_refs, tag_limit, tag_shape}}
+use Rattle.shm_graph.specs.declared.{spot.Spot.{Spot, TheVariants.{Segment, Page, Head, Tag, Body}}, memo.Stored.Stored}
+use Rattle.shm_graph.specs.{declared.memo.{Making.Making, Op.TheVariants.Nothing}, Spots.{IsAt, class_at, segment_of}}
+use Rattle.shm_graph.specs.{Blocks.IsBlock, Views.{View, at1}, Reach.learnt, MemoAfterStore.{not_block, not_of}}
 use Rattle.shm_graph.specs.declared.memo.Status.TheVariants as status
 
 -- ---- the store of a word of a free block

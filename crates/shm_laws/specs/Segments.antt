@@ -1,14 +1,9 @@
 -- the kinds of step of a segment's word and of a page's class: what each needs, and what it makes of the memos
 use Rattle.std.specs.Prelude.{◌≡◌, ◌≢◌, ℕ, ◌+◌, ◌^◌, ◌<◌, ◌≤◌, ◌&&◌, ◌==◌, if◌then◌else◌, ◌∷◌, ◌++◌, None}
 use Rattle.std.specs.List.{Contains, filter}
-use Rattle.shm_words.specs.declared.geometry.Geometry.{Geometry}
-use Rattle.shm_graph.specs.declared.spot.Spot.{Spot}
-use Rattle.shm_graph.specs.declared.spot.Spot.TheVariants.{Page, Segment}
-use Rattle.shm_graph.specs.declared.memo.Fact.TheVariants.{Class}
-use Rattle.shm_words.specs.Classes.{IsClass}
-use Rattle.shm_graph.specs.Spots.{IsAt}
-use Rattle.shm_graph.specs.MemoAfterStore.{other_than, not_segment, outside_of}
-use Rattle.shm_graph.specs.Views.{View, at1}
+use Rattle.shm_words.specs.{declared.geometry.Geometry.Geometry, Classes.IsClass}
+use Rattle.shm_graph.specs.declared.{spot.Spot.{Spot, TheVariants.{Page, Segment}}, memo.Fact.TheVariants.Class}
+use Rattle.shm_graph.specs.{Spots.IsAt, MemoAfterStore.{other_than, not_segment, outside_of}, Views.{View, at1}}
 use Rattle.shm_graph.specs.declared.memo.Status.TheVariants as status
 
 -- ---- the exchange by which a segment that nobody owns becomes the identity's

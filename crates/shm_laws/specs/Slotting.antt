@@ -1,17 +1,11 @@
 -- the store of a committed op into its slot, at each kind of slot: what it needs, and what it makes of the memos
 use Rattle.std.specs.Prelude.{◌≡◌, ◌≢◌, ℕ, ◌^◌, ◌<◌, ◌∷◌, None, ◌+◌, ◌≤◌, ◌&&◌, ◌==◌, if◌then◌else◌, ◌++◌}
-use Rattle.shm_graph.specs.declared.spot.Spot.{Spot}
-use Rattle.shm_graph.specs.declared.spot.Spot.TheVariants.{Home, Slot, Root, Body}
-use Rattle.shm_graph.specs.declared.memo.Op.{Op}
-use Rattle.shm_words.specs.declared.geometry.Geometry.{Geometry}
-use Rattle.shm_graph.specs.Ops.{slot_of}
-use Rattle.shm_graph.specs.Views.{View, at1}
-use Rattle.shm_graph.specs.declared.memo.First.{First}
+use Rattle.shm_graph.specs.declared.{spot.Spot.{Spot, TheVariants.{Home, Slot, Root, Body}}, memo.Op.Op}
+use Rattle.shm_graph.specs.declared.memo.{Op.TheVariants.{Alloc, Up, Down, Change}, First.First}
 use Rattle.shm_graph.specs.declared.memo.First.TheVariants.{Begun, Committed, Written}
-use Rattle.shm_graph.specs.declared.memo.Op.TheVariants.{Alloc, Up, Down, Change}
-use Rattle.shm_graph.specs.declared.memo.ChangeStage.TheVariants.{Raising}
-use Rattle.shm_graph.specs.Reach.{learnt}
+use Rattle.shm_graph.specs.{declared.memo.ChangeStage.TheVariants.Raising, Ops.slot_of, Views.{View, at1}, Reach.learnt}
 use Rattle.shm_graph.specs.declared.memo.Status.TheVariants as status
+use Rattle.shm_words.specs.declared.geometry.Geometry.{Geometry}
 
 -- ---- the store of a committed op into its slot, a reference word of a block
 

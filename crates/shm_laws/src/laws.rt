@@ -1,21 +1,14 @@
 //! The laws of the kinds of word step: under the kind's condition the invariant outlives the step.
 
 ghost use Rattle.std.specs.Prelude.{◌≡◌, ℕ, ◌+◌, ◌<◌, Option, Some, List};
-ghost use Rattle.shm_words.specs.declared.geometry.Geometry.{Geometry as AGeometry};
-ghost use Rattle.shm_words.specs.Headers.{header_of};
+ghost use Rattle.shm_words.specs.{declared.geometry.Geometry.Geometry as AGeometry, Headers.header_of};
 ghost use Rattle.shm_graph.specs.declared.spot.Spot.{Spot as ASpot};
 ghost use Rattle.shm_graph.specs.declared.spot.Spot.TheVariants.{Redo, RedoMore, Hold, Latch, Era, Root, Tail, QueueHead, Segment, Page, Head, Body, Home, Slot, Tag};
-ghost use Rattle.shm_graph.specs.declared.memo.Op.{Op as AnOp};
-ghost use Rattle.shm_graph.specs.declared.memo.Stored.{Stored as AStored};
-ghost use Rattle.shm_graph.specs.declared.memo.Look.{Look as ALook};
-ghost use Rattle.shm_graph.specs.declared.memo.Making.{Making as AMaking};
-ghost use Rattle.shm_graph.specs.declared.memo.Test.{Test as ATest};
-ghost use Rattle.shm_graph.specs.declared.table.Part.{Part as APart};
-ghost use Rattle.shm_graph.specs.Spots.{upd};
-ghost use Rattle.shm_graph.specs.Views.{View};
+ghost use Rattle.shm_graph.specs.declared.memo.{Op.Op as AnOp, Stored.Stored as AStored, Look.Look as ALook};
+ghost use Rattle.shm_graph.specs.declared.memo.{Making.Making as AMaking, Test.Test as ATest};
+ghost use Rattle.shm_graph.specs.{declared.table.Part.Part as APart, Spots.upd, Views.View};
 ghost use Rattle.shm_graph.specs.Events.{Nothing, Alloc, Up, Down, ChangeUp, ChangeDown, Free, graph_of, Happens};
-ghost use Rattle.shm_graph.specs.Held.{HeldAt};
-ghost use Rattle.shm_graph.specs.MemoAfterRead.{next_row};
+ghost use Rattle.shm_graph.specs.{Held.HeldAt, MemoAfterRead.next_row};
 ghost use Rattle.shm_laws.specs.OwnWords.{BeginNeeds, begin_view, MoreNeeds, more_view, RowNeeds, row_store_view, CloseNeeds, close_view, TailNeeds, tail_view, QueueHeadNeeds, head_view, HoldNeeds, hold_view};
 ghost use Rattle.shm_laws.specs.Segments.{ClassNeeds, class_view, ClaimNeeds, claim_view, SegmentBackNeeds, segment_back_view};
 ghost use Rattle.shm_laws.specs.Slotting.{RootNeeds, root_view, BodyNeeds, body_view, HomeNeeds, home_view, QueueNeeds, queue_view};

@@ -1,17 +1,11 @@
 -- the words of a pool of format 1 in format 2, where its format is known
 use Rattle.std.proofs.Common.{◌≡◌, ℕ, ◌+◌, ◌<◌, ◌≤◌, true, false, List, ap, ◌∙◌, arith}
-use Rattle.shm_words.specs.declared.geometry.Geometry.{Geometry}
-use Rattle.shm_words.specs.Layout.{GeometryFits, total_of}
-use Rattle.shm_graph.specs.declared.spot.Spot.TheVariants.{Head}
-use Rattle.shm_graph.specs.declared.table.Entry.{Entry}
-use Rattle.shm_graph.specs.Spots.{spot_at, classes_in, see}
-use Rattle.shm_graph.specs.Blocks.{classes, headers, IsLive}
-use Rattle.shm_graph.specs.References.{references, references_in_all, live_count}
-use Rattle.shm_graph.specs.Clean.{IsClean}
-use Rattle.shm_graph.specs.Tables.{IsTable}
+use Rattle.shm_words.specs.{declared.geometry.Geometry.Geometry, Layout.{GeometryFits, total_of}}
+use Rattle.shm_graph.specs.{declared.{spot.Spot.TheVariants.Head, table.Entry.Entry}, Spots.{spot_at, classes_in, see}}
+use Rattle.shm_graph.specs.{Blocks.{classes, headers, IsLive}, References.{references, references_in_all, live_count}}
+use Rattle.shm_graph.specs.{Clean.IsClean, Tables.IsTable}
 use Rattle.shm_graph.proofs.States.Reading.{live_below}
-use Rattle.shm_audit.specs.Verdicts.{clean_verdict, found_at}
-use Rattle.shm_audit.specs.declared.verdict.Verdict.TheVariants.{Clean}
+use Rattle.shm_audit.specs.{Verdicts.{clean_verdict, found_at}, declared.verdict.Verdict.TheVariants.Clean}
 use Rattle.shm_migrate.specs.Widened.{wide_of, moved, moved_table, widened_at, widened_word, widened}
 use Rattle.shm_migrate.proofs.Places.{narrow, front, of_format}
 use Rattle.shm_migrate.proofs.Widening as widening

@@ -1,27 +1,20 @@
 -- a clean pool of format 1 is clean in format 2, with as many live blocks and references
 use Rattle.std.proofs.Common.{◌≡◌, ◌≢◌, ℕ, zero, suc, ◌+◌, ◌-◌, ◌<◌, ◌≤◌, true, false, eqb, cond, List, refl, sym, ap, subst, ◌∙◌, arith, inl, inr, ◌⊎◌}
-use Rattle.std.proofs.lemmas.Bool.{cases_lt, cases_eq, lt-ltb, ne_eqb}
-use Rattle.std.proofs.lemmas.Bool.Decides.{nat_tests}
+use Rattle.std.proofs.lemmas.Bool.{cases_lt, cases_eq, lt-ltb, ne_eqb, Decides.nat_tests}
+use Rattle.shm_words.specs.{Layout.{GeometryFits, total_of, bodies}, Headers.header_of, Tags.tag_of}
 use Rattle.shm_words.specs.declared.place.Place.TheVariants as place
-use Rattle.shm_words.specs.Layout.{GeometryFits, total_of, bodies}
-use Rattle.shm_words.specs.Headers.{header_of}
-use Rattle.shm_words.specs.Tags.{tag_of}
 use Rattle.shm_words.proofs.Words.{live_not_zero, header_of_zero, tag_of-word}
-use Rattle.shm_graph.specs.declared.spot.Spot.{Spot}
-use Rattle.shm_graph.specs.declared.spot.Spot.TheVariants.{Spare, Status, Redo, RedoMore, Page, Head, Tag}
+use Rattle.shm_graph.specs.declared.spot.Spot.{Spot, TheVariants.{Spare, Status, Redo, RedoMore, Page, Head, Tag}}
 use Rattle.shm_graph.specs.Spots.{spot_at, spot_address, classes_in, class_at, see}
 use Rattle.shm_graph.specs.Blocks.{classes, headers, IsBlock, IsLive}
 use Rattle.shm_graph.specs.References.{sum_below, one_if, references, references_to, references_in_all, live_count}
 use Rattle.shm_graph.specs.Clean.{IsClean, TagSuits}
-use Rattle.shm_graph.proofs.Spots.Sums.{sum_none}
-use Rattle.shm_graph.proofs.Spots.Spotting.{block_within, tag_spot}
-use Rattle.shm_graph.proofs.Spots.SpotPlaces.{status_at}
-use Rattle.shm_graph.proofs.Spots.Seeing.{see_there, classes-see}
-use Rattle.shm_graph.proofs.States.Reading.{live_block, live_class}
+use Rattle.shm_graph.proofs.Spots.{Sums.sum_none, Spotting.{block_within, tag_spot}, SpotPlaces.status_at}
+use Rattle.shm_graph.proofs.{Spots.Seeing.{see_there, classes-see}, States.Reading.{live_block, live_class}}
 use Rattle.shm_migrate.specs.Widened.{moved, widened}
 use Rattle.shm_migrate.proofs.Places.{narrow, wide, front, is_front, front_spot, front_spot_narrow, total_further}
-use Rattle.shm_migrate.proofs.Widening as widening
 use Rattle.shm_migrate.proofs.Widening.{wide_fits}
+use Rattle.shm_migrate.proofs.Widening as widening
 
 -- ---- sums of which the first terms are 0, and the others stand further on
 

@@ -1,22 +1,15 @@
 -- an image that is migrated, and the image that it becomes
 use Rattle.std.proofs.Common.{◌≡◌, ℕ, ◌^◌, ◌<◌, false, List, length, get_or, sym, ap, subst, ◌∙◌}
-use Rattle.std.specs.Prelude.{Option, Some, None}
-use Rattle.std.specs.Option.{option_or}
-use Rattle.shm_words.specs.declared.geometry.Geometry.{Geometry}
-use Rattle.shm_words.specs.Layout.{GeometryFits, total_of}
-use Rattle.shm_graph.specs.Spots.{see}
-use Rattle.shm_graph.specs.Clean.{IsClean}
-use Rattle.shm_audit.specs.declared.fault.ImageFault.{ImageFault}
-use Rattle.shm_audit.specs.Images.{image_of, geometry_in, words_in}
+use Rattle.std.specs.{Prelude.{Option, Some, None}, Option.option_or}
+use Rattle.shm_words.specs.{declared.geometry.Geometry.Geometry, Layout.{GeometryFits, total_of}}
+use Rattle.shm_graph.specs.{Spots.see, Clean.IsClean}
+use Rattle.shm_audit.specs.{declared.fault.ImageFault.ImageFault, Images.{image_of, geometry_in, words_in}}
 use Rattle.shm_audit.specs.Faults.{frame_fault_of, image_fault_of, words_fault_of}
 use Rattle.shm_audit.specs.Verdicts.{verdict_of, IsCleanVerdict}
-use Rattle.shm_audit.proofs.Cleaning.{clean_is_told, fault_free_clean}
-use Rattle.shm_audit.proofs.CleanImages.{image_faultless, image_verdict}
-use Rattle.shm_migrate.specs.Widened.{wide_of, widened}
-use Rattle.shm_migrate.specs.Migrations.{verdict_in}
-use Rattle.shm_migrate.proofs.Places.{of_format}
+use Rattle.shm_audit.proofs.{Cleaning.{clean_is_told, fault_free_clean}, CleanImages.{image_faultless, image_verdict}}
+use Rattle.shm_migrate.specs.{Widened.{wide_of, widened}, Migrations.verdict_in}
+use Rattle.shm_migrate.proofs.{Places.of_format, Formats.{clean_kept, verdict_kept}}
 use Rattle.shm_migrate.proofs.Widening as widening
-use Rattle.shm_migrate.proofs.Formats.{clean_kept, verdict_kept}
 
 no_second : (x y : Option ImageFault) → option_or x y ≡ None → y ≡ None
 no_second None y e = e

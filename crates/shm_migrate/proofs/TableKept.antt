@@ -1,23 +1,15 @@
 -- the table of a clean pool of format 1 in format 2: the same keys and numbers
 use Rattle.std.proofs.Common.{◌≡◌, ◌≢◌, ℕ, ◌+◌, ◌<◌, ◌≤◌, true, false, ltb, List, [], ◌∷◌, map, refl, sym, ap, subst, ◌∙◌, arith, inl, inr}
-use Rattle.std.specs.Prelude.{nat_eq}
-use Rattle.std.specs.List.{IsDistinct}
 use Rattle.std.proofs.lemmas.Bool.{cases_eq, cond-true, cond-false, lt-ltb, le-ltb}
+use Rattle.std.specs.{Prelude.nat_eq, List.IsDistinct}
+use Rattle.shm_words.specs.{Layout.GeometryFits, Tags.{tag_word, tag_refs, tag_plain, tag_author}}
 use Rattle.shm_words.specs.declared.place.Place.TheVariants as place
-use Rattle.shm_words.specs.Layout.{GeometryFits}
-use Rattle.shm_words.specs.Tags.{tag_word, tag_refs, tag_plain, tag_author}
 use Rattle.shm_words.proofs.Words.{tag_fields, tag_refs-word, tag_plain-word, tag_author-word}
-use Rattle.shm_graph.specs.declared.spot.Spot.{Spot}
-use Rattle.shm_graph.specs.declared.spot.Spot.TheVariants.{Home, Tag, Body}
-use Rattle.shm_graph.specs.declared.table.Entry.{Entry}
-use Rattle.shm_graph.specs.Spots.{spot_at, spot_address, classes_in, see}
-use Rattle.shm_graph.specs.Blocks.{headers, IsLive}
-use Rattle.shm_graph.specs.References.{references}
-use Rattle.shm_graph.specs.Clean.{IsClean}
+use Rattle.shm_graph.specs.declared.{spot.Spot.{Spot, TheVariants.{Home, Tag, Body}}, table.Entry.Entry}
+use Rattle.shm_graph.specs.{Spots.{spot_at, spot_address, classes_in, see}, Blocks.{headers, IsLive}}
+use Rattle.shm_graph.specs.{References.references, Clean.IsClean}
 use Rattle.shm_graph.specs.Tables.{Contents, contents_of, HasShape, IsEntry, IsChain, IsPartition, IsTable}
-use Rattle.shm_graph.proofs.Spots.Spotting.{tag_spot, body_spot}
-use Rattle.shm_graph.proofs.Spots.SpotPlaces.{home_at}
-use Rattle.shm_graph.proofs.Spots.Seeing.{see_there}
+use Rattle.shm_graph.proofs.Spots.{Spotting.{tag_spot, body_spot}, SpotPlaces.home_at, Seeing.see_there}
 use Rattle.shm_graph.proofs.States.Reading.{live_block, live_class, live_room}
 use Rattle.shm_migrate.specs.Widened.{moved, moved_entry, moved_table, widened, widened_body}
 use Rattle.shm_migrate.proofs.Places.{narrow, wide}

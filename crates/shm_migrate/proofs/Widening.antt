@@ -1,28 +1,20 @@
 -- the words of a pool of format 1 in format 2, spot by spot
 use Rattle.std.proofs.Common.{◌≡◌, ◌≢◌, ℕ, ◌+◌, ◌-◌, ◌^◌, ◌<◌, ◌≤◌, Bool, true, false, ltb, eqb, List, length, map, get_or, refl, sym, ap, ◌∙◌, arith, inl, inr}
-use Rattle.std.specs.Prelude.{Some, None}
-use Rattle.std.specs.List.{range_with_len}
 use Rattle.std.proofs.lemmas.Bool.{cases_Bool, cases_lt, cases_eq, cond-true, cond-false, lt-ltb, le-ltb, ne_eqb, true≢false}
-use Rattle.std.proofs.lemmas.List.{get_or_past}
-use Rattle.std.proofs.lemmas.List.FromFn.{get_or-map-range_with_len, length-map-range_with_len}
-use Rattle.shm_words.specs.declared.geometry.Geometry.{Geometry}
-use Rattle.shm_words.specs.declared.place.Place.{Place}
-use Rattle.shm_words.specs.declared.place.Place.TheVariants as place
-use Rattle.shm_words.specs.declared.tag.Tag.{Tag as ATag}
-use Rattle.shm_words.specs.Layout.{GeometryFits, address, is_in, place_at, more, more_of, total_of}
-use Rattle.shm_words.specs.Headers.{header_of}
+use Rattle.std.proofs.lemmas.List.{get_or_past, FromFn.{get_or-map-range_with_len, length-map-range_with_len}}
+use Rattle.std.specs.{Prelude.{Some, None}, List.range_with_len}
+use Rattle.shm_words.specs.declared.{geometry.Geometry.Geometry, place.Place.Place, tag.Tag.Tag as ATag}
+use Rattle.shm_words.specs.{Layout.{GeometryFits, address, is_in, place_at, more, more_of, total_of}, Headers.header_of}
 use Rattle.shm_words.specs.Tags.{tag_word, tag_refs, TagFits}
+use Rattle.shm_words.specs.declared.place.Place.TheVariants as place
 use Rattle.shm_words.proofs.Placing.{place-address, address-place, address_below}
 use Rattle.shm_words.proofs.Words.{tag_fields, tag_fits, tag_refs-word}
-use Rattle.shm_graph.specs.declared.spot.Spot.{Spot}
-use Rattle.shm_graph.specs.declared.spot.Spot.TheVariants.{Home, Root, Slot, Head, Tag, Body}
+use Rattle.shm_graph.specs.declared.spot.Spot.{Spot, TheVariants.{Home, Root, Slot, Head, Tag, Body}}
 use Rattle.shm_graph.specs.Spots.{spot_of, spot_at, spot_address, classes_in, see}
-use Rattle.shm_graph.specs.Blocks.{classes, headers, IsBlock, IsLive}
-use Rattle.shm_graph.specs.References.{references, words_of}
+use Rattle.shm_graph.specs.{Blocks.{classes, headers, IsBlock, IsLive}, References.{references, words_of}}
 use Rattle.shm_graph.specs.Clean.{IsClean}
 use Rattle.shm_graph.proofs.Spots.Spotting.{at_below, block_within, body_block, head_at, is_at_block, is_below}
-use Rattle.shm_graph.proofs.Spots.Seeing.{see_at, seen_is_at, see_page, classes-see}
-use Rattle.shm_graph.proofs.States.Reading.{live_block}
+use Rattle.shm_graph.proofs.{Spots.Seeing.{see_at, seen_is_at, see_page, classes-see}, States.Reading.live_block}
 use Rattle.shm_audit.proofs.Cleaning.{names_in}
 use Rattle.shm_migrate.specs.Widened.{wide_of, moved, live_tag, widened_tag, widened_body, widened_at, widened_word, widened}
 use Rattle.shm_migrate.proofs.Places.{narrow, wide, front, place_further, further, spot_further, is_front, front_spot, front_spot_narrow}

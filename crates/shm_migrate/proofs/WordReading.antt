@@ -1,22 +1,17 @@
 -- the words of an image of format 1, and what they become
 use Rattle.std.proofs.Common.{◌≡◌, ◌≢◌, ℕ, ◌+◌, ◌-◌, ◌*◌, ◌/◌, ◌%◌, ◌<◌, ◌≤◌, Bool, true, false, eqb, ltb, cond, List, get_or, IfSome, refl, sym, ap, ◌∙◌, arith, rules, inl, inr}
-use Rattle.std.specs.Prelude.{Option, Some, None}
 use Rattle.std.proofs.lemmas.Bool.{cases_Bool, cond-true, cond-false, lt-ltb, true≢false}
-use Rattle.shm_words.specs.declared.geometry.Geometry.{Geometry}
+use Rattle.std.specs.Prelude.{Option, Some, None}
+use Rattle.shm_words.specs.declared.{geometry.Geometry.Geometry, tag.Tag.Tag as ATag}
+use Rattle.shm_words.specs.{Layout.{address, place_at, redo_place, total_of}, Headers.header_of, Tags.{tag_of, TagFits}}
 use Rattle.shm_words.specs.declared.place.Place.TheVariants as place
-use Rattle.shm_words.specs.declared.tag.Tag.{Tag as ATag}
-use Rattle.shm_words.specs.Layout.{address, place_at, redo_place, total_of}
-use Rattle.shm_words.specs.Headers.{header_of}
-use Rattle.shm_words.specs.Tags.{tag_of, TagFits}
 use Rattle.shm_words.proofs.Words.{tag_fields, tag_fits}
 use Rattle.shm_graph.specs.declared.spot.Spot.{Spot}
 use Rattle.shm_graph.specs.declared.spot.Spot.TheVariants.{Spare, Redo, RedoMore, Home, Root, Slot, Unused, Tag, Body}
 use Rattle.shm_graph.specs.Spots.{spot_of, spot_at, classes_in, is_in_body, see}
-use Rattle.shm_graph.specs.Blocks.{classes, headers, IsBlock, IsLive}
-use Rattle.shm_graph.specs.References.{references, words_of}
+use Rattle.shm_graph.specs.{Blocks.{classes, headers, IsBlock, IsLive}, References.{references, words_of}}
 use Rattle.shm_graph.specs.Clean.{IsClean}
-use Rattle.shm_graph.proofs.Spots.Seeing.{see_at}
-use Rattle.shm_graph.proofs.Spots.WordsAt.{block_header, block_tag}
+use Rattle.shm_graph.proofs.Spots.{Seeing.see_at, WordsAt.{block_header, block_tag}}
 use Rattle.shm_migrate.specs.Widened.{wide_of, moved, live_tag, widened_at, widened_word}
 use Rattle.shm_migrate.proofs.Places.{status_place, redo_place_at}
 

@@ -1,28 +1,18 @@
 -- the words of a pool in format 2, written one behind the other
 use Rattle.std.proofs.Common.{◌≡◌, ◌≢◌, ℕ, ◌+◌, ◌-◌, ◌*◌, ◌/◌, ◌%◌, ◌^◌, ◌<◌, ◌≤◌, ◌++◌, ◌∷◌, false, List, [], get_or, map, sym, ap, subst, ◌∙◌, below_more, arith, rules, inl, inr, Result, Ok, Err}
-use Rattle.std.specs.Prelude.{OnOk}
-use Rattle.std.specs.List.{flat_map, range_with_len}
-use Rattle.std.specs.Int.{w64, to_le_bytes}
-use Rattle.std.proofs.lemmas.Bool.{cond-true, eq-eqb}
-use Rattle.std.proofs.lemmas.Bool.Decides.{nat_tests}
-use Rattle.std.proofs.lemmas.List.{flat_map_more}
+use Rattle.std.proofs.lemmas.{Bool.{cond-true, eq-eqb, Decides.nat_tests}, List.flat_map_more}
 use Rattle.std.proofs.lemmas.List.FromFn.{map-range_with_len_more}
-use Rattle.shm_words.specs.declared.geometry.Geometry.{Geometry}
-use Rattle.shm_words.specs.Layout.{GeometryFits, bodies, pages, total_of}
+use Rattle.std.specs.{Prelude.OnOk, List.{flat_map, range_with_len}, Int.{w64, to_le_bytes}}
+use Rattle.shm_words.specs.{declared.geometry.Geometry.Geometry, Layout.{GeometryFits, bodies, pages, total_of}}
 use Rattle.shm_words.specs.Classes.{IsClass}
-use Rattle.shm_graph.specs.declared.spot.Spot.{Spot}
-use Rattle.shm_graph.specs.declared.spot.Spot.TheVariants.{Unused, Head, Tag, Body}
-use Rattle.shm_graph.specs.Spots.{see, spot_at, class_at, classes_in}
-use Rattle.shm_graph.specs.Blocks.{IsBlock}
-use Rattle.shm_graph.specs.Clean.{IsClean}
+use Rattle.shm_graph.specs.declared.spot.Spot.{Spot, TheVariants.{Unused, Head, Tag, Body}}
+use Rattle.shm_graph.specs.{Spots.{see, spot_at, class_at, classes_in}, Blocks.IsBlock, Clean.IsClean}
 use Rattle.shm_graph.proofs.Spots.Spotting.{spot_in_bodies, block_within, tag_spot, body_spot}
-use Rattle.shm_graph.proofs.Spots.Seeing.{see_at, see_page}
-use Rattle.shm_graph.proofs.Spots.WordsAt.{block_header}
+use Rattle.shm_graph.proofs.Spots.{Seeing.{see_at, see_page}, WordsAt.block_header}
 use Rattle.shm_audit.proofs.Blocks.{block_end, class_of_page}
 use Rattle.shm_migrate.specs.Widened.{wide_of, live_tag, widened_tag, widened_body, widened_at, widened_word}
 use Rattle.shm_migrate.specs.Writing.{IsWritten, WritesOn}
-use Rattle.shm_migrate.proofs.Formats.{further_word}
-use Rattle.shm_migrate.proofs.Widening.{no_more}
+use Rattle.shm_migrate.proofs.{Formats.further_word, Widening.no_more}
 
 module _ (g : Geometry) (ws : List ℕ) where
   -- the next word

@@ -1,15 +1,10 @@
 -- which images are migrated, and what becomes of them
 use Rattle.std.specs.Prelude.{◌≡◌, ℕ, Bool, true, false, List, ◌++◌, codes, Option, Some, None}
 use Rattle.shm_graph.specs.Spots.{see}
-use Rattle.shm_audit.specs.declared.fault.ImageFault.{ImageFault}
-use Rattle.shm_audit.specs.declared.verdict.Verdict.{Verdict}
-use Rattle.shm_audit.specs.declared.verdict.Verdict.TheVariants.{Clean}
-use Rattle.shm_audit.specs.Images.{image_of, geometry_in, words_in}
-use Rattle.shm_audit.specs.Faults.{image_fault_of}
-use Rattle.shm_audit.specs.Verdicts.{verdict_of}
+use Rattle.shm_audit.specs.declared.{fault.ImageFault.ImageFault, verdict.Verdict.{Verdict, TheVariants.Clean}}
+use Rattle.shm_audit.specs.{Images.{image_of, geometry_in, words_in}, Faults.image_fault_of, Verdicts.verdict_of}
 use Rattle.shm_audit.specs.Texts.{line_end, fault_line, verdict_line}
-use Rattle.shm_migrate.specs.declared.stop.MigrateStop.{MigrateStop}
-use Rattle.shm_migrate.specs.declared.stop.MigrateStop.TheVariants.{Memory, Fault, Already, NotClean}
+use Rattle.shm_migrate.specs.declared.stop.MigrateStop.{MigrateStop, TheVariants.{Memory, Fault, Already, NotClean}}
 use Rattle.shm_migrate.specs.Widened.{wide_of, widened}
 
 -- the verdict on the sizes and words that are read in an image

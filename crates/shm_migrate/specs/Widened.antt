@@ -1,15 +1,11 @@
 -- the words that a pool of format 1 has in format 2
 use Rattle.std.specs.Prelude.{ℕ, ◌+◌, true, ◌==◌, nat_lt, if◌then◌else◌, List, map, Option, Some, None}
 use Rattle.std.specs.List.{range_with_len}
-use Rattle.shm_words.specs.declared.geometry.Geometry.{Geometry}
-use Rattle.shm_words.specs.declared.tag.Tag.{Tag as ATag}
-use Rattle.shm_words.specs.Layout.{address, place_at, total_of}
-use Rattle.shm_words.specs.Tags.{tag_of, tag_word}
+use Rattle.shm_words.specs.declared.{geometry.Geometry.Geometry, tag.Tag.Tag as ATag}
+use Rattle.shm_words.specs.{Layout.{address, place_at, total_of}, Tags.{tag_of, tag_word}}
 use Rattle.shm_graph.specs.declared.spot.Spot.{Spot}
 use Rattle.shm_graph.specs.declared.spot.Spot.TheVariants.{Status, Hold, Latch, Home, Era, Root, Tail, QueueHead, Slot, Segment, Page, Head, Tag, Body}
-use Rattle.shm_graph.specs.declared.table.Entry.{Entry}
-use Rattle.shm_graph.specs.Spots.{spot_of, see}
-use Rattle.shm_graph.specs.Blocks.{classes, headers}
+use Rattle.shm_graph.specs.{declared.table.Entry.Entry, Spots.{spot_of, see}, Blocks.{classes, headers}}
 
 -- the same sizes in format 2
 abbrev pub wide_of : Geometry → Geometry

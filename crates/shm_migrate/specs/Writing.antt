@@ -1,6 +1,5 @@
 -- the words of a pool in format 2 as they are written, one behind the other
-use Rattle.std.specs.Prelude.{◌≡◌, ℕ, ◌++◌, ◌^◌, ◌<◌, List, map}
-use Rattle.std.specs.List.{flat_map, range_with_len}
+use Rattle.std.specs.{Prelude.{◌≡◌, ℕ, ◌++◌, ◌^◌, ◌<◌, List, map}, List.{flat_map, range_with_len}}
 use Rattle.std.specs.Int.{w64, to_le_bytes}
 use Rattle.shm_words.specs.declared.geometry.Geometry.{Geometry}
 use Rattle.shm_graph.specs.Spots.{see}

@@ -2,14 +2,10 @@
 
 ghost use Rattle.std.specs.Prelude.{◌≡◌, ℕ, ◌+◌, ◌-◌, ◌*◌, ◌%◌, ◌^◌, ◌<◌, ◌≤◌, false, List, length, slice_index, IfOk, OnOk};
 ghost use Rattle.shm_words.specs.declared.geometry.Geometry.{Geometry as AGeometry};
-ghost use Rattle.shm_words.specs.Layout.{GeometryFits, bodies, total_of};
-ghost use Rattle.shm_words.specs.Classes.{IsClass};
-ghost use Rattle.shm_graph.specs.Spots.{see, class_at, classes_in};
-ghost use Rattle.shm_graph.specs.Blocks.{IsBlock};
-ghost use Rattle.shm_graph.specs.Clean.{IsClean};
+ghost use Rattle.shm_words.specs.{Layout.{GeometryFits, bodies, total_of}, Classes.IsClass};
+ghost use Rattle.shm_graph.specs.{Spots.{see, class_at, classes_in}, Blocks.IsBlock, Clean.IsClean};
 ghost use Rattle.shm_audit.specs.Images.{image_of, numbers};
-ghost use Rattle.shm_migrate.specs.Widened.{wide_of, widened_word, widened};
-ghost use Rattle.shm_migrate.specs.Writing.{WritesOn};
+ghost use Rattle.shm_migrate.specs.{Widened.{wide_of, widened_word, widened}, Writing.WritesOn};
 
 use crate::words::{live_tag, widened_body, widened_tag, widened_word};
 use shm_audit::{push_word, word};

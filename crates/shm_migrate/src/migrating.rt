@@ -1,16 +1,10 @@
 //! The migration of an image, and what it keeps.
 
 ghost use Rattle.std.specs.Prelude.{◌≡◌, ℕ, false, List, length, IfOk, IfErr, None};
-ghost use Rattle.shm_words.specs.declared.geometry.Geometry.{Geometry as AGeometry};
-ghost use Rattle.shm_words.specs.Layout.{GeometryFits};
-ghost use Rattle.shm_graph.specs.declared.spot.Spot.TheVariants.{Head};
-ghost use Rattle.shm_graph.specs.declared.table.Entry.{Entry};
-ghost use Rattle.shm_graph.specs.Spots.{see};
-ghost use Rattle.shm_graph.specs.Blocks.{headers, IsLive};
-ghost use Rattle.shm_graph.specs.Clean.{IsClean};
-ghost use Rattle.shm_graph.specs.Tables.{IsTable};
-ghost use Rattle.shm_audit.specs.Faults.{image_fault_of};
-ghost use Rattle.shm_audit.specs.Verdicts.{clean_verdict, found_at};
+ghost use Rattle.shm_words.specs.{declared.geometry.Geometry.Geometry as AGeometry, Layout.GeometryFits};
+ghost use Rattle.shm_graph.specs.{declared.{spot.Spot.TheVariants.Head, table.Entry.Entry}, Spots.see};
+ghost use Rattle.shm_graph.specs.{Blocks.{headers, IsLive}, Clean.IsClean, Tables.IsTable};
+ghost use Rattle.shm_audit.specs.{Faults.image_fault_of, Verdicts.{clean_verdict, found_at}};
 ghost use Rattle.shm_migrate.specs.Migrations.{StopsBy, migrated, refusal_of, verdict_in};
 ghost use Rattle.shm_migrate.specs.Widened.{moved, moved_table, wide_of, widened};
 

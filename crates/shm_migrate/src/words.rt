@@ -1,12 +1,9 @@
 //! The words of a clean pool of format 1 as they are in format 2.
 
 ghost use Rattle.std.specs.Prelude.{◌≡◌, ◌≢◌, ◌+◌, ◌<◌, false, IfSome};
-ghost use Rattle.shm_words.specs.Layout.{GeometryFits, bodies};
-ghost use Rattle.shm_words.specs.Tags.{TagFits};
-ghost use Rattle.shm_graph.specs.declared.spot.Spot.TheVariants.{Tag as TagSpot};
-ghost use Rattle.shm_graph.specs.Spots.{see, spot_at, classes_in};
-ghost use Rattle.shm_graph.specs.Blocks.{headers, IsBlock, IsLive};
-ghost use Rattle.shm_graph.specs.Clean.{IsClean};
+ghost use Rattle.shm_words.specs.{Layout.{GeometryFits, bodies}, Tags.TagFits};
+ghost use Rattle.shm_graph.specs.{declared.spot.Spot.TheVariants.Tag as TagSpot, Spots.{see, spot_at, classes_in}};
+ghost use Rattle.shm_graph.specs.{Blocks.{headers, IsBlock, IsLive}, Clean.IsClean};
 ghost use Rattle.shm_audit.specs.Images.{numbers};
 ghost use Rattle.shm_migrate.specs.Widened.{moved, live_tag, widened_tag, widened_body, widened_at, widened_word};
 

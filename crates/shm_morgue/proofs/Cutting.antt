@@ -1,8 +1,7 @@
 -- porters and medics are cut off the first pass, one after the other
 use Rattle.std.proofs.Common.{◌≡◌, ℕ, zero, suc, ◌+◌, ◌-◌, ◌<◌, ◌≤◌, List, [], ◌∷◌, ◌++◌, length, sym, ap, ◌∙◌, subst, arith, refl}
 use Rattle.crossbeam_queue.specs.Passes.{view}
-use Rattle.shm_morgue.specs.declared.rule.Hands.{Hands}
-use Rattle.shm_morgue.specs.Entries.{Puts, Takes, Which, first_medics, first_porters}
+use Rattle.shm_morgue.specs.{declared.rule.Hands.Hands, Entries.{Puts, Takes, Which, first_medics, first_porters}}
 use Rattle.shm_morgue.specs.Hands.{IsMedic, IsPorter, Place, blank_desks, blank_lists, desk, first_entries, first_list, hands}
 
 pub blank_cut : (i n : ℕ) → i < n → blank_desks i (n - i) ≡ desk i [] ∷ blank_desks (i + 1) (n - (i + 1))

@@ -1,21 +1,15 @@
 -- the queue is emptied by a pass that answers for all porters and medics: what is left stands behind the first list
 use Rattle.std.proofs.Common.{◌≡◌, ℕ, ◌+◌, ◌<◌, ◌≤◌, List, [], ◌∷◌, ◌++◌, length, sym, refl, ap, ◌∙◌, subst, append_assoc, append-nil, arith, length-append}
-use Rattle.std.specs.List.{All}
-use Rattle.std.specs.List.Sorted.{IsPermutation}
 use Rattle.std.proofs.lemmas.List.Elements.{All-nil, All-push, All-weaker}
 use Rattle.std.proofs.lemmas.List.Sorted.{IsPermutation-trans, IsPermutation-append_right, IsPermutation-append_comm, length_permutation}
+use Rattle.std.specs.List.{All, Sorted.IsPermutation}
 use Rattle.crossbeam_queue.specs.Fifo.{Held, Pops}
 use Rattle.shm_pool.specs.Tokens.{Its}
-use Rattle.shm_morgue.specs.declared.rule.Desk.{Desk}
-use Rattle.shm_morgue.specs.declared.rule.Hands.{Hands}
-use Rattle.shm_morgue.specs.declared.rule.Taken.{Taken}
-use Rattle.shm_morgue.specs.Closing.{IsEmptied}
-use Rattle.atomic_table.specs.Seated.{TableId}
-use Rattle.shm_morgue.specs.Entries.{IsInOrder, IsOf, Which}
-use Rattle.shm_morgue.specs.Hands.{hands, take_first}
+use Rattle.shm_morgue.specs.{declared.rule.{Desk.Desk, Hands.Hands, Taken.Taken}, Closing.IsEmptied}
+use Rattle.shm_morgue.specs.{Entries.{IsInOrder, IsOf, Which}, Hands.{hands, take_first}}
 use Rattle.shm_morgue.specs.Keeps.{Holds, Keeps, KnowsAll, TakesOne, on_desks, in_lists}
-use Rattle.shm_morgue.proofs.Moves.{takes_one}
-use Rattle.shm_morgue.proofs.Order.{Before, order_front, order_more}
+use Rattle.shm_morgue.proofs.{Moves.takes_one, Order.{Before, order_front, order_more}}
+use Rattle.atomic_table.specs.Seated.{TableId}
 
 -- what is left stands behind the first list
 abbrev pub behind : List Taken → List (List Taken) → List (List Taken)

@@ -1,16 +1,12 @@
 -- one pass takes in the passes of all medics and all porters
 use Rattle.std.proofs.Common.{◌≡◌, ℕ, List, [], ◌∷◌, ◌++◌, map, sym, refl, ap, ◌∙◌, subst, append_assoc, append-nil, length, arith}
-use Rattle.std.specs.List.{All, AllByRecursion}
-use Rattle.std.specs.List.Sorted.{IsPermutation}
 use Rattle.std.proofs.lemmas.List.Elements.{All-nil, All-cons, All-head, All-tail}
+use Rattle.std.specs.List.{All, AllByRecursion, Sorted.IsPermutation}
 use Rattle.crossbeam_queue.specs.Passes.{view}
-use Rattle.shm_morgue.specs.declared.rule.Desk.{Desk}
-use Rattle.shm_morgue.specs.declared.rule.Hands.{Hands}
-use Rattle.shm_morgue.specs.declared.rule.Taken.{Taken}
+use Rattle.shm_morgue.specs.declared.rule.{Desk.Desk, Hands.Hands, Taken.Taken}
 use Rattle.shm_morgue.specs.Closing.{IsEmptied, IsPlaceOf, desks_of, lists_of}
 use Rattle.shm_morgue.specs.Entries.{IsCarried, IsInOrder, Puts, Takes, Which, all_put, all_taken}
-use Rattle.shm_morgue.specs.Hands.{IsMedic, Place, desk, first_list, hands, takes_of}
-use Rattle.shm_morgue.specs.Keeps.{in_lists, on_desks}
+use Rattle.shm_morgue.specs.{Hands.{IsMedic, Place, desk, first_list, hands, takes_of}, Keeps.{in_lists, on_desks}}
 
 module _ {X : Type 0} (P : X → Type 0) where
   pub by_front : (xs : List X) (x : X) → AllByRecursion P (xs ++ x ∷ []) → AllByRecursion P xs

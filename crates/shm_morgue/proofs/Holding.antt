@@ -1,17 +1,13 @@
 -- puts and takes keep what desks, lists and the queue hold
 use Rattle.std.proofs.Common.{◌≡◌, ◌≢◌, ℕ, ◌+◌, ◌<◌, ◌≤◌, List, [], ◌∷◌, ◌++◌, length, sym, refl, ap, ◌∙◌, subst, append_assoc, append-nil, arith, length-append, eq-eqb, if◌then◌else◌}
-use Rattle.std.specs.List.{All, sum_by}
-use Rattle.std.specs.List.Sorted.{IsPermutation}
 use Rattle.std.proofs.lemmas.List.Elements.{All-nil, All-cons, All-head, All-tail, All-push, All-append, All-weaker}
 use Rattle.std.proofs.lemmas.List.Sums.{sum_by-cons}
 use Rattle.std.proofs.lemmas.List.Sorted.{IsPermutation-sym, IsPermutation-trans, IsPermutation-append_left, IsPermutation-append_right, IsPermutation-append_comm, All-permutation, sum_by-IsPermutation}
+use Rattle.std.specs.List.{All, sum_by, Sorted.IsPermutation}
 use Rattle.shm_pool.specs.Tokens.{Its}
-use Rattle.shm_morgue.specs.declared.rule.Desk.{Desk}
-use Rattle.shm_morgue.specs.declared.rule.Taken.{Taken}
-use Rattle.shm_morgue.specs.Entries.{client_of, IsBefore, IsInOrder, IsOf}
+use Rattle.shm_morgue.specs.{declared.rule.{Desk.Desk, Taken.Taken}, Entries.{client_of, IsBefore, IsInOrder, IsOf}}
 use Rattle.shm_morgue.specs.Keeps.{Holds, IsBelow, is_desk_of, on_desks, in_lists}
-use Rattle.shm_morgue.proofs.Alike.{Alike}
-use Rattle.shm_morgue.proofs.Order.{Before, order_push, order_without, order_before}
+use Rattle.shm_morgue.proofs.{Alike.Alike, Order.{Before, order_push, order_without, order_before}}
 
 abbrev pub entries_on : Desk → List Taken
 entries_on d = d.entries

@@ -1,27 +1,15 @@
 -- what a worker leaves of its identity
 use Rattle.std.proofs.Common.{◌≡◌, ℕ, true, List, [], ◌∷◌, ◌++◌, length, length-append, refl, sym, ap, ◌∙◌, subst, arith}
 use Rattle.std.specs.Prelude.{MatchOption, None, Option, Some}
-use Rattle.shm_graph.specs.declared.ask.Me.{Me}
-use Rattle.shm_graph.specs.declared.memo.Agent.{Agent}
-use Rattle.shm_graph.specs.declared.memo.Fate.TheVariants.{Acts, Ended}
-use Rattle.shm_graph.specs.declared.memo.Kind.TheVariants.{Recoverer}
-use Rattle.shm_graph.specs.declared.run.Account.{Account}
-use Rattle.shm_graph.specs.declared.run.Start.{Start}
+use Rattle.shm_graph.specs.declared.{ask.Me.Me, memo.{Agent.Agent, Fate.TheVariants.{Acts, Ended}}}
+use Rattle.shm_graph.specs.declared.{memo.Kind.TheVariants.Recoverer, run.{Account.Account, Start.Start}}
 use Rattle.shm_agents.specs.Agents.{Playing, Stage, Stands, is_client}
-use Rattle.shm_agents.specs.Agents.Stage.{Fresh, Plays, Parted, Fallen, Mending, Mended}
-use Rattle.shm_agents.specs.Turns.{script_in}
-use Rattle.shm_pool.specs.Posts.{IsPosted}
-use Rattle.shm_pool.specs.Tokens.{Its, Token}
-use Rattle.shm_script.specs.Logged.{Logged}
-use Rattle.shm_script.specs.Values.{Scripted, Traced}
-use Rattle.shm_team.specs.declared.left.Left.{Left}
-use Rattle.shm_team.specs.Dones.{IsDoneBy, IsFinished}
-use Rattle.shm_team.specs.Working.{AreAtWork}
+use Rattle.shm_agents.specs.{Agents.Stage.{Fresh, Plays, Parted, Fallen, Mending, Mended}, Turns.script_in}
+use Rattle.shm_pool.specs.{Posts.IsPosted, Tokens.{Its, Token}}
+use Rattle.shm_script.specs.{Logged.Logged, Values.{Scripted, Traced}}
+use Rattle.shm_team.specs.{declared.left.Left.Left, Dones.{IsDoneBy, IsFinished}, Working.AreAtWork}
 use Rattle.shm_replay.proofs.Starting.{script_client}
-use Rattle.shm_morgue.specs.declared.rule.Taken.{Taken}
-use Rattle.shm_morgue.specs.Crew.{WasLeft}
-use Rattle.shm_morgue.specs.Dead.{AreDead, IsRescue}
-use Rattle.shm_morgue.specs.Entries.{entry}
+use Rattle.shm_morgue.specs.{declared.rule.Taken.Taken, Crew.WasLeft, Dead.{AreDead, IsRescue}, Entries.entry}
 use Rattle.shm_morgue.proofs.Parting.{client_is}
 
 module _ (t : Traced) (p : Its) (c : ℕ) (s : Scripted) (l : Logged) (is : script_in t.scripts c ≡ Some s) where

@@ -1,40 +1,23 @@
 -- a recovery of a dead agent's identity, word step by word step
 use Rattle.std.proofs.Common.{◌≡◌, ℕ, ◌+◌, ◌<◌, ◌&&◌, Bool, true, false, cond, List, [], ◌∷◌, ◌++◌, inr, refl, sym, ap, ◌∙◌, subst, arith}
 use Rattle.std.specs.Prelude.{Ok}
-use Rattle.shm_graph.specs.declared.ask.Me.{Me}
-use Rattle.shm_graph.specs.declared.ask.Turn.{Turn}
-use Rattle.shm_graph.specs.declared.ask.Turn.TheVariants.{More, Done}
-use Rattle.shm_graph.specs.declared.memo.Agent.{Agent}
-use Rattle.shm_graph.specs.declared.memo.Fate.{Fate}
-use Rattle.shm_graph.specs.declared.memo.Fate.TheVariants.{Acts, Ended}
-use Rattle.shm_graph.specs.declared.memo.Kind.TheVariants.{Client, Recoverer}
-use Rattle.shm_graph.specs.declared.memo.Memo.{Memo}
-use Rattle.shm_graph.specs.declared.memo.Status.TheVariants.{Gone}
-use Rattle.shm_graph.specs.declared.memo.Step.{Step}
-use Rattle.shm_graph.specs.declared.run.Account.{Account}
-use Rattle.shm_graph.specs.declared.run.LoggedLine.{LoggedLine}
-use Rattle.shm_graph.specs.Agents.{acts, ended, is_gone, stepped, with_last}
-use Rattle.shm_graph.specs.Asks.{call_after, call_before}
-use Rattle.shm_graph.specs.Changes.{asked_spot}
-use Rattle.shm_graph.specs.Held.{is_loose}
+use Rattle.shm_graph.specs.declared.{ask.{Me.Me, Turn.{Turn, TheVariants.{More, Done}}}, memo.{Agent.Agent, Fate.Fate}}
+use Rattle.shm_graph.specs.declared.memo.{Fate.TheVariants.{Acts, Ended}, Kind.TheVariants.{Client, Recoverer}}
+use Rattle.shm_graph.specs.declared.{memo.{Memo.Memo, Status.TheVariants.Gone, Step.Step}, run.Account.Account}
+use Rattle.shm_graph.specs.{declared.run.LoggedLine.LoggedLine, Agents.{acts, ended, is_gone, stepped, with_last}}
+use Rattle.shm_graph.specs.{Asks.{call_after, call_before}, Changes.asked_spot, Held.is_loose}
 use Rattle.shm_graph.specs.Laws.{Stays, is_some, step_of}
 use Rattle.shm_graph.specs.Runs.{account_after, account_died, account_entered, begun_by, told_by, told_left}
 use Rattle.shm_graph.specs.Whole.{fits_now, gives_now}
-use Rattle.shm_graph.proofs.Machines.Composing.{none_of, some_of}
-use Rattle.shm_graph.proofs.Memos.MemoSteps.{agents_after, memo_agents}
-use Rattle.shm_calls.specs.CallsControl.{calls_of}
-use Rattle.shm_calls.specs.CallsFit.{CallsFits, CallsGives}
-use Rattle.shm_calls.specs.CallsKeep.{calls_laws}
+use Rattle.shm_graph.proofs.{Machines.Composing.{none_of, some_of}, Memos.MemoSteps.{agents_after, memo_agents}}
+use Rattle.shm_calls.specs.{CallsControl.calls_of, CallsFit.{CallsFits, CallsGives}, CallsKeep.calls_laws}
 use Rattle.shm_steps.specs.Reparting.{map_in}
 use Rattle.shm_recover.specs.Machines.Recovering.{recover}
-use Rattle.shm_recover.specs.Recover.Control.{recover_line, recover_parts, recovering as recovery}
+use Rattle.shm_recover.specs.Recover.Control.{recover_line, recover_parts, recovering as recovery, recover_steered}
 use Rattle.shm_recover.specs.Recover.{recover_plan}
 use Rattle.shm_recover.proofs.Steady.{recover_steady}
-use Rattle.shm_agents.proofs.Growing.{begun_end, with_last-end}
-use Rattle.shm_agents.proofs.WorkLaws.{recoveries}
-use Rattle.shm_pool.specs.Calls.{ClientStepped}
-use Rattle.shm_pool.specs.Endings.{Answer}
-use Rattle.shm_pool.specs.Rescues.{RecoverMachine, Rescuing, account_of}
+use Rattle.shm_agents.proofs.{Growing.{begun_end, with_last-end}, WorkLaws.recoveries}
+use Rattle.shm_pool.specs.{Calls.ClientStepped, Endings.Answer, Rescues.{RecoverMachine, Rescuing, account_of}}
 use Rattle.shm_pool.specs.Tokens.{recovering}
 use Rattle.shm_pool.proofs.Calling.{goes_on, is_over}
 use Rattle.shm_replay.specs.Closings.{SameTable}
@@ -85,7 +68,7 @@ module _ (e : Account) (on : acts e.memo ≡ true) where
   entered = ap (λ (b : Bool). account_entered Recoverer (account_died (cond b e (account_entered Client e)))) on
 
   -- before its first step
-  pub mends_first : (me : Me) (m : RecoverMachine) → m ≡ calls_of recover_plan (recovery me) → Fits m (recovering e).memo (recovering e).memo → IsMending e 0 m (recovering e)
+  pub mends_first : (me : Me) (m : RecoverMachine) → m ≡ calls_of recover_steered (recovery me) → Fits m (recovering e).memo (recovering e).memo → IsMending e 0 m (recovering e)
   mends_first me m is fit =
       let fresh : recover.fresh m ≡ true = ap recover.fresh is in
       record {
@@ -207,7 +190,7 @@ module _ (e : Account) (on : acts e.memo ≡ true) where
           )
 
 -- before its first step
-pub works_first : (e : Account) (me : Me) (steps left : ℕ) (r : Rescuing) → acts e.memo ≡ true → left ≡ steps → r.begun ≡ false → r.seat ≡ e → r.machine ≡ calls_of recover_plan (recovery me) → Fits r.machine (recovering e).memo (recovering e).memo → IsWorking e steps left r
+pub works_first : (e : Account) (me : Me) (steps left : ℕ) (r : Rescuing) → acts e.memo ≡ true → left ≡ steps → r.begun ≡ false → r.seat ≡ e → r.machine ≡ calls_of recover_steered (recovery me) → Fits r.machine (recovering e).memo (recovering e).memo → IsWorking e steps left r
 works_first e me steps left r on all fresh seat is fit =
     record {
       n = 0;

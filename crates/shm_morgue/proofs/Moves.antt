@@ -1,19 +1,15 @@
 -- each step of a pass keeps the rule of the queue
 use Rattle.std.proofs.Common.{◌≡◌, ◌≢◌, ℕ, zero, suc, ◌+◌, ◌<◌, ◌≤◌, false, true≢false, List, [], ◌∷◌, ◌++◌, length, set, take, drop, sym, refl, ap, ◌∙◌, subst, append-nil, arith, length-append, inl, inr, ne_eqb, if◌then◌else◌}
+use Rattle.std.proofs.lemmas.List.Elements.{All-nil, All-cons, All-head, All-tail, All-push, All-set, All-weaker}
+use Rattle.std.proofs.lemmas.List.{Sums.sum_by-cons, Sorted.{IsPermutation-refl, All-permutation, length_permutation}}
+use Rattle.std.specs.List.{All, flat_map, sum_by, Sorted.IsPermutation}
 use mathlib.Core.Logic.{dite}
 use native.Mathlib.Decide.{ℕ_discrete}
 use mathlib.Core.Option.{some, some-injective, some-ne-none}
 use lib.ListN.{get_elem?}
-use Rattle.std.specs.List.{All, flat_map, sum_by}
-use Rattle.std.specs.List.Sorted.{IsPermutation}
-use Rattle.std.proofs.lemmas.List.Elements.{All-nil, All-cons, All-head, All-tail, All-push, All-set, All-weaker}
-use Rattle.std.proofs.lemmas.List.Sums.{sum_by-cons}
-use Rattle.std.proofs.lemmas.List.Sorted.{IsPermutation-refl, All-permutation, length_permutation}
 use Rattle.crossbeam_queue.specs.Fifo.{Pushes, Pops, Forks, Merges, Learns}
 use Rattle.shm_pool.specs.Tokens.{Its}
-use Rattle.shm_morgue.specs.declared.rule.Desk.{Desk}
-use Rattle.shm_morgue.specs.declared.rule.Hands.{Hands}
-use Rattle.shm_morgue.specs.declared.rule.Taken.{Taken}
+use Rattle.shm_morgue.specs.declared.rule.{Desk.Desk, Hands.Hands, Taken.Taken}
 use Rattle.shm_morgue.specs.Entries.{client_of, IsBefore, IsInOrder, IsOf, MayHold}
 use Rattle.shm_morgue.specs.Hands.{hands, newborn, spent, whole, desk, blank_desks, blank_lists}
 use Rattle.shm_morgue.specs.Keeps.{Holds, IsBelow, IsMade, Keeps, Knows, KnowsAll, MayWait, PutsOne, TakesOne, all_desks, all_lists, is_desk_of, on_desks, in_lists}

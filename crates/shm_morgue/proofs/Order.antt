@@ -1,9 +1,8 @@
 -- entries in the order of their puts
 use Rattle.std.proofs.Common.{List, [], ◌∷◌, ◌++◌, subst, append_assoc}
-use Rattle.std.specs.List.{All}
 use Rattle.std.proofs.lemmas.List.Elements.{All-nil, All-cons, All-head, All-tail, All-push, All-append}
-use Rattle.shm_morgue.specs.declared.rule.Taken.{Taken}
-use Rattle.shm_morgue.specs.Entries.{IsBefore, IsInOrder}
+use Rattle.std.specs.List.{All}
+use Rattle.shm_morgue.specs.{declared.rule.Taken.Taken, Entries.{IsBefore, IsInOrder}}
 
 module _ {X : Type 0} (P : X → Type 0) where
   pub all_front : (xs ys : List X) → All P (xs ++ ys) → All P xs

@@ -1,32 +1,20 @@
 -- the client of a script, turn by turn, until it has left or died
 use Rattle.std.proofs.Common.{◌≡◌, ◌≢◌, ℕ, zero, suc, ◌+◌, ◌<◌, ◌≤◌, ◌⊎◌, ◌&&◌, Bool, true, false, cond, eqb, List, [], ◌∷◌, ◌++◌, inl, inr, length, take, refl, sym, ap, ◌∙◌, subst, arith}
+use Rattle.std.proofs.lemmas.{Bool.eq-eqb, List.Sums.sum_by-cons}
 use Rattle.std.specs.Prelude.{Some, slice_get, slice_index, sum}
-use Rattle.std.proofs.lemmas.Bool.{eq-eqb}
-use Rattle.std.proofs.lemmas.List.Sums.{sum_by-cons}
-use Rattle.shm_graph.specs.declared.ask.Me.{Me}
-use Rattle.shm_graph.specs.declared.memo.Agent.{Agent}
-use Rattle.shm_graph.specs.declared.memo.Fate.TheVariants.{Acts}
-use Rattle.shm_graph.specs.declared.memo.Kind.TheVariants.{Recoverer}
-use Rattle.shm_graph.specs.declared.run.Account.{Account}
-use Rattle.shm_graph.specs.declared.run.Start.{Start}
-use Rattle.shm_graph.specs.Agents.{acts, steps_of}
-use Rattle.shm_graph.specs.Held.{is_loose}
+use Rattle.shm_graph.specs.declared.{ask.Me.Me, memo.{Agent.Agent, Fate.TheVariants.Acts, Kind.TheVariants.Recoverer}}
+use Rattle.shm_graph.specs.{declared.run.{Account.Account, Start.Start}, Agents.{acts, steps_of}, Held.is_loose}
 use Rattle.shm_graph.specs.Runs.{account_died, is_dead, told_left}
 use Rattle.shm_count.specs.Roots.{member}
-use Rattle.shm_agents.specs.declared.agents.Standing.{Standing}
-use Rattle.shm_agents.specs.declared.agents.Standing.TheVariants.{AtWork, Dead, Gone}
+use Rattle.shm_agents.specs.declared.agents.Standing.{Standing, TheVariants.{AtWork, Dead, Gone}}
 use Rattle.shm_agents.specs.Agents.{IsFallen, IsFold, IsFresh, IsMending, IsPlaying, IsSettled, Playing, Stage, Stands, is_at_work, is_client, logged}
 use Rattle.shm_agents.specs.Agents.Stage.{Fresh, Plays, Parted, Fallen, Mending, Mended}
-use Rattle.shm_agents.specs.Courses.{AreAgents, AreCommandsTold, AreRecoverers}
-use Rattle.shm_agents.specs.Logs.{IsLogOf}
-use Rattle.shm_agents.specs.Turns.{lives_of}
+use Rattle.shm_agents.specs.{Courses.{AreAgents, AreCommandsTold, AreRecoverers}, Logs.IsLogOf, Turns.lives_of}
 use Rattle.shm_agents.specs.TurnsLeft.{deaths, turns_given}
-use Rattle.shm_agents.proofs.Growing.{steps_of-end}
-use Rattle.shm_agents.proofs.Standing.{client_stage}
+use Rattle.shm_agents.proofs.{Growing.steps_of-end, Standing.client_stage}
 use Rattle.shm_pool.specs.Tokens.{Token}
 use Rattle.shm_replay.proofs.Seating.{client_here}
-use Rattle.shm_script.specs.declared.line.Line.{Line}
-use Rattle.shm_script.specs.Values.{Scripted}
+use Rattle.shm_script.specs.{declared.line.Line.Line, Values.Scripted}
 use Rattle.shm_team.proofs.Finishing.{is_me}
 use Rattle.shm_morgue.specs.Dead.{AreDead, HasParted}
 

@@ -1,40 +1,22 @@
 -- the dead of a script, behind whom one more agent came
 use Rattle.std.proofs.Common.{◌≡◌, ℕ, zero, suc, ◌+◌, ◌<◌, ◌≤◌, Bool, true, false, List, [], ◌∷◌, ◌++◌, inl, inr, take, refl, sym, ap, ◌∙◌, subst, arith}
 use Rattle.std.specs.Prelude.{if◌then◌else◌, Ok, Some, drop, slice_get, slice_index}
-use Rattle.shm_graph.specs.declared.ask.Me.{Me}
-use Rattle.shm_graph.specs.declared.ask.Turn.{Turn}
-use Rattle.shm_graph.specs.declared.ask.Turn.TheVariants.{More, Done}
-use Rattle.shm_graph.specs.declared.memo.Agent.{Agent}
-use Rattle.shm_graph.specs.declared.memo.Fate.TheVariants.{Acts, Died, Ended}
-use Rattle.shm_graph.specs.declared.memo.Kind.TheVariants.{Recoverer}
-use Rattle.shm_graph.specs.declared.memo.Status.TheVariants.{Gone}
-use Rattle.shm_graph.specs.declared.run.Account.{Account}
-use Rattle.shm_graph.specs.declared.run.LoggedLine.{LoggedLine}
-use Rattle.shm_graph.specs.Agents.{acts, acts_by, fallen, last_agent, with_last}
-use Rattle.shm_graph.specs.Held.{is_loose}
-use Rattle.shm_graph.specs.Laws.{is_died}
+use Rattle.shm_graph.specs.declared.{ask.{Me.Me, Turn.{Turn, TheVariants.{More, Done}}}, memo.Agent.Agent}
+use Rattle.shm_graph.specs.declared.memo.{Fate.TheVariants.{Acts, Died, Ended}, Kind.TheVariants.Recoverer}
+use Rattle.shm_graph.specs.declared.{memo.Status.TheVariants.Gone, run.{Account.Account, LoggedLine.LoggedLine}}
+use Rattle.shm_graph.specs.{Agents.{acts, acts_by, fallen, last_agent, with_last}, Held.is_loose, Laws.is_died}
 use Rattle.shm_graph.specs.Runs.{account_died, told_left}
 use Rattle.shm_graph.proofs.Memos.MemoSteps.{last-append}
 use Rattle.shm_count.specs.Roots.{member}
-use Rattle.shm_recover.specs.Machines.Recovering.{recover}
-use Rattle.shm_recover.specs.Recover.Control.{recover_line}
-use Rattle.shm_agents.specs.Agents.{IsFold}
-use Rattle.shm_agents.specs.Courses.{AreAgents, AreCommandsTold, AreRecoverers}
-use Rattle.shm_agents.specs.Logs.{BeganWith, IsLogOf, begun_first}
-use Rattle.shm_agents.specs.Turns.{lives_of}
-use Rattle.shm_agents.proofs.Courses.{agents_more, around, take_more, told_aside}
-use Rattle.shm_agents.proofs.Deaths.{some_life}
+use Rattle.shm_recover.specs.{Machines.Recovering.recover, Recover.Control.recover_line}
+use Rattle.shm_agents.specs.{Agents.IsFold, Courses.{AreAgents, AreCommandsTold, AreRecoverers}}
+use Rattle.shm_agents.specs.{Logs.{BeganWith, IsLogOf, begun_first}, Turns.lives_of}
+use Rattle.shm_agents.proofs.{Courses.{agents_more, around, take_more, told_aside}, Deaths.some_life}
 use Rattle.shm_agents.proofs.Growing.{began_more, first_more, log_on, with_last-end}
-use Rattle.shm_pool.specs.Calls.{ClientStepped}
-use Rattle.shm_pool.specs.Endings.{Answer}
-use Rattle.shm_pool.specs.Rescues.{Rescuing, account_of}
-use Rattle.shm_pool.specs.Tokens.{Its, Token}
+use Rattle.shm_pool.specs.{Calls.ClientStepped, Endings.Answer, Rescues.{Rescuing, account_of}, Tokens.{Its, Token}}
 use Rattle.shm_replay.specs.Closings.{SameTable}
-use Rattle.shm_script.specs.Logged.{Logged}
-use Rattle.shm_script.specs.Values.{Scripted}
-use Rattle.shm_team.specs.declared.left.Left.TheVariants.{Corpse, Vacant}
-use Rattle.shm_team.specs.Dones.{IsFinished}
-use Rattle.shm_team.specs.Lefts.{token_in}
+use Rattle.shm_script.specs.{Logged.Logged, Values.Scripted}
+use Rattle.shm_team.specs.{declared.left.Left.TheVariants.{Corpse, Vacant}, Dones.IsFinished, Lefts.token_in}
 use Rattle.shm_team.specs.Visits.{AreAside, HasRun}
 use Rattle.shm_team.proofs.Telling.{aside_told}
 use Rattle.shm_morgue.specs.Dead.{AreDead, IsNext, left_by}

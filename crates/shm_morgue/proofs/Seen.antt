@@ -1,14 +1,9 @@
 -- porters and medics as contracts see them
-use Rattle.std.proofs.Common.{◌≡◌, ℕ, List, [], length, subst}
-use Rattle.std.proofs.lemmas.List.Elements.{All-head}
+use Rattle.std.proofs.{Common.{◌≡◌, ℕ, List, [], length, subst}, lemmas.List.Elements.All-head}
 use Rattle.crossbeam_queue.specs.Passes.{view}
 use Rattle.shm_pool.specs.Tokens.{Its}
-use Rattle.shm_morgue.specs.declared.rule.Desk.{Desk}
-use Rattle.shm_morgue.specs.declared.rule.Hands.{Hands}
-use Rattle.shm_morgue.specs.declared.rule.Taken.{Taken}
-use Rattle.shm_morgue.specs.Entries.{MayHold}
-use Rattle.shm_morgue.specs.Hands.{IsPorter, Place, desk, first_entries, first_list, puts_of, takes_of}
-use Rattle.shm_morgue.specs.Keeps.{MayWait}
+use Rattle.shm_morgue.specs.{declared.rule.{Desk.Desk, Hands.Hands, Taken.Taken}, Entries.MayHold}
+use Rattle.shm_morgue.specs.{Hands.{IsPorter, Place, desk, first_entries, first_list, puts_of, takes_of}, Keeps.MayWait}
 
 pub same_puts : (p q : Place) (client : ℕ) → p.table_id ≡ q.table_id → view p ≡ view q → puts_of p client ≡ puts_of q client
 same_puts p q client t v = λ j. record { of = record { queue = t j; clients = (v j).clients; medics = (v j).doctors }; client = client; entries = first_entries (v j).porters }

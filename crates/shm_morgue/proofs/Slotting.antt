@@ -1,24 +1,18 @@
 -- what is rescued, in places by identity
 use Rattle.std.proofs.Common.{◌≡◌, ◌≢◌, ℕ, zero, suc, ◌+◌, ◌<◌, ◌≤◌, ◌⊎◌, List, [], ◌∷◌, ◌++◌, inl, inr, length, refl, sym, ap, ◌∙◌, subst, arith}
-use Rattle.std.specs.Prelude.{Option, None, Some, MatchOption, replicate, slice_index_or, slice_set}
-use Rattle.std.specs.List.{AllByRecursion, Contains}
-use Rattle.std.proofs.lemmas.Bool.{cases_eq}
-use Rattle.std.proofs.lemmas.List.{get_or-set_other, get_or-set_same, length-replicate, length-set}
+use Rattle.std.proofs.lemmas.{Bool.cases_eq, List.{get_or-set_other, get_or-set_same, length-replicate, length-set}}
 use Rattle.std.proofs.lemmas.List.Elements.{Contains-append_cases, Contains-append_left, Contains-append_right, Contains-push, Contains-push_cases}
 use Rattle.std.proofs.lemmas.List.Sorted.{Contains-permutation, IsPermutation-sym}
+use Rattle.std.specs.Prelude.{Option, None, Some, MatchOption, replicate, slice_index_or, slice_set}
+use Rattle.std.specs.List.{AllByRecursion, Contains}
 use Rattle.shm_graph.proofs.States.FirstHeld.{same_everywhere}
 use Rattle.shm_agents.specs.Turns.{script_in}
 use Rattle.shm_pool.specs.Tokens.{Its}
 use Rattle.shm_replay.proofs.Starting.{script_client}
-use Rattle.shm_script.specs.Logged.{Logged}
-use Rattle.shm_script.specs.Values.{Scripted, Traced}
-use Rattle.shm_team.specs.declared.done.Done.{Done}
-use Rattle.shm_team.specs.declared.left.Left.{Left}
-use Rattle.shm_team.specs.Dones.{AreDones, IsDone, IsDoneBy, IsFinished}
-use Rattle.shm_morgue.specs.declared.rule.Taken.{Taken}
-use Rattle.shm_morgue.specs.declared.worker.Outcome.{Outcome}
-use Rattle.shm_morgue.specs.Crew.{HasWorked, HaveWorked, WasLeft, WasPut}
-use Rattle.shm_morgue.specs.Dead.{IsRescue}
+use Rattle.shm_script.specs.{Logged.Logged, Values.{Scripted, Traced}}
+use Rattle.shm_team.specs.{declared.{done.Done.Done, left.Left.Left}, Dones.{AreDones, IsDone, IsDoneBy, IsFinished}}
+use Rattle.shm_morgue.specs.declared.{rule.Taken.Taken, worker.Outcome.Outcome}
+use Rattle.shm_morgue.specs.{Crew.{HasWorked, HaveWorked, WasLeft, WasPut}, Dead.IsRescue}
 use Rattle.shm_morgue.specs.Entries.{IsCarried, Puts, Takes, Which, all_put, all_taken, client_of, entry}
 use Rattle.shm_morgue.specs.Slots.{AreEnough, AreRescued, HasRescued, IsEnough, either}
 

@@ -1,13 +1,7 @@
 -- the closing of a morgue
-use Rattle.std.specs.Prelude.{◌≡◌, ℕ, ◌+◌, ◌<◌, List, [], ◌++◌, map}
-use Rattle.std.specs.List.{All}
-use Rattle.std.specs.List.Sorted.{IsPermutation}
-use Rattle.shm_morgue.specs.declared.closing.MorgueCause.{MorgueCause}
-use Rattle.shm_morgue.specs.declared.closing.MorgueCause.TheVariants.{Memory, Absent}
-use Rattle.shm_morgue.specs.declared.rule.Desk.{Desk}
-use Rattle.shm_morgue.specs.declared.rule.Taken.{Taken}
-use Rattle.shm_morgue.specs.Entries.{Which, Puts, Takes, IsInOrder}
-use Rattle.shm_morgue.specs.Hands.{Place, desk}
+use Rattle.std.specs.{Prelude.{◌≡◌, ℕ, ◌+◌, ◌<◌, List, [], ◌++◌, map}, List.{All, Sorted.IsPermutation}}
+use Rattle.shm_morgue.specs.declared.{closing.MorgueCause.{MorgueCause, TheVariants.{Memory, Absent}}, rule.Desk.Desk}
+use Rattle.shm_morgue.specs.{declared.rule.Taken.Taken, Entries.{Which, Puts, Takes, IsInOrder}, Hands.{Place, desk}}
 use Rattle.shm_morgue.specs.Keeps.{on_desks, in_lists}
 
 -- the pass is of this morgue, and nothing is out with it

@@ -2,20 +2,13 @@
 use Rattle.std.specs.Prelude.{◌≡◌, ℕ, suc, Option, Some, None, List, [], ◌∷◌}
 use Rattle.shm_agents.specs.Turns.{script_in}
 use Rattle.shm_pool.specs.Tokens.{Its, Token}
-use Rattle.shm_script.specs.Logged.{Logged}
-use Rattle.shm_script.specs.Values.{Scripted, Traced}
-use Rattle.shm_team.specs.declared.jobs.Job.{Job}
-use Rattle.shm_team.specs.declared.left.Left.{Left}
-use Rattle.shm_team.specs.Dones.{IsDone}
-use Rattle.shm_team.specs.Jobs.{IsJob}
-use Rattle.shm_morgue.specs.declared.rule.Taken.{Taken}
-use Rattle.shm_morgue.specs.declared.worker.Outcome.{Outcome}
-use Rattle.shm_morgue.specs.Dead.{AreDead}
-use Rattle.shm_morgue.specs.Entries.{Puts, Takes, Which, entry}
-use Rattle.shm_morgue.specs.Slots.{AreRescued}
+use Rattle.shm_script.specs.{Logged.Logged, Values.{Scripted, Traced}}
+use Rattle.shm_team.specs.{declared.{jobs.Job.Job, left.Left.Left}, Dones.IsDone, Jobs.IsJob}
+use Rattle.shm_morgue.specs.{declared.{rule.Taken.Taken, worker.Outcome.Outcome}, Dead.AreDead}
+use Rattle.shm_morgue.specs.{Entries.{Puts, Takes, Which, entry}, Slots.AreRescued}
 
 -- the job of an identity, and its porter, which has put nothing
-abbrev pub IsTask : Traced → Its → Which → Job → Puts → Type 0
+abbrev pub IsTask : {A : Type 0} → Traced → Its → Which → Job A → Puts → Type 0
 IsTask t p w j q = IsJob t p j.token.account.who j × (q ≡ record { of = w; client = j.token.account.who; entries = [] })
 
 -- the client of the identity c died, and these entries are its corpse: behind it nobody has begun, and this is its log

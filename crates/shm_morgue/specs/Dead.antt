@@ -1,23 +1,13 @@
 -- the dead of a script, and what is left where they are recovered
 use Rattle.std.specs.Prelude.{◌≡◌, ◌≢◌, ℕ, ◌⊎◌, if◌then◌else◌, Some, false, true, take, slice_index}
-use Rattle.shm_graph.specs.declared.run.Account.{Account}
-use Rattle.shm_graph.specs.Agents.{acts}
-use Rattle.shm_graph.specs.Held.{is_loose}
-use Rattle.shm_graph.specs.Runs.{account_died, told_left}
+use Rattle.shm_graph.specs.{declared.run.Account.Account, Agents.acts, Held.is_loose, Runs.{account_died, told_left}}
 use Rattle.shm_count.specs.Roots.{member}
-use Rattle.shm_agents.specs.declared.agents.Standing.TheVariants.{AtWork}
-use Rattle.shm_agents.specs.Agents.{IsFallen, IsFold, IsSettled, Playing}
-use Rattle.shm_agents.specs.Courses.{AreAgents, AreCommandsTold}
-use Rattle.shm_agents.specs.Logs.{AreUnspent, IsLogOf}
+use Rattle.shm_agents.specs.{declared.agents.Standing.TheVariants.AtWork, Agents.{IsFallen, IsFold, IsSettled, Playing}}
+use Rattle.shm_agents.specs.{Courses.{AreAgents, AreCommandsTold}, Logs.{AreUnspent, IsLogOf}}
 use Rattle.shm_agents.specs.Turns.{lives_of, script_in}
-use Rattle.shm_pool.specs.Rescues.{Rescuing}
-use Rattle.shm_pool.specs.Tokens.{Its, Token}
-use Rattle.shm_script.specs.Logged.{Logged}
-use Rattle.shm_script.specs.Ranges.{ScriptFits}
-use Rattle.shm_script.specs.Values.{Scripted, Traced}
-use Rattle.shm_team.specs.declared.left.Left.{Left}
-use Rattle.shm_team.specs.declared.left.Left.TheVariants.{Vacant, Corpse}
-use Rattle.shm_team.specs.Dones.{IsFinished}
+use Rattle.shm_pool.specs.{Rescues.Rescuing, Tokens.{Its, Token}}
+use Rattle.shm_script.specs.{Logged.Logged, Ranges.ScriptFits, Values.{Scripted, Traced}}
+use Rattle.shm_team.specs.{declared.left.Left.{Left, TheVariants.{Vacant, Corpse}}, Dones.IsFinished}
 
 -- none of the agents of the script s has anything left to do; or the client died, and nobody began behind it
 abbrev pub HasParted : Scripted → Playing → Account → Type 0

@@ -1,6 +1,5 @@
 -- corpses that go through a morgue, as its porters and medics see them
-use Rattle.std.specs.Prelude.{◌≡◌, zero, suc, ℕ, ◌<◌, List, [], ◌∷◌, ◌++◌}
-use Rattle.std.specs.List.{All, Contains, flat_map}
+use Rattle.std.specs.{Prelude.{◌≡◌, zero, suc, ℕ, ◌<◌, List, [], ◌∷◌, ◌++◌}, List.{All, Contains, flat_map}}
 use Rattle.std.specs.List.Sorted.{IsPermutation}
 use Rattle.atomic_table.specs.Seated.{TableId}
 use Rattle.shm_pool.specs.Tokens.{Its, Token}

@@ -1,10 +1,7 @@
 -- what a pass of the queue knows
 use Rattle.std.specs.Prelude.{◌≡◌, zero, suc, ℕ, ◌<◌, true, false, List, [], ◌∷◌, ◌++◌, length}
 use Rattle.crossbeam_queue.specs.Passes.{view, Pass}
-use Rattle.shm_morgue.specs.declared.rule.Desk.{Desk}
-use Rattle.shm_morgue.specs.declared.rule.Hands.{Hands}
-use Rattle.shm_morgue.specs.declared.rule.Taken.{Taken}
-use Rattle.shm_morgue.specs.Entries.{Which, Puts, Takes}
+use Rattle.shm_morgue.specs.{declared.rule.{Desk.Desk, Hands.Hands, Taken.Taken}, Entries.{Which, Puts, Takes}}
 
 abbrev pub desk : ℕ → List Taken → Desk
 desk client entries = record { client = client; entries = entries }

@@ -1,11 +1,8 @@
 -- the rule of the queue
 use Rattle.std.specs.Prelude.{◌≡◌, ℕ, ◌<◌, ◌≤◌, ◌==◌, ◌⊎◌, false, List, [], ◌∷◌, ◌++◌, length, if◌then◌else◌}
-use Rattle.std.specs.List.{All, flat_map, sum_by}
-use Rattle.std.specs.List.Sorted.{IsPermutation}
+use Rattle.std.specs.List.{All, flat_map, sum_by, Sorted.IsPermutation}
 use Rattle.shm_pool.specs.Tokens.{Its}
-use Rattle.shm_morgue.specs.declared.rule.Desk.{Desk}
-use Rattle.shm_morgue.specs.declared.rule.Hands.{Hands}
-use Rattle.shm_morgue.specs.declared.rule.Taken.{Taken}
+use Rattle.shm_morgue.specs.declared.rule.{Desk.Desk, Hands.Hands, Taken.Taken}
 use Rattle.shm_morgue.specs.Entries.{client_of, IsBefore, IsInOrder, IsOf, MayHold}
 use Rattle.shm_morgue.specs.Hands.{newborn, put_first, take_first}
 

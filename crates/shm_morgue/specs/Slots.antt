@@ -3,12 +3,8 @@ use Rattle.std.specs.Prelude.{◌≡◌, ℕ, suc, Option, Some, None, MatchOpti
 use Rattle.std.specs.List.{Contains}
 use Rattle.shm_pool.specs.Tokens.{Its}
 use Rattle.shm_script.specs.Values.{Traced}
-use Rattle.shm_team.specs.declared.left.Left.{Left}
-use Rattle.shm_team.specs.Dones.{IsDone}
-use Rattle.shm_morgue.specs.declared.rule.Taken.{Taken}
-use Rattle.shm_morgue.specs.declared.worker.Outcome.{Outcome}
-use Rattle.shm_morgue.specs.Dead.{IsRescue}
-use Rattle.shm_morgue.specs.Entries.{client_of}
+use Rattle.shm_team.specs.{declared.left.Left.Left, Dones.IsDone}
+use Rattle.shm_morgue.specs.{declared.{rule.Taken.Taken, worker.Outcome.Outcome}, Dead.IsRescue, Entries.client_of}
 
 -- the corpse of the identity c is among these, and this is what was left of it
 pub record HasRescued (t : Traced) (p : Its) (xs : List Taken) (c : ℕ) (k : Left) : Type 0 where

@@ -4,8 +4,7 @@ ghost use Rattle.std.specs.Prelude.{◌≡◌, ◌-◌, ◌<◌, ◌≤◌, [], 
 ghost use Rattle.std.specs.List.{All, AllByRecursion};
 ghost use Rattle.crossbeam_queue.specs.Passes.{view};
 ghost use Rattle.shm_morgue.specs.Closing.{IsCause, IsEmptied, IsPlaceOf, desks_of, lists_of};
-ghost use Rattle.shm_morgue.specs.Entries.{IsCarried, IsOf, Puts as APorter, Takes as AMedic};
-ghost use Rattle.shm_morgue.specs.Hands.{hands};
+ghost use Rattle.shm_morgue.specs.{Entries.{IsCarried, IsOf, Puts as APorter, Takes as AMedic}, Hands.hands};
 
 use crate::morgue::{Medic, Morgue, Porter};
 use crate::rule::{Gathers, Place, Pools, Take, Taken};

@@ -1,10 +1,7 @@
 //! A medic at work: it takes corpses and has their identities recovered, until all workers have ended and the queue is empty.
 
-ghost use Rattle.std.specs.Prelude.{◌≡◌, ◌++◌, ◌∷◌, IfOk, List, None, [], length, replicate};
-ghost use Rattle.std.specs.List.{All};
-ghost use Rattle.shm_morgue.specs.Crew.{IsRound};
-ghost use Rattle.shm_morgue.specs.Slots.{AreRescued};
-ghost use Rattle.shm_morgue.specs.declared.rule.Taken.{Taken as ATaken};
+ghost use Rattle.std.specs.{Prelude.{◌≡◌, ◌++◌, ◌∷◌, IfOk, List, None, [], length, replicate}, List.All};
+ghost use Rattle.shm_morgue.specs.{Crew.IsRound, Slots.AreRescued, declared.rule.Taken.Taken as ATaken};
 
 use crate::gate::Gate;
 use crate::morgue::{Medic, Morgue};

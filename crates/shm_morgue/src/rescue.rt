@@ -2,10 +2,8 @@
 
 ghost use Rattle.std.specs.Prelude.{◌≡◌, ◌+◌, ◌<◌, ℕ, MatchOption, None, Some, length, slice_get, slice_index};
 ghost use Rattle.shm_agents.specs.Turns.{lives_of, script_in};
-ghost use Rattle.shm_script.specs.Logged.{Logged as ALog};
-ghost use Rattle.shm_script.specs.Values.{Scripted as AScript};
-ghost use Rattle.shm_team.specs.Dones.{IsFinished};
-ghost use Rattle.shm_team.specs.Lefts.{token_in};
+ghost use Rattle.shm_script.specs.{Logged.Logged as ALog, Values.Scripted as AScript};
+ghost use Rattle.shm_team.specs.{Dones.IsFinished, Lefts.token_in};
 ghost use Rattle.shm_morgue.specs.Dead.{AreDead, IsNext, IsRescue, left_by};
 
 use shm_graph::{Life, Turn};

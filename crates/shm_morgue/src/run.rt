@@ -7,9 +7,7 @@ ghost use Rattle.shm_plain.specs.Pools.{pool as pool_of};
 ghost use Rattle.shm_pool.specs.Tokens.{Its as APool};
 ghost use Rattle.shm_replay.specs.Replays.{start_of};
 ghost use Rattle.shm_script.specs.Values.{Traced as ATrace};
-ghost use Rattle.shm_team.specs.Dones.{AreDones, IsDone};
-ghost use Rattle.shm_team.specs.Jobs.{AreJobs};
-ghost use Rattle.shm_team.specs.Rans.{IsTeamRun};
+ghost use Rattle.shm_team.specs.{Dones.{AreDones, IsDone}, Jobs.AreJobs, Rans.IsTeamRun};
 ghost use Rattle.shm_morgue.specs.Crew.{HasWorked, HaveWorked, IsRound, IsTask};
 ghost use Rattle.shm_morgue.specs.Entries.{IsCarried, IsOf, Puts as APorter, Takes as AMedic, all_taken, first_medics, first_porters};
 ghost use Rattle.shm_morgue.specs.Slots.{AreEnough, AreRescued, IsEnough, either};
@@ -22,6 +20,8 @@ use crate::medic::{Round, blank_slots, heal_all, rescue_into};
 use crate::morgue::{Medic, Morgue, Porter};
 use crate::rule::{Pools, Taken};
 use crate::worker::{Outcome, Shift, Task, Worked, work_all};
+use shm_play::cast::Cast;
+use shm_play::play::Play;
 use shm_pool::{Closed, SharedPool};
 use shm_script::{Log, Trace};
 use shm_team::{Done, Job, Left, begin, settle};
@@ -41,15 +41,15 @@ pub struct Rescued {
 }
 
 /// A task for each identity, in order.
-fn all_tasks<'a, J: Pools>(
+fn all_tasks<'a, J: Pools, A: Play>(
     alloc: Global,
     pool: &SharedPool,
     trace: &Trace,
     morgue: &Morgue<J>,
     ended: &'a AtomicU32,
-    jobs: Vec<Job>,
+    jobs: Vec<Job<A>>,
     porters: Vec<Porter<J>>,
-) -> Result<Vec<Task<'a, J>>, AllocError>
+) -> Result<Vec<Task<'a, J, A>>, AllocError>
     requires jobs { AreJobs trace.now pool.now 0 jobs.items }
     requires porters { porters.items ≡ first_porters morgue.now 0 (length jobs.items) }
     ensures many { IfOk result (λ v. length v.items ≡ length jobs.items) }
@@ -104,14 +104,14 @@ fn all_rounds<J: Pools>(
 
 /// All workers and all medics at work beside each other. Medics wait for the workers, so that the caller does the work of the workers: where no thread
 /// can be made for the medics, their work comes last.
-fn all_at_work<'a, J: Pools + Send + Sync, R: Threads + Wait + Sync, G: Gate>(
+fn all_at_work<'a, J: Pools + Send + Sync, A: Play + Send, R: Threads + Wait + Sync, G: Gate>(
     rt: &R,
     pool: &SharedPool,
     trace: &Trace,
     morgue: &Morgue<J>,
     gate: &G,
     ended: &AtomicU32,
-    tasks: Vec<Task<'a, J>>,
+    tasks: Vec<Task<'a, J, A>>,
     rounds: Vec<Round<J>>,
 ) -> Result<(Vec<Worked<J>>, Vec<Round<J>>), AllocError>
     requires tasks { (i : ℕ) (d : _) → i < length tasks.items → let k = slice_index_or tasks.items i d in (k.job.token.account.who ≡ i) × IsTask trace.now pool.now morgue.now k.job k.porter }
@@ -297,14 +297,14 @@ fn all_done(
 }
 
 /// What is done of each identity by workers and medics with a morgue of their own, and by the caller what they left in it.
-fn run_in<J: Pools + Send + Sync, R: Threads + Wait + Sync, G: Gate>(
+fn run_in<J: Pools + Send + Sync, A: Play + Send, R: Threads + Wait + Sync, G: Gate>(
     rt: &R,
     alloc: Global,
     pool: &SharedPool,
     trace: &Trace,
     medics: u8,
     gate: &G,
-    jobs: Vec<Job>,
+    jobs: Vec<Job<A>>,
 ) -> Result<Vec<Done>, AllocError>
     requires pools { J.pools ≡ pool.now ∷ [] }
     requires medics { (1 ≤ medics) × (medics ≤ 4) }
@@ -331,6 +331,27 @@ fn run_in<J: Pools + Send + Sync, R: Threads + Wait + Sync, G: Gate>(
     all_done(alloc, pool, trace, outcomes, &mut slots)
 }
 
+/// Runs a trace by workers and medics, whoever plays its scripts.
+fn run_morgue_of<A: Play + Send, R: Threads + Wait + Sync, G: Gate>(
+    rt: &R,
+    alloc: Global,
+    trace: &Trace,
+    medics: u8,
+    gate: &G,
+) -> Result<Rescued, AllocError>
+    requires { (1 ≤ medics) × (medics ≤ 4) }
+    ensures { IfOk result (λ r. (turns : List AMove) × IsTeamRun trace.now (pool_of r.closed.start r.closed.words r.closed.accounts turns) r.logs.items) }
+{
+    trace.in_grammar();
+    let (pool, jobs) = begin::<A>(alloc, trace)?;
+    let dones = run_in::<Brand, A, R, G>(rt, alloc, &pool, trace, medics, gate, jobs)?;
+    let ran = settle(rt, alloc, trace, pool, dones)?;
+    Ok(Rescued {
+        closed: ran.closed,
+        logs: ran.logs,
+    })
+}
+
 /// Runs a trace by clients on threads, as `run_team` of shm_team does, but that a worker whose client died puts the corpse into a morgue, from
 /// which medics, in threads of their own, take corpses and recover their identities by the further numbers of the life line, until one of these
 /// recoverers succeeds or all of them died. A worker that finds no room recovers its identity itself, and the caller those whose corpses are
@@ -353,12 +374,5 @@ pub fn run_morgue<R: Threads + Wait + Sync, G: Gate>(
     requires { (1 ≤ medics) × (medics ≤ 4) }
     ensures { IfOk result (λ r. (turns : List AMove) × IsTeamRun trace.now (pool_of r.closed.start r.closed.words r.closed.accounts turns) r.logs.items) }
 {
-    trace.in_grammar();
-    let (pool, jobs) = begin(alloc, trace)?;
-    let dones = run_in::<Brand, R, G>(rt, alloc, &pool, trace, medics, gate, jobs)?;
-    let ran = settle(rt, alloc, trace, pool, dones)?;
-    Ok(Rescued {
-        closed: ran.closed,
-        logs: ran.logs,
-    })
+    run_morgue_of::<Cast, R, G>(rt, alloc, trace, medics, gate)
 }

@@ -5,17 +5,16 @@ ghost use Rattle.std.specs.List.{Contains};
 ghost use Rattle.shm_graph.specs.Runs.{first_account};
 ghost use Rattle.shm_agents.specs.Agents.{Stands, is_client};
 ghost use Rattle.shm_pool.specs.Posts.{IsPosted};
-ghost use Rattle.shm_team.specs.Jobs.{AreAgentsOf};
-ghost use Rattle.shm_team.specs.Working.{AreAtWork};
-ghost use Rattle.shm_morgue.specs.Crew.{HasWorked, IsTask, WasLeft};
-ghost use Rattle.shm_morgue.specs.Dead.{HasParted, IsRescue};
-ghost use Rattle.shm_morgue.specs.Entries.{entry};
+ghost use Rattle.shm_team.specs.{Jobs.AreAgentsOf, Working.AreAtWork};
+ghost use Rattle.shm_morgue.specs.{Crew.{HasWorked, IsTask, WasLeft}, Dead.{HasParted, IsRescue}, Entries.entry};
 
 use crate::gate::Gate;
 use crate::morgue::{Morgue, NoRoom, Porter};
 use crate::rescue::rescue;
 use crate::rule::Pools;
-use shm_agents::agents::{Agents, Standing};
+use shm_agents::agents::Standing;
+use shm_play::play::Play;
+use shm_play::players::Players;
 use shm_pool::{Corpse, Post, SharedPool, Vacant};
 use shm_script::{Log, Script, Trace};
 use shm_team::{Finish, Job, Left, hand_back};
@@ -46,8 +45,8 @@ impl Drop for Shift<'_> {
 
 /// What a worker does: the job of an identity, whose corpse its porter puts.
 #[derive(Drop)]
-pub(crate) struct Task<'a, J: Pools> {
-    pub(crate) job: Job,
+pub(crate) struct Task<'a, J: Pools, A: Play> {
+    pub(crate) job: Job<A>,
     pub(crate) porter: Porter<J>,
     pub(crate) shift: Shift<'a>,
 }
@@ -67,7 +66,7 @@ pub(crate) struct Worked<J: Pools> {
 }
 
 /// The client works until it has left or died. The gate is passed before each command.
-fn work<G: Gate>(script: &Script, gate: &G, agents: &mut Agents, post: &mut Post<'_>)
+fn work<A: Play, G: Gate>(script: &Script, gate: &G, agents: &mut Players<A>, post: &mut Post<'_>)
     requires posted { IsPosted post.old agents.old.me.who }
     requires stands { Stands post.old.of.start script.now agents.old post.old.account }
     requires client { is_client agents.old ≡ true }
@@ -106,7 +105,7 @@ fn put<J: Pools, R: Wait>(
 }
 
 /// The agents of a script at the post of their identity: its client works until it has left or died, and where it died its corpse is put.
-fn serve<J: Pools, R: Wait, G: Gate>(
+fn serve<J: Pools, A: Play, R: Wait, G: Gate>(
     rt: &R,
     pool: &SharedPool,
     trace: &Trace,
@@ -114,7 +113,7 @@ fn serve<J: Pools, R: Wait, G: Gate>(
     morgue: &Morgue<J>,
     gate: &G,
     porter: &mut Porter<J>,
-    mut agents: Agents,
+    mut agents: Players<A>,
     token: Vacant,
 ) -> Outcome
     requires porter { (porter.old.of ≡ morgue.now) × (porter.old.client ≡ token.account.who) × (porter.old.entries ≡ []) }
@@ -142,13 +141,13 @@ fn serve<J: Pools, R: Wait, G: Gate>(
 }
 
 /// One worker. Where the identity has no script it gives the token back as it is.
-fn work_at<J: Pools, R: Wait, G: Gate>(
+fn work_at<J: Pools, A: Play, R: Wait, G: Gate>(
     rt: &R,
     pool: &SharedPool,
     trace: &Trace,
     morgue: &Morgue<J>,
     gate: &G,
-    task: Task<'_, J>,
+    task: Task<'_, J, A>,
 ) -> Worked<J>
     requires task { IsTask trace.now pool.now morgue.now task.job task.porter }
     requires pool { Contains J.pools pool.now }
@@ -186,13 +185,19 @@ fn work_at<J: Pools, R: Wait, G: Gate>(
 }
 
 /// A worker for each task, each in a thread of its own where one can be made. Where none can, the caller does that work itself.
-pub(crate) fn work_all<'a, J: Pools + Send + Sync, R: Threads + Wait + Sync, G: Gate>(
+pub(crate) fn work_all<
+    'a,
+    J: Pools + Send + Sync,
+    A: Play + Send,
+    R: Threads + Wait + Sync,
+    G: Gate,
+>(
     rt: &R,
     pool: &SharedPool,
     trace: &Trace,
     morgue: &Morgue<J>,
     gate: &G,
-    tasks: Vec<Task<'a, J>>,
+    tasks: Vec<Task<'a, J, A>>,
 ) -> Result<Vec<Worked<J>>, AllocError>
     requires tasks { (i : ℕ) (d : _) → i < length tasks.items → let k = slice_index_or tasks.items i d in (k.job.token.account.who ≡ i) × IsTask trace.now pool.now morgue.now k.job k.porter }
     requires pool { Contains J.pools pool.now }
@@ -202,7 +207,7 @@ pub(crate) fn work_all<'a, J: Pools + Send + Sync, R: Threads + Wait + Sync, G: 
     thread::map_vec(
         rt,
         tasks,
-        &|task: Task<J>| -> Worked<J>
+        &|task: Task<J, A>| -> Worked<J>
             requires { IsTask trace.now pool.now morgue.now task.job task.porter × Contains J.pools pool.now }
             ensures { HasWorked trace.entry.now pool.entry.now morgue.entry.now task.entry.job.token.account.who result.porter result.outcome }
         { work_at(rt, pool, trace, morgue, gate, task) },

@@ -1,8 +1,6 @@
 -- what is said of an answer, where there is one
-use Rattle.std.proofs.Common.{◌≡◌, true, sym}
-use Rattle.std.specs.Prelude.{Option, Some, None, IfSome}
-use Rattle.std.specs.Option.{is_some}
-use Rattle.std.proofs.lemmas.Bool.{true≢false}
+use Rattle.std.proofs.{Common.{◌≡◌, true, sym}, lemmas.Bool.true≢false}
+use Rattle.std.specs.{Prelude.{Option, Some, None, IfSome}, Option.is_some}
 
 pub some_map : {A : Type 0} (P Q : A → Type 0) (o : Option A) → ((a : A) → P a → Q a) → IfSome o P → IfSome o Q
 some_map P Q None f h = tt

@@ -1,24 +1,12 @@
 -- what a call on a pool leaves, of the machine as it was made
 use Rattle.std.proofs.Common.{◌≡◌, ℕ, ◌<◌, Bool, true, List, [], refl, sym, subst}
-use Rattle.std.specs.Prelude.{Option, Some, None, IfSome}
-use Rattle.std.specs.Option.{is_some}
+use Rattle.std.specs.{Prelude.{Option, Some, None, IfSome}, Option.is_some}
 use Rattle.shm_words.specs.Layout.{GeometryFits}
-use Rattle.shm_graph.specs.declared.ask.Me.{Me}
-use Rattle.shm_graph.specs.declared.memo.Memo.{Memo}
-use Rattle.shm_graph.specs.Agents.{acts, recovers}
-use Rattle.shm_graph.specs.Asks.{Trail}
-use Rattle.shm_graph.specs.Events.{Event}
-use Rattle.shm_graph.specs.Idle.{IsIdle}
-use Rattle.shm_graph.specs.Laws.{Control, Laws}
-use Rattle.shm_graph.specs.Operations.{IsReady}
-use Rattle.shm_graph.specs.Runs.{memos_of}
-use Rattle.shm_graph.specs.Spots.{see}
-use Rattle.shm_graph.specs.Tells.{Tells, happens_along}
-use Rattle.shm_graph.specs.Whole.{fits_now, gives_now}
-use Rattle.shm_plain.specs.Pools.{Pool, IsOf, IsRun, memo_of, readied}
-use Rattle.shm_plain.specs.Calls.{Did, IsAtWork, Ran, Took}
-use Rattle.shm_plain.proofs.Calling.{fits_acting, may_acting, still_kind, still_working}
-use Rattle.shm_plain.proofs.OwnTurns.{called_did}
+use Rattle.shm_graph.specs.{declared.{ask.Me.Me, memo.Memo.Memo}, Agents.{acts, recovers}, Asks.Trail, Events.Event}
+use Rattle.shm_graph.specs.{Idle.IsIdle, Laws.{Control, Laws}, Operations.IsReady, Runs.memos_of, Spots.see}
+use Rattle.shm_graph.specs.{Tells.{Tells, happens_along}, Whole.{fits_now, gives_now}}
+use Rattle.shm_plain.specs.{Pools.{Pool, IsOf, IsRun, memo_of, readied}, Calls.{Did, IsAtWork, Ran, Took}}
+use Rattle.shm_plain.proofs.{Calling.{fits_acting, may_acting, still_kind, still_working}, OwnTurns.called_did}
 use Rattle.shm_plain.proofs.Answering.{some_map}
 
 -- ---- what it says

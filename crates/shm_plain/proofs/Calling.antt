@@ -1,41 +1,25 @@
 -- a machine that goes on, step by step, on a pool
 use Rattle.std.proofs.Common.{◌≡◌, ◌≢◌, ℕ, ◌+◌, ◌<◌, ◌&&◌, true, false, Bool, cond, List, [], ◌∷◌, ◌++◌, length, append_assoc, append-nil, refl, sym, ap, ◌∙◌, subst, arith, inl, inr, ◌⊎◌}
-use Rattle.std.specs.Prelude.{Option, Some, None}
 use Rattle.std.proofs.lemmas.Bool.{cases_eq, true≢false}
 use Rattle.std.proofs.lemmas.List.{get_or-set_same, get_or-set_other, length-append, length-set}
-use Rattle.shm_graph.specs.declared.ask.Turn.{Turn}
-use Rattle.shm_graph.specs.declared.ask.Turn.TheVariants.{More, Done}
-use Rattle.shm_graph.specs.declared.memo.Agent.{Agent}
-use Rattle.shm_graph.specs.declared.memo.Kind.{Kind}
-use Rattle.shm_graph.specs.declared.memo.Kind.TheVariants.{Recoverer, Client}
-use Rattle.shm_graph.specs.declared.memo.Memo.{Memo}
-use Rattle.shm_graph.specs.declared.memo.Status.{Status as AStatus}
-use Rattle.shm_graph.specs.declared.memo.Status.TheVariants.{Gone, Live}
-use Rattle.shm_graph.specs.declared.memo.Step.{Step}
-use Rattle.shm_graph.specs.declared.run.Account.{Account}
-use Rattle.shm_graph.specs.declared.spot.Spot.{Spot}
-use Rattle.shm_graph.specs.declared.run.Start.{Start}
-use Rattle.shm_graph.specs.Idle.{IsIdle}
-use Rattle.shm_words.specs.Layout.{GeometryFits}
-use Rattle.shm_graph.specs.Asks.{Trail, call_before, pair}
+use Rattle.std.specs.Prelude.{Option, Some, None}
+use Rattle.shm_graph.specs.declared.{ask.Turn.{Turn, TheVariants.{More, Done}}, memo.{Agent.Agent, Kind.Kind}}
+use Rattle.shm_graph.specs.declared.memo.{Kind.TheVariants.{Recoverer, Client}, Memo.Memo, Status.Status as AStatus}
+use Rattle.shm_graph.specs.declared.{memo.{Status.TheVariants.{Gone, Live}, Step.Step, Seen.Seen}, run.Account.Account}
+use Rattle.shm_graph.specs.declared.{run.{Start.Start, Move.{Move, TheVariants.{Word, Begins}}}, spot.Spot.Spot}
+use Rattle.shm_graph.specs.{Idle.IsIdle, Asks.{Trail, call_before, pair}}
 use Rattle.shm_graph.specs.Agents.{acts, recovers, entered, is_gone, last_agent, with_last, ended, stepped, steps_made}
-use Rattle.shm_graph.specs.declared.memo.Seen.{Seen}
-use Rattle.shm_graph.specs.declared.run.Move.{Move}
-use Rattle.shm_graph.specs.declared.run.Move.TheVariants.{Word, Begins}
-use Rattle.shm_graph.specs.Tells.{GoesOn, after_all, machine_steps}
-use Rattle.shm_graph.proofs.Machines.TellsAlong.{after_all-append}
-use Rattle.shm_graph.specs.Changes.{memo_on, asked_spot}
+use Rattle.shm_graph.specs.{Tells.{GoesOn, after_all, machine_steps}, Changes.{memo_on, asked_spot}}
 use Rattle.shm_graph.specs.Laws.{Control, Steady, Back, Outcome, is_died, is_some, step_of, turn_of}
 use Rattle.shm_graph.specs.Runs.{MayBegin, account_at, account_after, account_entered, changed, fell_by, memos_of}
 use Rattle.shm_graph.specs.Whole.{fits_now, gives_now}
-use Rattle.shm_graph.proofs.Runs.Going.{account_acts-on, account_acts-here, whole_back}
-use Rattle.shm_graph.proofs.Runs.Lists.{account_part}
+use Rattle.shm_graph.proofs.Machines.TellsAlong.{after_all-append}
+use Rattle.shm_graph.proofs.Runs.{Going.{account_acts-on, account_acts-here, whole_back}, Lists.account_part}
 use Rattle.shm_graph.proofs.Memos.MemoSteps.{acts_after, acts-entered, agents_after, ends_agent, last-with_last, memo_agents, with_some, recovers_on, steps_entered, steps_on}
+use Rattle.shm_words.specs.Layout.{GeometryFits}
 use Rattle.shm_plain.specs.Pools.{Pool, pool, IsOf, IsRun, MayStep, memo_of, readied, turn_on, turned}
-use Rattle.shm_plain.specs.Calls.{IsAtWork, Ran, Took, words}
-use Rattle.shm_plain.specs.Tracks.{kind_next}
-use Rattle.shm_plain.proofs.OwnTurns.{did_none, took_grew}
-use Rattle.shm_plain.proofs.Turning.{ready_memo}
+use Rattle.shm_plain.specs.{Calls.{IsAtWork, Ran, Took, words}, Tracks.kind_next}
+use Rattle.shm_plain.proofs.{OwnTurns.{did_none, took_grew}, Turning.ready_memo}
 
 -- ---- the pool in which an agent of c acts
 

@@ -1,22 +1,12 @@
 -- the queues of a pool: what waits in them, and which item is the first one
 use Rattle.std.proofs.Common.{◌≡◌, ◌≢◌, ℕ, zero, suc, ◌+◌, ◌<◌, ◌≤◌, refl, sym, ap, ◌∙◌, subst, arith, List, [], ◌∷◌, ◌++◌, append_assoc, length, drop, drop-cons, take-append-drop, length-drop}
-use Rattle.std.specs.List.{Contains}
-use Rattle.std.specs.Prelude.{slice_index, slice_index_or}
-use Rattle.std.proofs.lemmas.Bool.{eq-eqb}
-use Rattle.std.proofs.lemmas.List.{append_cancel_left}
-use Rattle.std.proofs.lemmas.List.Elements.{All-contains}
-use Rattle.shm_graph.specs.declared.memo.Memo.{Memo}
-use Rattle.shm_graph.specs.declared.memo.Stored.{Stored}
-use Rattle.shm_graph.specs.declared.spot.Spot.TheVariants.{QueueHead, Tail, Slot}
-use Rattle.shm_graph.specs.Held.{HeldAt}
-use Rattle.shm_graph.specs.Runs.{memos_of}
-use Rattle.shm_graph.specs.Spots.{see}
-use Rattle.shm_graph.specs.MemoAfterStore.{lane_with, put}
+use Rattle.std.proofs.lemmas.{Bool.eq-eqb, List.{append_cancel_left, Elements.All-contains}}
+use Rattle.std.specs.{List.Contains, Prelude.{slice_index, slice_index_or}}
+use Rattle.shm_graph.specs.declared.{memo.{Memo.Memo, Stored.Stored}, spot.Spot.TheVariants.{QueueHead, Tail, Slot}}
+use Rattle.shm_graph.specs.{Held.HeldAt, Runs.memos_of, Spots.see, MemoAfterStore.{lane_with, put}}
 use Rattle.shm_graph.specs.Views.{own_word, targets, view}
-use Rattle.shm_graph.proofs.Memos.KnownChange.{KnownHolds}
-use Rattle.shm_graph.proofs.States.Reached.{known_target}
-use Rattle.shm_plain.specs.Lanes.{IsFirst, Wait, received_of, sent_of}
-use Rattle.shm_plain.specs.Pools.{Pool, IsRun, memo_of}
+use Rattle.shm_graph.proofs.{Memos.KnownChange.KnownHolds, States.Reached.known_target}
+use Rattle.shm_plain.specs.{Lanes.{IsFirst, Wait, received_of, sent_of}, Pools.{Pool, IsRun, memo_of}}
 
 module _ (p : Pool) (s c : ℕ) (run : IsRun p) (ls : s < p.start.geometry.clients) (lc : c < p.start.geometry.clients) (other : s ≢ c) where
   held : HeldAt p.start.geometry (see p.start.geometry p.words) (view (memos_of p.accounts))

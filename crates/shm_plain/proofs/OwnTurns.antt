@@ -1,29 +1,17 @@
 -- the turns by which a machine made a pool grow, and the events among them
 use Rattle.std.proofs.Common.{◌≡◌, ◌==◌, ℕ, ◌<◌, Bool, true, false, cond, List, [], ◌∷◌, ◌++◌, append_assoc, append-nil, refl, sym, ap, ◌∙◌, subst}
-use Rattle.std.specs.List.{filter}
 use Rattle.std.proofs.lemmas.Bool.{cond-true, eq-eqb}
+use Rattle.std.specs.List.{filter}
 use Rattle.shm_words.specs.declared.geometry.Geometry.{Geometry}
-use Rattle.shm_graph.specs.declared.ask.Me.{Me}
-use Rattle.shm_graph.specs.declared.memo.Kind.{Kind}
-use Rattle.shm_graph.specs.declared.memo.Memo.{Memo}
-use Rattle.shm_graph.specs.declared.memo.Seen.{Seen}
-use Rattle.shm_graph.specs.declared.memo.Step.{Step}
-use Rattle.shm_graph.specs.declared.run.Account.{Account}
-use Rattle.shm_graph.specs.declared.run.Move.{Move}
-use Rattle.shm_graph.specs.declared.run.Move.TheVariants.{Begins}
-use Rattle.shm_graph.specs.declared.run.Start.{Start}
-use Rattle.shm_graph.specs.Agents.{acts}
-use Rattle.shm_graph.specs.Asks.{Trail, call_before}
-use Rattle.shm_graph.specs.CallEvents.{IsUnbroken, events_in, steps_in}
-use Rattle.shm_graph.specs.Events.{Event}
+use Rattle.shm_graph.specs.declared.{ask.Me.Me, memo.{Kind.Kind, Memo.Memo, Seen.Seen, Step.Step}, run.Account.Account}
+use Rattle.shm_graph.specs.{declared.run.{Move.{Move, TheVariants.Begins}, Start.Start}, Agents.acts}
+use Rattle.shm_graph.specs.{Asks.{Trail, call_before}, CallEvents.{IsUnbroken, events_in, steps_in}, Events.Event}
 use Rattle.shm_graph.specs.Laws.{Control, Laws, Steady, step_of}
 use Rattle.shm_graph.specs.Runs.{Leads, State, account_entered, changed, first_state, moved}
-use Rattle.shm_graph.specs.Tells.{GoesOn, Tells, happens_along, is_event, machine_steps, tells_along}
-use Rattle.shm_graph.specs.Whole.{fits_now}
+use Rattle.shm_graph.specs.{Tells.{GoesOn, Tells, happens_along, is_event, machine_steps, tells_along}, Whole.fits_now}
 use Rattle.shm_graph.proofs.Runs.OwnEvents.{own_told}
 use Rattle.shm_plain.specs.Pools.{Pool, pool, IsOf, IsRun, MayStep, memo_of, readied}
-use Rattle.shm_plain.specs.Calls.{AreOf, Did, Took, state_of, words}
-use Rattle.shm_plain.specs.Tracks.{kind_next}
+use Rattle.shm_plain.specs.{Calls.{AreOf, Did, Took, state_of, words}, Tracks.kind_next}
 use Rattle.shm_plain.proofs.Turning.{ready_run}
 
 -- what leads on from where a run ends

@@ -1,17 +1,10 @@
 -- in a pool that nobody is at work on the words hold the partitions of the memos
 use Rattle.std.proofs.Common.{ℕ, ◌<◌, subst}
 use Rattle.shm_words.specs.declared.geometry.Geometry.{Geometry}
-use Rattle.shm_graph.specs.declared.spot.Spot.{Spot}
-use Rattle.shm_graph.specs.declared.spot.Spot.TheVariants.{Home}
-use Rattle.shm_graph.specs.Held.{PartTie}
-use Rattle.shm_graph.specs.References.{references}
-use Rattle.shm_graph.specs.Runs.{memos_of}
-use Rattle.shm_graph.specs.Spots.{see}
-use Rattle.shm_graph.specs.Tables.{contents_of}
-use Rattle.shm_graph.specs.Views.{View, view}
+use Rattle.shm_graph.specs.{declared.spot.Spot.{Spot, TheVariants.Home}, Held.PartTie, References.references}
+use Rattle.shm_graph.specs.{Runs.memos_of, Spots.see, Tables.contents_of, Views.{View, view}}
 use Rattle.shm_graph.proofs.States.StillClean.{targets_still}
-use Rattle.shm_plain.specs.Closings.{IsStill}
-use Rattle.shm_plain.specs.Pools.{IsRun, Pool, memo_of}
+use Rattle.shm_plain.specs.{Closings.IsStill, Pools.{IsRun, Pool, memo_of}}
 
 module _ (p : Pool) (run : IsRun p) (still : IsStill p) where
   abbrev g : Geometry

@@ -1,20 +1,14 @@
 -- the status words tell whether a pool is still
-use Rattle.std.proofs.Common.{◌≡◌, ℕ, ◌<◌, ◌⊎◌, inl, inr, refl, sym, ap, ◌∙◌, arith}
+use Rattle.std.proofs.{Common.{◌≡◌, ℕ, ◌<◌, ◌⊎◌, inl, inr, refl, sym, ap, ◌∙◌, arith}, lemmas.Bool.lt-ltb}
 use Rattle.std.specs.Prelude.{slice_index}
-use Rattle.std.proofs.lemmas.Bool.{lt-ltb}
-use Rattle.shm_words.specs.declared.place.Place.TheVariants as place
 use Rattle.shm_words.specs.Layout.{address, total_of}
-use Rattle.shm_graph.specs.declared.spot.Spot.TheVariants.{Status}
-use Rattle.shm_graph.specs.declared.memo.Status.{Status as AStatus}
+use Rattle.shm_words.specs.declared.place.Place.TheVariants as place
+use Rattle.shm_graph.specs.declared.{spot.Spot.TheVariants.Status, memo.Status.Status as AStatus}
 use Rattle.shm_graph.specs.declared.memo.Status.TheVariants.{New, Live, Dead, Gone}
-use Rattle.shm_graph.specs.Spots.{IsAt, classes_in, spot_address}
-use Rattle.shm_graph.specs.Held.{status_word}
-use Rattle.shm_graph.proofs.Spots.Seeing.{see_there}
-use Rattle.shm_graph.proofs.Spots.SpotPlaces.{status_at}
-use Rattle.shm_graph.proofs.Spots.Spotting.{at_below}
+use Rattle.shm_graph.specs.{Spots.{IsAt, classes_in, spot_address}, Held.status_word}
+use Rattle.shm_graph.proofs.Spots.{Seeing.see_there, SpotPlaces.status_at, Spotting.at_below}
 use Rattle.shm_graph.proofs.States.StillClean.{still_state_clean}
-use Rattle.shm_plain.specs.Pools.{Pool, IsRun, memo_of}
-use Rattle.shm_plain.specs.Closings.{IsClosedRun, IsStill}
+use Rattle.shm_plain.specs.{Pools.{Pool, IsRun, memo_of}, Closings.{IsClosedRun, IsStill}}
 
 status_there : (p : Pool) (c : ℕ) → c < p.start.geometry.clients → IsAt p.start.geometry (classes_in p.start.geometry p.words) (Status c)
 status_there p c l = status_at p.start.geometry (classes_in p.start.geometry p.words) c (lt-ltb c p.start.geometry.clients l)

@@ -2,23 +2,13 @@
 use Rattle.std.proofs.Common.{◌≡◌, ℕ, ◌<◌, true, false, Bool, cond, List, [], ◌∷◌, ◌++◌, length, refl, sym, ap, ◌∙◌, subst}
 use Rattle.std.proofs.lemmas.List.{get_or-set_same}
 use Rattle.std.specs.Prelude.{Some}
-use Rattle.shm_words.specs.declared.geometry.Geometry.{Geometry}
-use Rattle.shm_words.specs.Layout.{total_of, GeometryFits}
-use Rattle.shm_graph.specs.declared.ask.Me.{Me}
-use Rattle.shm_graph.specs.declared.memo.Agent.{Agent}
-use Rattle.shm_graph.specs.declared.memo.Kind.{Kind}
-use Rattle.shm_graph.specs.declared.memo.Memo.{Memo}
-use Rattle.shm_graph.specs.declared.memo.Step.{Step}
-use Rattle.shm_graph.specs.declared.run.Account.{Account}
-use Rattle.shm_graph.specs.declared.run.Move.TheVariants.{Word, Dies, Begins}
-use Rattle.shm_graph.specs.declared.run.Start.{Start}
-use Rattle.shm_graph.specs.Asks.{at_of}
-use Rattle.shm_graph.specs.Agents.{acts, acts_by, entered, last_agent}
-use Rattle.shm_graph.specs.Laws.{Control, Outcome}
+use Rattle.shm_words.specs.{declared.geometry.Geometry.Geometry, Layout.{total_of, GeometryFits}}
+use Rattle.shm_graph.specs.declared.{ask.Me.Me, memo.{Agent.Agent, Kind.Kind, Memo.Memo, Step.Step}}
+use Rattle.shm_graph.specs.declared.run.{Account.Account, Move.TheVariants.{Word, Dies, Begins}, Start.Start}
+use Rattle.shm_graph.specs.{Asks.at_of, Agents.{acts, acts_by, entered, last_agent}, Laws.{Control, Outcome}}
 use Rattle.shm_graph.specs.Runs.{Turned, state, Held, account_at, account_after, account_died, account_entered, accounts_after, changed, memos_of, EraFits}
 use Rattle.shm_graph.specs.Whole.{WholeInside, WholeKeeps, WholeKept, Learns}
-use Rattle.shm_graph.proofs.States.FirstHeld.{first_held}
-use Rattle.shm_graph.proofs.Runs.Running.{Leads-more, turned-begins, turned-dies}
+use Rattle.shm_graph.proofs.{States.FirstHeld.first_held, Runs.Running.{Leads-more, turned-begins, turned-dies}}
 use Rattle.shm_plain.specs.Pools.{Pool, pool, first_pool, memo_of, IsRun, IsOf, MayStep, readied, turn_on, turned, after_fall}
 use Rattle.shm_plain.specs.Tracks.{kind_next}
 

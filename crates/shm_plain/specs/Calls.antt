@@ -1,18 +1,10 @@
 -- calls on a pool: machines of one identity that are stepped until they answer, or until no word step is left
-use Rattle.std.specs.Prelude.{◌≡◌, ◌≢◌, ℕ, ◌+◌, ◌<◌, Bool, true, false, List, [], ◌∷◌, ◌++◌, length}
-use Rattle.std.specs.List.{filter}
+use Rattle.std.specs.{Prelude.{◌≡◌, ◌≢◌, ℕ, ◌+◌, ◌<◌, Bool, true, false, List, [], ◌∷◌, ◌++◌, length}, List.filter}
 use Rattle.shm_words.specs.Layout.{GeometryFits}
-use Rattle.shm_graph.specs.declared.memo.Status.TheVariants.{Gone}
-use Rattle.shm_graph.specs.declared.memo.Step.{Step}
-use Rattle.shm_graph.specs.declared.run.Move.{Move}
+use Rattle.shm_graph.specs.declared.{memo.{Status.TheVariants.Gone, Step.Step}, run.Move.Move}
 use Rattle.shm_graph.specs.declared.run.Move.TheVariants.{Word, Dies, Begins}
-use Rattle.shm_graph.specs.Agents.{acts, last_agent, recovers, steps_made}
-use Rattle.shm_graph.specs.Asks.{Trail, call_before}
-use Rattle.shm_graph.specs.CallEvents.{events_in}
-use Rattle.shm_graph.specs.Events.{Event}
-use Rattle.shm_graph.specs.Idle.{IsIdle}
-use Rattle.shm_graph.specs.Laws.{Control}
-use Rattle.shm_graph.specs.Runs.{State, fell_by, state}
+use Rattle.shm_graph.specs.{Agents.{acts, last_agent, recovers, steps_made}, Asks.{Trail, call_before}}
+use Rattle.shm_graph.specs.{CallEvents.events_in, Events.Event, Idle.IsIdle, Laws.Control, Runs.{State, fell_by, state}}
 use Rattle.shm_graph.specs.Tells.{GoesOn, is_event, machine_steps}
 use Rattle.shm_plain.specs.Pools.{Pool, IsRun, MayStep, memo_of, readied}
 

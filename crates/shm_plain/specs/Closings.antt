@@ -1,8 +1,6 @@
 -- a pool that nobody is at work on, and one that was closed
 use Rattle.std.specs.Prelude.{◌≡◌, ℕ, ◌<◌, ◌⊎◌}
-use Rattle.shm_graph.specs.declared.memo.Status.TheVariants.{New, Gone}
-use Rattle.shm_graph.specs.Clean.{IsClean}
-use Rattle.shm_graph.specs.Spots.{see}
+use Rattle.shm_graph.specs.{declared.memo.Status.TheVariants.{New, Gone}, Clean.IsClean, Spots.see}
 use Rattle.shm_plain.specs.Pools.{Pool, IsRun, memo_of}
 
 -- nobody has joined, or who joined is gone: each identity is so

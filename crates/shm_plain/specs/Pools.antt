@@ -1,13 +1,7 @@
 -- a pool as contracts see it
 use Rattle.std.specs.Prelude.{◌≡◌, ℕ, ◌<◌, List, [], ◌∷◌, ◌++◌, slice_index, false}
-use Rattle.shm_graph.specs.declared.memo.Memo.{Memo}
-use Rattle.shm_graph.specs.declared.memo.Step.{Step}
-use Rattle.shm_graph.specs.declared.run.Start.{Start}
-use Rattle.shm_graph.specs.declared.run.Account.{Account}
-use Rattle.shm_graph.specs.declared.run.Move.{Move}
-use Rattle.shm_graph.specs.declared.run.Move.TheVariants.{Word}
-use Rattle.shm_graph.specs.Asks.{at_of, seen_of, words_set}
-use Rattle.shm_graph.specs.Agents.{acts}
+use Rattle.shm_graph.specs.declared.{memo.{Memo.Memo, Step.Step}, run.{Start.Start, Account.Account, Move.Move}}
+use Rattle.shm_graph.specs.{declared.run.Move.TheVariants.Word, Asks.{at_of, seen_of, words_set}, Agents.acts}
 use Rattle.shm_graph.specs.Laws.{Control, step_of}
 use Rattle.shm_graph.specs.Runs.{Held, Leads, MayBegin, state, first_state, first_words, accounts_from, accounts_after, memos_of}
 use Rattle.shm_plain.specs.Tracks.{kind_next, ready_accounts, ready_turns, fall_accounts, fall_turns}

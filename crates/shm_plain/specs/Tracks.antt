@@ -1,13 +1,7 @@
 -- what the seat of a pool knows, and how a turn changes it
 use Rattle.std.specs.Prelude.{ℕ, List, [], ◌∷◌, ◌++◌, if◌then◌else◌}
-use Rattle.shm_graph.specs.declared.memo.Kind.{Kind}
-use Rattle.shm_graph.specs.declared.memo.Kind.TheVariants.{Client, Recoverer}
-use Rattle.shm_graph.specs.declared.memo.Memo.{Memo}
-use Rattle.shm_graph.specs.declared.memo.Step.{Step}
-use Rattle.shm_graph.specs.declared.run.Start.{Start}
-use Rattle.shm_graph.specs.declared.run.Account.{Account}
-use Rattle.shm_graph.specs.declared.run.Move.{Move}
-use Rattle.shm_graph.specs.declared.run.Move.TheVariants.{Word, Dies, Begins}
+use Rattle.shm_graph.specs.declared.memo.{Kind.{Kind, TheVariants.{Client, Recoverer}}, Memo.Memo, Step.Step}
+use Rattle.shm_graph.specs.declared.run.{Start.Start, Account.Account, Move.{Move, TheVariants.{Word, Dies, Begins}}}
 use Rattle.shm_graph.specs.Agents.{acts, last_agent}
 use Rattle.shm_graph.specs.Runs.{accounts_from, accounts_after, account_died, account_entered, changed, fell_by, memos_of}
 use Rattle.shm_plain.specs.declared.track.Track.{Track}

@@ -1,14 +1,10 @@
 //! Calls on a pool.
 
-ghost use Rattle.std.specs.Prelude.{◌≡◌, ℕ, ◌+◌, ◌<◌, true, false, length, IfSome};
-ghost use Rattle.std.specs.Option.{is_some};
+ghost use Rattle.std.specs.{Prelude.{◌≡◌, ℕ, ◌+◌, ◌<◌, true, false, length, IfSome}, Option.is_some};
 ghost use Rattle.shm_words.specs.Layout.{GeometryFits};
-ghost use Rattle.shm_graph.specs.declared.memo.Memo.{Memo};
-ghost use Rattle.shm_graph.specs.Events.{Event};
-ghost use Rattle.shm_graph.specs.Tells.{Tells, happens_along};
+ghost use Rattle.shm_graph.specs.{declared.memo.Memo.Memo, Events.Event, Tells.{Tells, happens_along}};
 ghost use Rattle.shm_graph.specs.Whole.{fits_now, gives_now};
-ghost use Rattle.shm_plain.specs.Pools.{IsOf, IsRun, MayStep, memo_of, readied};
-ghost use Rattle.shm_plain.specs.Calls.{Did, IsAtWork, Ran, Took};
+ghost use Rattle.shm_plain.specs.{Pools.{IsOf, IsRun, MayStep, memo_of, readied}, Calls.{Did, IsAtWork, Ran, Took}};
 
 use crate::pool::PlainPool;
 use shm_calls::Begin;

@@ -2,24 +2,14 @@
 
 ghost use Rattle.std.specs.Prelude.{◌≡◌, ◌≢◌, ℕ, ◌+◌, ◌<◌, ◌≤◌, List, [], length, ◌∷◌, ◌++◌, slice_index_or};
 ghost use Rattle.std.specs.List.{Contains};
-ghost use Rattle.shm_graph.specs.declared.memo.Step.{Step as AStep};
-ghost use Rattle.shm_graph.specs.declared.run.Move.{Move as AMove};
-ghost use Rattle.shm_graph.specs.declared.run.Move.TheVariants.{Word};
+ghost use Rattle.shm_graph.specs.declared.{memo.Step.Step as AStep, run.Move.{Move as AMove, TheVariants.Word}};
 ghost use Rattle.shm_graph.specs.declared.run.Start.{Start as AStart};
 ghost use Rattle.shm_graph.specs.declared.spot.Spot.TheVariants.{Era, Home, QueueHead, Slot, Tail};
-ghost use Rattle.shm_graph.specs.declared.table.Entry.{Entry as AnEntry};
-ghost use Rattle.shm_graph.specs.declared.table.Part.TheVariants.{Table};
-ghost use Rattle.shm_graph.specs.Agents.{steps_made};
-ghost use Rattle.shm_graph.specs.Asks.{at_of};
-ghost use Rattle.shm_graph.specs.Events.{Happens, graph_of};
-ghost use Rattle.shm_graph.specs.Laws.{event_on};
-ghost use Rattle.shm_graph.specs.References.{references};
-ghost use Rattle.shm_graph.specs.Runs.{State, IsMove, Leads, first_state, memos_of, moved};
-ghost use Rattle.shm_graph.specs.Sound.{IsSound};
-ghost use Rattle.shm_graph.specs.Spots.{classes_in, see, spot_at};
-ghost use Rattle.shm_graph.specs.MemoAfterStore.{lane_with};
-ghost use Rattle.shm_graph.specs.Tables.{IsPartition, contents_of};
-ghost use Rattle.shm_graph.specs.Views.{own_word, view};
+ghost use Rattle.shm_graph.specs.{declared.table.{Entry.Entry as AnEntry, Part.TheVariants.Table}, Agents.steps_made};
+ghost use Rattle.shm_graph.specs.{Asks.at_of, Events.{Happens, graph_of}, Laws.event_on, References.references};
+ghost use Rattle.shm_graph.specs.{Runs.{State, IsMove, Leads, first_state, memos_of, moved}, Sound.IsSound};
+ghost use Rattle.shm_graph.specs.{Spots.{classes_in, see, spot_at}, MemoAfterStore.lane_with};
+ghost use Rattle.shm_graph.specs.{Tables.{IsPartition, contents_of}, Views.{own_word, view}};
 ghost use Rattle.shm_plain.specs.Lanes.{IsFirst, Wait, received_of, sent_of};
 ghost use Rattle.shm_plain.specs.Pools.{Pool as APool, IsRun, after_fall, first_pool, memo_of};
 

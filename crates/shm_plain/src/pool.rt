@@ -2,11 +2,8 @@
 
 ghost use Rattle.std.specs.Prelude.{◌≡◌, ℕ, ◌+◌, ◌<◌, ◌↔◌, false, true, slice_index, IfOk};
 ghost use Rattle.shm_words.specs.Layout.{total_of, GeometryFits};
-ghost use Rattle.shm_graph.specs.declared.memo.Memo.{Memo};
-ghost use Rattle.shm_graph.specs.Agents.{acts};
-ghost use Rattle.shm_graph.specs.Laws.{turn_of, is_died, Outcome};
-ghost use Rattle.shm_graph.specs.Runs.{EraFits, MayBegin};
-ghost use Rattle.shm_graph.specs.Whole.{fits_now, gives_now, Learns};
+ghost use Rattle.shm_graph.specs.{declared.memo.Memo.Memo, Agents.acts, Laws.{turn_of, is_died, Outcome}};
+ghost use Rattle.shm_graph.specs.{Runs.{EraFits, MayBegin}, Whole.{fits_now, gives_now, Learns}};
 ghost use Rattle.shm_plain.specs.Tracks.{kind_next};
 ghost use Rattle.shm_plain.specs.Pools.{IsOf, IsRun, first_pool, memo_of, readied, turn_on, turned, MayStep, after_fall};
 

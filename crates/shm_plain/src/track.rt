@@ -3,8 +3,7 @@
 //! No value of them is made. Each turn changes the view by one load of that word.
 
 ghost use Rattle.std.specs.Prelude.{◌≡◌, ◌<◌, [], IfOk};
-ghost use Rattle.shm_plain.specs.Pools.{next_of};
-ghost use Rattle.shm_plain.specs.Tracks.{first_track, noted, fallen};
+ghost use Rattle.shm_plain.specs.{Pools.next_of, Tracks.{first_track, noted, fallen}};
 
 use atomic_table::{Play, Seat, Table, TableRule};
 use shm_graph::{Account, Machine, Move, Start};

@@ -2,21 +2,13 @@
 use Rattle.std.proofs.Common.{◌≡◌, ◌≢◌, ℕ, ◌<◌, Bool, true, false, cond, ◌&&◌, List, [], ◌∷◌, ◌++◌, refl, sym, ap, ◌∙◌, subst, true≢false}
 use Rattle.std.specs.Prelude.{if◌then◌else◌, Option, Some, None}
 use Rattle.shm_words.specs.declared.geometry.Geometry.{Geometry}
-use Rattle.shm_graph.specs.declared.ask.Me.{Me}
-use Rattle.shm_graph.specs.declared.ask.Turn.{Turn}
-use Rattle.shm_graph.specs.declared.memo.Memo.{Memo}
-use Rattle.shm_graph.specs.declared.memo.Status.{Status}
-use Rattle.shm_graph.specs.declared.memo.Status.TheVariants.{Gone, Live}
-use Rattle.shm_graph.specs.declared.memo.Step.{Step}
-use Rattle.shm_graph.specs.declared.run.Account.{Account}
-use Rattle.shm_graph.specs.Agents.{acts, is_gone, recovers}
-use Rattle.shm_graph.specs.Asks.{call_after}
-use Rattle.shm_graph.specs.Changes.{asked_spot}
+use Rattle.shm_graph.specs.declared.{ask.{Me.Me, Turn.Turn}, memo.{Memo.Memo, Status.Status}}
+use Rattle.shm_graph.specs.declared.{memo.{Status.TheVariants.{Gone, Live}, Step.Step}, run.Account.Account}
+use Rattle.shm_graph.specs.{Agents.{acts, is_gone, recovers}, Asks.call_after, Changes.asked_spot}
 use Rattle.shm_graph.specs.Laws.{Control, Steady, step_of, turn_of, is_died, is_done, is_some, Outcome}
 use Rattle.shm_graph.specs.Runs.{account_after, told_by, told_left, begun_by}
 use Rattle.shm_graph.proofs.Memos.MemoSteps.{acts_after, acts-on, memo_call, memo_over, recovers_on}
-use Rattle.shm_pool.specs.Rules.{IsOf}
-use Rattle.shm_pool.specs.Tokens.{IsServing, has_left}
+use Rattle.shm_pool.specs.{Rules.IsOf, Tokens.{IsServing, has_left}}
 use Rattle.shm_pool.specs.Calls.{Shown, shown, accounts_by, IsBy, Going, fresh_after, Ending, Calls, ClientStepped, Ongoing, Tells, acts_still}
 
 -- a step leaves what kind of agent acts

@@ -1,8 +1,6 @@
 -- an account of which an agent acts
 use Rattle.std.proofs.Common.{◌≡◌, Bool, true, false, cond, refl}
-use Rattle.shm_graph.specs.declared.memo.Kind.TheVariants.{Client}
-use Rattle.shm_graph.specs.declared.run.Account.{Account}
-use Rattle.shm_graph.specs.Agents.{acts}
+use Rattle.shm_graph.specs.{declared.{memo.Kind.TheVariants.Client, run.Account.Account}, Agents.acts}
 use Rattle.shm_graph.specs.Runs.{account_entered}
 use Rattle.shm_pool.specs.Tokens.{begun_account}
 

@@ -1,25 +1,13 @@
 -- a command of a client over the machine that it ran
-use Rattle.std.proofs.Common.{◌≡◌, ℕ, ◌++◌, true, false, Option, refl, sym, ap, ◌∙◌, subst}
-use Rattle.std.proofs.lemmas.Bool.{true≢false}
-use Rattle.shm_graph.specs.declared.ask.Me.{Me}
-use Rattle.shm_graph.specs.declared.memo.Memo.{Memo}
-use Rattle.shm_graph.specs.declared.run.Account.{Account}
-use Rattle.shm_graph.specs.Asks.{Trail, call_before}
-use Rattle.shm_graph.specs.Runs.{Stood}
-use Rattle.shm_graph.specs.Tells.{after_all}
-use Rattle.shm_graph.specs.Whole.{fits_now}
-use Rattle.shm_script.specs.declared.line.Line.{Line}
+use Rattle.std.proofs.{Common.{◌≡◌, ℕ, ◌++◌, true, false, Option, refl, sym, ap, ◌∙◌, subst}, lemmas.Bool.true≢false}
+use Rattle.shm_graph.specs.{declared.{ask.Me.Me, memo.Memo.Memo, run.Account.Account}, Asks.{Trail, call_before}}
+use Rattle.shm_graph.specs.{Runs.Stood, Tells.after_all, Whole.fits_now}
+use Rattle.shm_script.specs.declared.{line.Line.Line, log.Answer.Answer}
 use Rattle.shm_script.specs.declared.line.Line.TheVariants as line
-use Rattle.shm_script.specs.declared.log.Answer.{Answer}
 use Rattle.shm_table.specs.Command.{CommandCall, CommandFits, MayStand, command_control, command_does, command_effect, command_of}
-use Rattle.shm_table.specs.Command.Maps.{MapSoFar}
-use Rattle.shm_table.specs.Command.Operates.{CommandLeaves}
-use Rattle.shm_table.specs.TableTasks.{LineMay}
-use Rattle.shm_pool.specs.declared.reply.Reply.TheVariants.{Died, Done}
-use Rattle.shm_pool.specs.Called.{HasCommanded, HasEffect}
-use Rattle.shm_pool.specs.Calls.{Drives, StillFits, pairs}
-use Rattle.shm_pool.specs.Doing.{HasDone}
-use Rattle.shm_pool.specs.Tokens.{Acting, me_of}
+use Rattle.shm_table.specs.{Command.{Maps.MapSoFar, Operates.CommandLeaves}, TableTasks.LineMay}
+use Rattle.shm_pool.specs.{declared.reply.Reply.TheVariants.{Died, Done}, Called.{HasCommanded, HasEffect}}
+use Rattle.shm_pool.specs.{Calls.{Drives, StillFits, pairs}, Doing.HasDone, Tokens.{Acting, me_of}}
 use Rattle.shm_pool.proofs.Named.{done_dead, rests_by}
 
 -- a line that may begin is of identities of the pool

@@ -1,13 +1,12 @@
 -- which identities stand in which views
 use Rattle.std.proofs.Common.{◌≡◌, ◌≢◌, ℕ, zero, suc, ◌+◌, ◌<◌, ◌≤◌, ◌==◌, Bool, List, [], ◌∷◌, ◌++◌, length, set, sym, ap, ◌∙◌, subst, eq-eqb, ne_eqb, arith, length-set}
-use Rattle.std.specs.Prelude.{if◌then◌else◌}
 use Rattle.std.proofs.lemmas.List.{get_or-set_same, get_or-set_other}
+use Rattle.std.specs.Prelude.{if◌then◌else◌}
 use mathlib.Core.Option.{some, some-injective, some-ne-none}
 use mathlib.Core.Logic.{dite}
 use native.Mathlib.Decide.{ℕ_discrete}
 use lib.ListN.{get_elem?}
-use Rattle.shm_graph.specs.declared.run.Account.{Account}
-use Rattle.shm_graph.specs.Runs.{account_at, IsAmong}
+use Rattle.shm_graph.specs.{declared.run.Account.Account, Runs.{account_at, IsAmong}}
 use Rattle.shm_pool.specs.Rules.{count_in, count_by, Knows, AllKnow, no_account}
 
 abbrev one_if : Bool → ℕ

@@ -1,29 +1,17 @@
 -- the steps that a machine asked for, and the events that it tells of them
 use Rattle.std.proofs.Common.{◌≡◌, ℕ, ◌+◌, ◌<◌, Bool, true, false, List, [], ◌∷◌, ◌++◌, length, append_assoc, refl, sym, ap, ◌∙◌, subst, arith, length-append}
+use Rattle.std.proofs.lemmas.{List.append-nil, Bool.{cond-true, eq-eqb}}
 use Rattle.std.specs.Prelude.{None, Some}
-use Rattle.std.proofs.lemmas.List.{append-nil}
-use Rattle.std.proofs.lemmas.Bool.{cond-true, eq-eqb}
 use Rattle.shm_words.specs.declared.geometry.Geometry.{Geometry}
-use Rattle.shm_graph.specs.declared.ask.Turn.{Turn}
-use Rattle.shm_graph.specs.declared.memo.Memo.{Memo}
-use Rattle.shm_graph.specs.declared.memo.Seen.{Seen}
-use Rattle.shm_graph.specs.declared.memo.Step.{Step}
-use Rattle.shm_graph.specs.declared.run.Account.{Account}
-use Rattle.shm_graph.specs.declared.run.Move.TheVariants.{Word}
-use Rattle.shm_graph.specs.Spots.{spot_at, classes_in}
-use Rattle.shm_graph.specs.Asks.{Trail, at_of, call_before, pair}
-use Rattle.shm_graph.specs.CallEvents.{events_in, events_of, steps_in}
-use Rattle.shm_graph.specs.Changes.{asked_spot}
-use Rattle.shm_graph.specs.Events.{Event}
-use Rattle.shm_graph.specs.Laws.{Control, Laws, event_on, is_some, step_of}
+use Rattle.shm_graph.specs.declared.{ask.Turn.Turn, memo.{Memo.Memo, Seen.Seen, Step.Step}, run.Account.Account}
+use Rattle.shm_graph.specs.{declared.run.Move.TheVariants.Word, Spots.{spot_at, classes_in}}
+use Rattle.shm_graph.specs.{Asks.{Trail, at_of, call_before, pair}, CallEvents.{events_in, events_of, steps_in}}
+use Rattle.shm_graph.specs.{Changes.asked_spot, Events.Event, Laws.{Control, Laws, event_on, is_some, step_of}}
 use Rattle.shm_graph.specs.Runs.{State, account_after, memos_of, moved, state}
 use Rattle.shm_graph.specs.Tells.{Tells as TellsAll, after_all, machine_steps, tells_along}
 use Rattle.shm_graph.specs.Whole.{fits_now, gives_now}
-use Rattle.shm_graph.proofs.Machines.TellsAlong.{after_all-append}
-use Rattle.shm_graph.proofs.Runs.OwnEvents.{own_told}
-use Rattle.shm_pool.specs.declared.reply.Reply.{Reply}
-use Rattle.shm_pool.specs.declared.reply.Reply.TheVariants.{Done, Died}
-use Rattle.shm_pool.specs.Replies.{IfReply, is_reply}
+use Rattle.shm_graph.proofs.{Machines.TellsAlong.after_all-append, Runs.OwnEvents.own_told}
+use Rattle.shm_pool.specs.{declared.reply.Reply.{Reply, TheVariants.{Done, Died}}, Replies.{IfReply, is_reply}}
 use Rattle.shm_pool.specs.Rules.{IsMade}
 use Rattle.shm_pool.specs.Calls.{ClientStepped, Drives, Ending, IsDriven, Ongoing, Shown, accounts_by, fresh_after, pairs, shown}
 use Rattle.shm_pool.proofs.Calling.{accounts_more, fresh_more, going_more, is_by}

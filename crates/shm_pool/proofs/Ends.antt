@@ -1,14 +1,12 @@
 -- the accounts of a closed pool
 use Rattle.std.proofs.Common.{◌≡◌, ◌≢◌, ℕ, zero, suc, ◌+◌, ◌<◌, ◌≤◌, Bool, List, [], ◌∷◌, ◌++◌, length, get_or, refl, sym, ap, ◌∙◌, subst, eq-eqb, ne_eqb, arith}
-use Rattle.std.specs.Prelude.{if◌then◌else◌}
 use Rattle.std.proofs.lemmas.List.{ext_get_or}
+use Rattle.std.specs.Prelude.{if◌then◌else◌}
 use mathlib.Core.Logic.{dite}
 use native.Mathlib.Decide.{ℕ_discrete}
 use mathlib.Core.Option.{some}
 use lib.ListN.{get_elem?}
-use Rattle.shm_graph.specs.declared.run.Start.{Start}
-use Rattle.shm_graph.specs.declared.run.Account.{Account}
-use Rattle.shm_graph.specs.Runs.{account_at, memos_of}
+use Rattle.shm_graph.specs.{declared.run.{Start.Start, Account.Account}, Runs.{account_at, memos_of}}
 use Rattle.shm_graph.proofs.States.StillClean.{still_state_clean}
 use Rattle.shm_pool.specs.Rules.{count_in, Knows, Rule, no_account}
 use Rattle.shm_pool.specs.Tokens.{Its, Token, first_tokens, AllOf, accounts_of, AllStill, IsStill, find, by_who, IsClosedRun}

@@ -2,17 +2,10 @@
 use Rattle.std.proofs.Common.{◌≡◌, ◌<◌, ℕ, ap, ◌∙◌, subst, sym, inl, inr, refl, eq-eqb}
 use Rattle.std.specs.Prelude.{slice_index}
 use Rattle.shm_words.specs.Layout.{GeometryFits}
-use Rattle.shm_graph.specs.declared.memo.Kind.TheVariants.{Client}
-use Rattle.shm_graph.specs.declared.memo.Memo.{Memo}
-use Rattle.shm_graph.specs.declared.run.Account.{Account}
-use Rattle.shm_graph.specs.declared.run.Start.{Start}
+use Rattle.shm_graph.specs.declared.{memo.{Kind.TheVariants.Client, Memo.Memo}, run.{Account.Account, Start.Start}}
+use Rattle.shm_graph.specs.{Asks.Trail, Laws.GoneNow, Runs.{account_entered, memos_of, Stood}}
 use Rattle.shm_graph.specs.declared.spot.Spot.TheVariants as spot
-use Rattle.shm_graph.specs.Asks.{Trail}
-use Rattle.shm_graph.specs.Laws.{GoneNow}
-use Rattle.shm_graph.specs.Runs.{account_entered, memos_of, Stood}
-use Rattle.shm_recover.specs.Join.{JoinGives, join_fresh}
-use Rattle.shm_recover.specs.Leave.{MayLeave}
-use Rattle.shm_recover.specs.Leave.Gone.{idle_may_leave}
+use Rattle.shm_recover.specs.{Join.{JoinGives, join_fresh}, Leave.{MayLeave, Gone.idle_may_leave}}
 use Rattle.shm_pool.specs.Tokens.{Its, IsOut, me_of}
 
 -- an identity that is new or gone has nothing to finish

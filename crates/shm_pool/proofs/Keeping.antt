@@ -1,20 +1,12 @@
 -- a client that may leave may leave after a call, and one that has joined is between two calls
 use Rattle.std.proofs.Common.{◌≡◌, ℕ, true, List, ap, ◌∙◌, subst, Result}
 use Rattle.std.specs.Prelude.{slice_index}
-use Rattle.shm_graph.specs.declared.ask.Me.{Me}
-use Rattle.shm_graph.specs.declared.memo.Memo.{Memo}
-use Rattle.shm_graph.specs.Asks.{Trail}
-use Rattle.shm_graph.specs.Events.{Event}
-use Rattle.shm_graph.specs.Idle.{IsIdle}
-use Rattle.shm_alloc.specs.declared.alloc.AllocFault.{AllocFault}
-use Rattle.shm_alloc.specs.declared.point.AllocState.{AllocState}
+use Rattle.shm_graph.specs.{declared.{ask.Me.Me, memo.Memo.Memo}, Asks.Trail, Events.Event, Idle.IsIdle}
+use Rattle.shm_alloc.specs.declared.{alloc.AllocFault.AllocFault, point.AllocState.AllocState}
 use Rattle.shm_alloc.specs.Alloc.AsPart.{AllocLeaves}
 use Rattle.shm_count.specs.declared.answer.Made.{Made}
-use Rattle.shm_recover.specs.Join.{JoinGives, join_fresh}
-use Rattle.shm_recover.specs.Leave.{MayLeave}
-use Rattle.shm_recover.specs.Leave.Gone.{idle_may_leave}
-use Rattle.shm_pool.specs.Called.{Rests}
-use Rattle.shm_pool.specs.Tokens.{Acting}
+use Rattle.shm_recover.specs.{Join.{JoinGives, join_fresh}, Leave.{MayLeave, Gone.idle_may_leave}}
+use Rattle.shm_pool.specs.{Called.Rests, Tokens.Acting}
 use Rattle.shm_pool.proofs.Calling.{live_here}
 
 -- after an allocation

@@ -5,26 +5,13 @@ use mathlib.Core.Logic.{dite}
 use native.Mathlib.Decide.{ℕ_discrete}
 use Rattle.shm_words.specs.Layout.{address_limit, total_of}
 use Rattle.shm_words.proofs.Placing.{total_small}
-use Rattle.shm_graph.specs.declared.ask.Me.{Me}
-use Rattle.shm_graph.specs.declared.memo.Memo.{Memo}
-use Rattle.shm_graph.specs.Asks.{Trail}
-use Rattle.shm_graph.specs.Events.{Event}
-use Rattle.shm_graph.specs.Laws.{Control}
-use Rattle.shm_graph.specs.Operations.{IsReady}
-use Rattle.shm_graph.specs.Reach.{is_reached}
-use Rattle.shm_graph.specs.Runs.{Stood}
-use Rattle.shm_calls.specs.CallsControl.{calls_control, calls_does, calls_of}
-use Rattle.shm_calls.specs.Plans.{Planned}
-use Rattle.shm_calls.specs.Tasks.{CallsLeave}
+use Rattle.shm_graph.specs.{declared.{ask.Me.Me, memo.Memo.Memo}, Asks.Trail, Events.Event, Laws.Control}
+use Rattle.shm_graph.specs.{Operations.IsReady, Reach.is_reached, Runs.Stood}
+use Rattle.shm_calls.specs.{CallsControl.{calls_control, calls_does, calls_of}, Plans.Planned, Tasks.CallsLeave}
 use Rattle.shm_ref.specs.ReadParts.{reached_room}
-use Rattle.shm_pool.specs.declared.reply.Reply.{Reply}
-use Rattle.shm_pool.specs.declared.reply.Reply.TheVariants.{Died, Done}
-use Rattle.shm_pool.specs.Called.{HasCalled, IsAlive, Rests}
-use Rattle.shm_pool.specs.Calls.{IsBetween}
-use Rattle.shm_pool.specs.Doing.{HasDone}
-use Rattle.shm_pool.specs.Tokens.{Acting, me_of}
-use Rattle.shm_pool.proofs.Calling.{live_here}
-use Rattle.shm_pool.proofs.Replied.{ready}
+use Rattle.shm_pool.specs.{declared.reply.Reply.{Reply, TheVariants.{Died, Done}}, Called.{HasCalled, IsAlive, Rests}}
+use Rattle.shm_pool.specs.{Calls.IsBetween, Doing.HasDone, Tokens.{Acting, me_of}}
+use Rattle.shm_pool.proofs.{Calling.live_here, Replied.ready}
 
 -- a client of which a call has died does nothing
 pub done_dead : {M A : Type 0} (k : Control M A) (does : M → ℕ → Event) (leaves : M → Memo → Memo → Trail → List Event → A → Type 0) (ends : M → A → Type 0) (m : M) (t : Acting) (left : ℕ) → Stood t.of.start t.account → t.dead ≡ true → HasDone k does leaves ends m t t left left Died
@@ -51,8 +38,8 @@ rests_by k does leaves m t t' before left (Done a) h = let b = h.between tt in r
 -- nor does a call of it
 pub called_dead : {P C B A : Type 0} (k : Control C B) (q : Planned P C B A) (p : P) (t : Acting) (left : ℕ) → Stood t.of.start t.account → t.dead ≡ true → HasCalled k q p t t left left Died
 called_dead k q p t left stood dead =
-    let d = done_dead (calls_control k q) (calls_does k q) (CallsLeave q) (λ m a. Unit {0}) (calls_of q p) t left stood dead in
-    record { done = d; rests = rests_by (calls_control k q) (calls_does k q) (CallsLeave q) (calls_of q p) t t left left Died d; effect = refl }
+    let d = done_dead (calls_control k q.steered) (calls_does k q) (CallsLeave q) (λ m a. Unit {0}) (calls_of q.steered p) t left stood dead in
+    record { done = d; rests = rests_by (calls_control k q.steered) (calls_does k q) (CallsLeave q) (calls_of q.steered p) t t left left Died d; effect = refl }
 
 -- a block in reach of a client that lives lies in the pool, and has an address
 module _ (t : Acting) (me : Me) (stood : Stood t.of.start t.account) (between : t.dead ≡ false → IsBetween t.account) (x : IsAlive t me) (b : ℕ) (reach : t.dead ≡ false → is_reached t.account.who t.account.memo b ≡ true) where
@@ -69,10 +56,10 @@ module _ (t : Acting) (me : Me) (stood : Stood t.of.start t.account) (between : 
   reach_small = let most = total_small me.geometry x.fits in let room = reach_room in omega arith
 
 -- the machine that a call ran is that of the plan that it names
-pub called_by : {P C B A : Type 0} (k : Control C B) (q : Planned P C B A) (e p : P) (t t' : Acting) (before left : ℕ) (o : Reply A) → e ≡ p → HasDone (calls_control k q) (calls_does k q) (CallsLeave q) (λ m a. Unit {0}) (calls_of q e) t t' before left o → t'.effect ≡ t.effect → HasCalled k q p t t' before left o
+pub called_by : {P C B A : Type 0} (k : Control C B) (q : Planned P C B A) (e p : P) (t t' : Acting) (before left : ℕ) (o : Reply A) → e ≡ p → HasDone (calls_control k q.steered) (calls_does k q) (CallsLeave q) (λ m a. Unit {0}) (calls_of q.steered e) t t' before left o → t'.effect ≡ t.effect → HasCalled k q p t t' before left o
 called_by k q e p t t' before left o is done same =
-    let d = subst (λ x. HasDone (calls_control k q) (calls_does k q) (CallsLeave q) (λ m a. Unit {0}) (calls_of q x) t t' before left o) is done in
-    record { done = d; rests = rests_by (calls_control k q) (calls_does k q) (CallsLeave q) (calls_of q p) t t' before left o d; effect = same }
+    let d = subst (λ x. HasDone (calls_control k q.steered) (calls_does k q) (CallsLeave q) (λ m a. Unit {0}) (calls_of q.steered x) t t' before left o) is done in
+    record { done = d; rests = rests_by (calls_control k q.steered) (calls_does k q) (CallsLeave q) (calls_of q.steered p) t t' before left o d; effect = same }
 
 -- a block that is to be named, or none
 pub target_small : (t : Acting) (me : Me) → Stood t.of.start t.account → (t.dead ≡ false → IsBetween t.account) → IsAlive t me → (b : ℕ) → (t.dead ≡ false → b ≢ 0 → is_reached t.account.who t.account.memo b ≡ true) → b < address_limit

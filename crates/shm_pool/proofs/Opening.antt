@@ -7,12 +7,10 @@ use lib.ListN.{get_elem?}
 use Rattle.atomic_table.proofs.Lists.{set_else}
 use Rattle.atomic_table.specs.Table.{Splits, Joins}
 use Rattle.shm_words.specs.Layout.{GeometryFits}
-use Rattle.shm_graph.specs.declared.run.Start.{Start}
-use Rattle.shm_graph.specs.declared.run.Account.{Account}
+use Rattle.shm_graph.specs.declared.run.{Start.Start, Account.Account}
 use Rattle.shm_graph.specs.Runs.{first_account, first_words, accounts_from, EraFits, Stood, IsAmong}
 use Rattle.shm_graph.proofs.States.FirstHeld.{first_held, at-accounts_from, length-accounts_from}
-use Rattle.shm_pool.specs.Rules.{count_in, Knows, Rule, no_account}
-use Rattle.shm_pool.specs.Tokens.{Its, token_first, first_tokens}
+use Rattle.shm_pool.specs.{Rules.{count_in, Knows, Rule, no_account}, Tokens.{Its, token_first, first_tokens}}
 use Rattle.shm_pool.proofs.Counts.{count_here, count_else, count_append, count_set, count_push, knows_at, knows_append, known_set, known_push}
 
 count_below : (s : Start) (c b n : ℕ) → c < b → count_in c (accounts_from s b n) ≡ 0

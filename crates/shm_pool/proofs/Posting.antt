@@ -1,17 +1,10 @@
 -- the agents of a post
-use Rattle.std.proofs.Common.{◌≡◌, Bool, true, false, cond, List, refl, sym, ap, ◌∙◌}
-use Rattle.std.specs.Prelude.{Option, Some, None}
-use Rattle.std.specs.Option.{is_some}
-use Rattle.std.proofs.lemmas.Bool.{true≢false}
-use Rattle.shm_graph.specs.declared.memo.Agent.{Agent}
-use Rattle.shm_graph.specs.declared.memo.Kind.TheVariants.{Client, Recoverer}
-use Rattle.shm_graph.specs.declared.memo.Step.{Step}
-use Rattle.shm_graph.specs.declared.run.Account.{Account}
-use Rattle.shm_graph.specs.declared.memo.Fate.{Fate}
-use Rattle.shm_graph.specs.declared.memo.Fate.TheVariants.{Acts, Died, Ended}
+use Rattle.std.proofs.{Common.{◌≡◌, Bool, true, false, cond, List, refl, sym, ap, ◌∙◌}, lemmas.Bool.true≢false}
+use Rattle.std.specs.{Prelude.{Option, Some, None}, Option.is_some}
+use Rattle.shm_graph.specs.declared.memo.{Agent.Agent, Kind.TheVariants.{Client, Recoverer}, Step.Step, Fate.Fate}
+use Rattle.shm_graph.specs.declared.{memo.Fate.TheVariants.{Acts, Died, Ended}, run.Account.Account}
 use Rattle.shm_graph.specs.Agents.{acts, acts_by, ended, is_acting, last_agent, stepped, with_last}
-use Rattle.shm_graph.specs.Changes.{asked_spot}
-use Rattle.shm_graph.specs.Runs.{account_after, account_died, account_entered, fell_by, is_dead}
+use Rattle.shm_graph.specs.{Changes.asked_spot, Runs.{account_after, account_died, account_entered, fell_by, is_dead}}
 use Rattle.shm_graph.proofs.Memos.MemoSteps.{acts-died, agents_after, ends_agent, fell-died, last-with_last, memo_agents, with_some}
 use Rattle.shm_plain.specs.Tracks.{kind_next}
 use Rattle.shm_work.specs.Working.{ready_account}

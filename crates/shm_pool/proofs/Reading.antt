@@ -1,22 +1,16 @@
 -- the status word is that of the memo, and reading it changes nothing
 use Rattle.std.proofs.Common.{◌≡◌, ℕ, ◌<◌, true, List, [], ◌∷◌, set, refl, sym, ap, ◌∙◌, subst, arith}
+use Rattle.std.proofs.lemmas.{Bool.lt-ltb, List.set-get_or}
 use Rattle.std.specs.Prelude.{slice_index}
-use Rattle.std.proofs.lemmas.Bool.{lt-ltb}
-use Rattle.std.proofs.lemmas.List.{set-get_or}
 use mathlib.Core.Option.{some}
 use lib.ListN.{get_elem?}
 use Rattle.atomic_table.specs.Table.{Me as Mine, keeps as nothing, Allows}
-use Rattle.shm_words.specs.declared.place.Place.TheVariants as place
 use Rattle.shm_words.specs.Layout.{address, is_in}
-use Rattle.shm_graph.specs.declared.memo.Status.{Status}
-use Rattle.shm_graph.specs.declared.memo.Status.TheVariants.{Gone}
-use Rattle.shm_graph.specs.declared.run.Account.{Account}
-use Rattle.shm_graph.specs.declared.run.Start.{Start}
+use Rattle.shm_words.specs.declared.place.Place.TheVariants as place
+use Rattle.shm_graph.specs.declared.{memo.Status.{Status, TheVariants.Gone}, run.{Account.Account, Start.Start}}
+use Rattle.shm_graph.specs.{Held.status_word, Spots.{classes_in, spot_address}}
 use Rattle.shm_graph.specs.declared.spot.Spot.TheVariants as spot
-use Rattle.shm_graph.specs.Held.{status_word}
-use Rattle.shm_graph.specs.Spots.{classes_in, spot_address}
-use Rattle.shm_graph.proofs.Spots.Seeing.{see_there}
-use Rattle.shm_graph.proofs.Spots.SpotPlaces.{status_at}
+use Rattle.shm_graph.proofs.Spots.{Seeing.see_there, SpotPlaces.status_at}
 use Rattle.shm_pool.specs.Rules.{Rule, head_account}
 use Rattle.shm_pool.proofs.Counts.{count_set, known_set, knows_at}
 

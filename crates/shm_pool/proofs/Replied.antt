@@ -1,22 +1,10 @@
 -- what an operation of a client leaves, by what the driving of its machine says
 use Rattle.std.proofs.Common.{◌≡◌, ℕ, ◌<◌, Bool, true, false, List, refl, sym, ap, subst}
-use Rattle.shm_graph.specs.declared.ask.Me.{Me}
-use Rattle.shm_graph.specs.declared.memo.Memo.{Memo}
-use Rattle.shm_graph.specs.declared.run.Account.{Account}
-use Rattle.shm_graph.specs.Asks.{Trail, call_before}
-use Rattle.shm_graph.specs.Events.{Event}
-use Rattle.shm_graph.specs.Idle.{IsIdle}
-use Rattle.shm_graph.specs.Laws.{Control}
-use Rattle.shm_graph.specs.Operations.{IsReady, OperationLaws}
-use Rattle.shm_graph.specs.Runs.{Stood, memos_of}
-use Rattle.shm_graph.specs.Spots.{see}
-use Rattle.shm_graph.specs.Tells.{happens_along}
-use Rattle.shm_graph.specs.Whole.{fits_now, gives_now}
-use Rattle.shm_pool.specs.declared.reply.Reply.{Reply}
-use Rattle.shm_pool.specs.declared.reply.Reply.TheVariants.{Done, Died}
-use Rattle.shm_pool.specs.Calls.{IsBetween, Tells}
-use Rattle.shm_pool.specs.Replies.{IfReply, IsLost}
-use Rattle.shm_pool.specs.Tokens.{Its, me_of}
+use Rattle.shm_graph.specs.{declared.{ask.Me.Me, memo.Memo.Memo, run.Account.Account}, Asks.{Trail, call_before}}
+use Rattle.shm_graph.specs.{Events.Event, Idle.IsIdle, Laws.Control, Operations.{IsReady, OperationLaws}}
+use Rattle.shm_graph.specs.{Runs.{Stood, memos_of}, Spots.see, Tells.happens_along, Whole.{fits_now, gives_now}}
+use Rattle.shm_pool.specs.{declared.reply.Reply.{Reply, TheVariants.{Done, Died}}, Calls.{IsBetween, Tells}}
+use Rattle.shm_pool.specs.{Replies.{IfReply, IsLost}, Tokens.{Its, me_of}}
 
 -- an identity whose account stood is ready where it is idle
 pub ready : (p : Its) (e : Account) → Stood p.start e → IsIdle e.who e.memo → (me : Me) → me ≡ me_of p e → IsReady me e.memo

@@ -1,34 +1,19 @@
 -- a recovery in single steps
 use Rattle.std.proofs.Common.{◌≡◌, Bool, true, false, inr, refl, sym, ap, ◌∙◌, subst, true≢false}
 use Rattle.std.specs.Prelude.{Ok, Err, Option, None, Some}
-use Rattle.shm_calls.specs.CallsFit.{CallsFits, CallsGives}
-use Rattle.shm_calls.specs.CallsKeep.{calls_laws}
-use Rattle.shm_graph.specs.declared.ask.Me.{Me}
-use Rattle.shm_graph.specs.declared.ask.Turn.{Turn}
-use Rattle.shm_graph.specs.declared.ask.Turn.TheVariants.{More, Done, Died}
-use Rattle.shm_graph.specs.declared.memo.Memo.{Memo}
-use Rattle.shm_graph.specs.declared.memo.Status.TheVariants.{Gone}
-use Rattle.shm_graph.specs.declared.run.Account.{Account}
-use Rattle.shm_graph.specs.declared.run.Start.{Start}
-use Rattle.shm_graph.specs.Agents.{acts, is_gone}
-use Rattle.shm_graph.specs.Laws.{Laws, Stays, is_died, is_done, is_some, turn_of}
+use Rattle.shm_calls.specs.{CallsFit.{CallsFits, CallsGives}, CallsKeep.calls_laws}
+use Rattle.shm_graph.specs.declared.{ask.{Me.Me, Turn.{Turn, TheVariants.{More, Done, Died}}}, memo.Memo.Memo}
+use Rattle.shm_graph.specs.declared.{memo.Status.TheVariants.Gone, run.{Account.Account, Start.Start}}
+use Rattle.shm_graph.specs.{Agents.{acts, is_gone}, Laws.{Laws, Stays, is_died, is_done, is_some, turn_of}}
 use Rattle.shm_graph.specs.Whole.{fits_now, gives_now}
 use Rattle.shm_graph.proofs.Machines.Composing.{none_of, some_of}
 use Rattle.shm_ref.specs.DropRoots.Laws.{roots_laws}
-use Rattle.shm_recover.specs.FinishTakes.Laws.{finish_laws}
-use Rattle.shm_recover.specs.GiveUp.Laws.{give_laws}
-use Rattle.shm_recover.specs.Machines.Recovering.{recover}
-use Rattle.shm_recover.specs.Mend.Laws.{mend_laws}
-use Rattle.shm_recover.specs.Recover.Control.{recover_parts}
-use Rattle.shm_recover.specs.Recover.Laws.{recover_laws}
-use Rattle.shm_recover.specs.Recover.{recover_plan}
-use Rattle.shm_recover.specs.Scan.Laws.{scan_laws}
-use Rattle.shm_recover.specs.TakeBack.Laws.{back_laws}
-use Rattle.shm_pool.specs.Calls.{ClientStepped, acts_still}
-use Rattle.shm_pool.specs.Endings.{Answer}
+use Rattle.shm_recover.specs.{FinishTakes.Laws.finish_laws, GiveUp.Laws.give_laws, Machines.Recovering.recover}
+use Rattle.shm_recover.specs.{Mend.Laws.mend_laws, Recover.{Control.recover_parts, Laws.recover_laws, recover_plan}}
+use Rattle.shm_recover.specs.{Scan.Laws.scan_laws, TakeBack.Laws.back_laws}
+use Rattle.shm_pool.specs.{Calls.{ClientStepped, acts_still}, Endings.Answer}
 use Rattle.shm_pool.specs.Rescues.{IsRescuing, RecoverMachine, account_of}
-use Rattle.shm_pool.proofs.Calling.{acts_leave, acts_stay, goes_on, is_over, never_died}
-use Rattle.shm_pool.proofs.Changing.{begun_who}
+use Rattle.shm_pool.proofs.{Calling.{acts_leave, acts_stay, goes_on, is_over, never_died}, Changing.begun_who}
 
 -- its law
 recovery_laws : Laws recover (CallsFits recover_parts recover_plan) (CallsGives recover_parts recover_plan)

@@ -1,11 +1,8 @@
 -- a seat that answers for one identity after a call
 use Rattle.std.proofs.Common.{◌≡◌, ℕ, List, sym, ◌∙◌}
 use Rattle.atomic_table.specs.declared.shared.Seat.{Seat}
-use Rattle.shm_graph.specs.declared.run.Account.{Account}
-use Rattle.shm_graph.specs.declared.run.Start.{Start}
-use Rattle.shm_graph.specs.Runs.{Stood}
-use Rattle.shm_pool.specs.Rules.{IsAlone, alone}
-use Rattle.shm_pool.specs.Tokens.{IsSeated}
+use Rattle.shm_graph.specs.{declared.run.{Account.Account, Start.Start}, Runs.Stood}
+use Rattle.shm_pool.specs.{Rules.{IsAlone, alone}, Tokens.IsSeated}
 
 -- it is still the seat of that identity
 pub seated_on : (start : Start) (c : ℕ) (s s' : Seat (Unit {0}) (List Account)) → IsSeated start c s → IsAlone s' → (alone s').who ≡ (alone s).who → Stood start (alone s') → IsSeated start c s'

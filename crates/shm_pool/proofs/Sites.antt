@@ -1,16 +1,10 @@
 -- the word that a step gave stands at the end of the memo's call
 use Rattle.std.proofs.Common.{◌≡◌, ℕ, List, [], ◌∷◌, ◌++◌, refl, ap, ◌∙◌}
-use Rattle.shm_graph.specs.declared.ask.Ask.{Ask}
-use Rattle.shm_graph.specs.declared.ask.Ask.TheVariants.{Load, Store, Exchange}
-use Rattle.shm_graph.specs.declared.memo.Seen.{Seen}
-use Rattle.shm_graph.specs.declared.memo.Step.{Step}
-use Rattle.shm_graph.specs.declared.run.Account.{Account}
-use Rattle.shm_graph.specs.Asks.{call_before, pair, seen_of}
-use Rattle.shm_graph.specs.Changes.{asked_spot}
+use Rattle.shm_graph.specs.declared.{ask.Ask.{Ask, TheVariants.{Load, Store, Exchange}}, memo.{Seen.Seen, Step.Step}}
+use Rattle.shm_graph.specs.{declared.run.Account.Account, Asks.{call_before, pair, seen_of}, Changes.asked_spot}
 use Rattle.shm_graph.specs.Runs.{account_after}
 use Rattle.shm_graph.proofs.Memos.MemoSteps.{memo_call}
-use Rattle.shm_pool.specs.Rules.{head_account}
-use Rattle.shm_pool.specs.Sites.{last_of, given_last, told_of}
+use Rattle.shm_pool.specs.{Rules.head_account, Sites.{last_of, given_last, told_of}}
 
 last_append : (n : ℕ) (tr : List Seen) (s : Seen) → last_of n (tr ++ s ∷ []) ≡ s.word
 last_append n [] s = refl

@@ -6,18 +6,9 @@ use mathlib.Core.Option.{some}
 use lib.ListN.{get_elem?}
 use Rattle.atomic_table.specs.Table.{Me as Mine, keeps as nothing, Allows}
 use Rattle.shm_words.specs.declared.geometry.Geometry.{Geometry}
-use Rattle.shm_graph.specs.declared.run.Start.{Start}
-use Rattle.shm_graph.specs.declared.ask.Me.{Me}
-use Rattle.shm_graph.specs.declared.ask.Ask.{Ask}
-use Rattle.shm_graph.specs.declared.memo.Kind.{Kind}
-use Rattle.shm_graph.specs.declared.memo.Memo.{Memo}
-use Rattle.shm_graph.specs.declared.memo.Step.{Step}
-use Rattle.shm_graph.specs.declared.run.Account.{Account}
-use Rattle.shm_graph.specs.declared.run.Move.{Move}
-use Rattle.shm_graph.specs.declared.run.Move.TheVariants.{Word, Dies, Begins}
-use Rattle.shm_graph.specs.Agents.{acts}
-use Rattle.shm_graph.specs.Asks.{at_of, seen_of, words_set, word_after}
-use Rattle.shm_graph.specs.Laws.{Control, Outcome, step_of}
+use Rattle.shm_graph.specs.declared.run.{Start.Start, Account.Account, Move.{Move, TheVariants.{Word, Dies, Begins}}}
+use Rattle.shm_graph.specs.{declared.{ask.{Me.Me, Ask.Ask}, memo.{Kind.Kind, Memo.Memo, Step.Step}}, Agents.acts}
+use Rattle.shm_graph.specs.{Asks.{at_of, seen_of, words_set, word_after}, Laws.{Control, Outcome, step_of}}
 use Rattle.shm_graph.specs.Runs.{Turned, Held, Leads, MayBegin, State, state, first_state, moved, IsMove, accounts_after, account_after, account_at, changed, account_died, account_entered, Stood, IsAmong}
 use Rattle.shm_graph.specs.Whole.{WholeKeeps, WholeKept, Learns}
 use Rattle.shm_graph.proofs.Runs.Running.{Leads-more, turned-dies, turned-begins}

@@ -1,16 +1,8 @@
 -- the events of a last machine are those that it tells
 use Rattle.std.proofs.Common.{ℕ, List, ◌++◌}
-use Rattle.shm_graph.specs.declared.memo.Memo.{Memo}
-use Rattle.shm_graph.specs.declared.memo.Step.{Step}
-use Rattle.shm_graph.specs.declared.run.Account.{Account}
-use Rattle.shm_graph.specs.Asks.{Trail}
-use Rattle.shm_graph.specs.Events.{Event}
-use Rattle.shm_graph.specs.Laws.{Control}
-use Rattle.shm_graph.specs.Tells.{Tells}
-use Rattle.shm_pool.specs.declared.token.Cause.{Cause}
-use Rattle.shm_pool.specs.declared.token.Cause.TheVariants.{Died, EraSpent}
-use Rattle.shm_pool.specs.Calls.{IsDriven}
-use Rattle.shm_pool.specs.Doing.{AreTold}
+use Rattle.shm_graph.specs.{declared.{memo.{Memo.Memo, Step.Step}, run.Account.Account}, Asks.Trail, Events.Event}
+use Rattle.shm_graph.specs.{Laws.Control, Tells.Tells}
+use Rattle.shm_pool.specs.{declared.token.Cause.{Cause, TheVariants.{Died, EraSpent}}, Calls.IsDriven, Doing.AreTold}
 use Rattle.shm_pool.specs.Endings.{Answer, EndIsTold, HasEnded, HasStopped, StopIsTold, StopsBy, stopped_steps}
 use Rattle.shm_pool.specs.Tokens.{Its, Token}
 

@@ -1,33 +1,18 @@
 -- what the calls of a client leave, each of which runs one operation
 use Rattle.std.specs.Prelude.{◌≡◌, ◌<◌, ℕ, true, false, List, length, take, Result, Option}
 use Rattle.shm_words.specs.Layout.{GeometryFits}
-use Rattle.shm_graph.specs.declared.ask.Me.{Me}
-use Rattle.shm_graph.specs.declared.run.Account.{Account}
-use Rattle.shm_graph.specs.Agents.{recovers}
-use Rattle.shm_graph.specs.Reach.{is_reached}
-use Rattle.shm_graph.specs.Whole.{fits_now}
-use Rattle.shm_graph.specs.Laws.{Control}
-use Rattle.shm_alloc.specs.declared.alloc.AllocFault.{AllocFault}
-use Rattle.shm_alloc.specs.declared.point.AllocPoint.TheVariants.{Era}
-use Rattle.shm_alloc.specs.declared.point.AllocState.{AllocState}
-use Rattle.shm_alloc.specs.Alloc.AsPart.{AllocLeaves}
-use Rattle.shm_alloc.specs.Alloc.Control.{alloc_control}
-use Rattle.shm_alloc.specs.Alloc.Events.{alloc_event}
-use Rattle.shm_calls.specs.CallsControl.{calls_control, calls_does, calls_of}
-use Rattle.shm_calls.specs.Plans.{Planned}
-use Rattle.shm_calls.specs.Tasks.{CallsLeave}
-use Rattle.shm_count.specs.declared.answer.Made.{Made}
-use Rattle.shm_count.specs.Roots.{root_word}
-use Rattle.shm_script.specs.declared.line.Line.{Line}
-use Rattle.shm_script.specs.declared.log.Answer.{Answer}
+use Rattle.shm_graph.specs.{declared.{ask.Me.Me, run.Account.Account}, Agents.recovers, Reach.is_reached}
+use Rattle.shm_graph.specs.{Whole.fits_now, Laws.Control}
+use Rattle.shm_alloc.specs.declared.{alloc.AllocFault.AllocFault, point.AllocPoint.TheVariants.Era}
+use Rattle.shm_alloc.specs.{declared.{point.AllocState.AllocState, request.Near.Near}, Alloc.AsPart.AllocLeaves}
+use Rattle.shm_alloc.specs.Alloc.{Control.alloc_control, Events.alloc_event}
+use Rattle.shm_calls.specs.{CallsControl.{calls_control, calls_does, calls_of}, Plans.Planned, Tasks.CallsLeave}
+use Rattle.shm_count.specs.{declared.answer.Made.Made, Roots.root_word}
+use Rattle.shm_script.specs.declared.{line.Line.Line, log.Answer.Answer}
 use Rattle.shm_table.specs.Command.{CommandCall, CommandFits, command_control, command_does, command_effect, command_of}
-use Rattle.shm_table.specs.Command.Maps.{MapSoFar}
-use Rattle.shm_table.specs.Command.Operates.{CommandLeaves}
-use Rattle.shm_pool.specs.declared.reply.Reply.{Reply}
-use Rattle.shm_pool.specs.Calls.{Drives, IsBetween, StillFits}
-use Rattle.shm_pool.specs.Doing.{HasDone}
-use Rattle.shm_pool.specs.Replies.{IfReply, IsLost}
-use Rattle.shm_pool.specs.Tokens.{Acting, has_left, me_of}
+use Rattle.shm_table.specs.Command.{Maps.MapSoFar, Operates.CommandLeaves}
+use Rattle.shm_pool.specs.{declared.reply.Reply.Reply, Calls.{Drives, IsBetween, StillFits}, Doing.HasDone}
+use Rattle.shm_pool.specs.{Replies.{IfReply, IsLost}, Tokens.{Acting, has_left, me_of}}
 
 -- the client t of which no call has died is this identity, in a pool that there may be
 pub record IsAlive (t : Acting) (me : Me) : Type 0 where
@@ -44,25 +29,30 @@ pub record Rests (t : Acting) : Type 0 where
 
 -- a client ran the machine of the plan p; what a command showed that died before stays
 pub record HasCalled {P C B A : Type 0} (k : Control C B) (q : Planned P C B A) (p : P) (t t' : Acting) (before left : ℕ) (o : Reply A) : Type 0 where
-  pub done : HasDone (calls_control k q) (calls_does k q) (CallsLeave q) (λ m a. Unit {0}) (calls_of q p) t t' before left o
+  pub done : HasDone (calls_control k q.steered) (calls_does k q) (CallsLeave q) (λ m a. Unit {0}) (calls_of q.steered p) t t' before left o
   pub rests : Rests t'
   pub effect : t'.effect ≡ t.effect
 
--- an allocation of this identity, before its first step, of a block with n reference words and the plain words xs
-pub record IsAsked (me : Me) (n : ℕ) (xs : List ℕ) (m : AllocState) : Type 0 where
+-- an allocation of this identity, before its first step, of a block with n reference words and the plain words xs, whose search begins near a place
+pub record IsAsked (me : Me) (n : ℕ) (xs : List ℕ) (near : Near) (m : AllocState) : Type 0 where
   pub of : m.me ≡ me
   pub point : m.point ≡ Era
   pub refs : m.request.refs ≡ n
   pub count : m.request.count ≡ length xs
   pub plain : take (length xs) m.request.plain ≡ xs
+  pub hint : m.request.near ≡ near
 
 -- a client ran such an allocation
-pub record HasAllocated (n : ℕ) (xs : List ℕ) (t t' : Acting) (before left : ℕ) (o : Reply (Result Made AllocFault)) : Type 0 where
+pub record HasAllocatedNear (n : ℕ) (xs : List ℕ) (near : Near) (t t' : Acting) (before left : ℕ) (o : Reply (Result Made AllocFault)) : Type 0 where
   pub machine : AllocState
-  pub asked : IsAsked (me_of t.of t.account) n xs machine
+  pub asked : IsAsked (me_of t.of t.account) n xs near machine
   pub done : HasDone alloc_control alloc_event AllocLeaves (λ m a. Unit {0}) machine t t' before left o
   pub rests : Rests t'
   pub effect : t'.effect ≡ t.effect
+
+-- the same, where the search has no hint
+abbrev pub HasAllocated : ℕ → List ℕ → Acting → Acting → ℕ → ℕ → Reply (Result Made AllocFault) → Type 0
+HasAllocated n xs t t' before left o = HasAllocatedNear n xs (record { segment = 0; page = 0; index = 0 }) t t' before left o
 
 -- The command of a line of this identity was cut off. What it shows is what it was going to answer where its deciding step was made, and otherwise none; and the own map is as after that answer
 pub record HasEffect (me : Me) (l : Line) (e e' : Account) (before left : ℕ) (a : Option Answer) : Type 0 where

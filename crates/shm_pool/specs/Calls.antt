@@ -1,19 +1,10 @@
 -- a step and a whole call in the account of the caller
 use Rattle.std.specs.Prelude.{◌≡◌, ℕ, ◌+◌, Bool, true, false, if◌then◌else◌, List, [], ◌∷◌, ◌++◌, length}
-use Rattle.shm_graph.specs.declared.ask.Me.{Me}
-use Rattle.shm_graph.specs.declared.ask.Turn.{Turn}
-use Rattle.shm_graph.specs.declared.memo.Memo.{Memo}
-use Rattle.shm_graph.specs.declared.run.Account.{Account}
-use Rattle.shm_graph.specs.declared.memo.Step.{Step}
-use Rattle.shm_graph.specs.Agents.{is_gone}
-use Rattle.shm_graph.specs.Asks.{Trail, call_before, pair}
-use Rattle.shm_graph.specs.CallEvents.{events_of}
-use Rattle.shm_graph.specs.Events.{Event}
-use Rattle.shm_graph.specs.Idle.{IsIdle}
-use Rattle.shm_graph.specs.Laws.{Control, step_of, turn_of}
+use Rattle.shm_graph.specs.declared.{ask.{Me.Me, Turn.Turn}, memo.{Memo.Memo, Step.Step}, run.Account.Account}
+use Rattle.shm_graph.specs.{Agents.is_gone, Asks.{Trail, call_before, pair}, CallEvents.events_of, Events.Event}
+use Rattle.shm_graph.specs.{Idle.IsIdle, Laws.{Control, step_of, turn_of}}
 use Rattle.shm_graph.specs.Runs.{account_after, told_by, told_left, begun_by}
-use Rattle.shm_graph.specs.Tells.{Tells as TellsEvents, after_all, machine_steps, tells_along}
-use Rattle.shm_graph.specs.Whole.{Learns}
+use Rattle.shm_graph.specs.{Tells.{Tells as TellsEvents, after_all, machine_steps, tells_along}, Whole.Learns}
 use Rattle.shm_pool.specs.Rules.{IsMade}
 
 -- what a machine shows of itself

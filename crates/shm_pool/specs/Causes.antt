@@ -1,7 +1,6 @@
 -- why a closing was refused
 use Rattle.std.specs.Prelude.{ℕ}
-use Rattle.shm_pool.specs.declared.closing.CloseCause.{CloseCause}
-use Rattle.shm_pool.specs.declared.closing.CloseCause.TheVariants.{Memory, Missing}
+use Rattle.shm_pool.specs.declared.closing.CloseCause.{CloseCause, TheVariants.{Memory, Missing}}
 
 -- what is said of the identity whose token was missing
 abbrev pub IfMissing : CloseCause → (ℕ → Type 0) → Type 0

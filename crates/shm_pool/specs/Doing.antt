@@ -1,18 +1,10 @@
 -- what a call of a client leaves
 use Rattle.std.specs.Prelude.{◌≡◌, ◌↔◌, ℕ, true, false, List, ◌++◌}
-use Rattle.shm_graph.specs.declared.memo.Memo.{Memo}
-use Rattle.shm_graph.specs.declared.memo.Step.{Step}
-use Rattle.shm_graph.specs.declared.run.Account.{Account}
-use Rattle.shm_graph.specs.Asks.{Trail}
-use Rattle.shm_graph.specs.CallEvents.{events_of}
-use Rattle.shm_graph.specs.Events.{Event}
-use Rattle.shm_graph.specs.Laws.{Control}
-use Rattle.shm_graph.specs.Runs.{Stood}
+use Rattle.shm_graph.specs.{declared.{memo.{Memo.Memo, Step.Step}, run.Account.Account}, Asks.Trail}
+use Rattle.shm_graph.specs.{CallEvents.events_of, Events.Event, Laws.Control, Runs.Stood}
 use Rattle.shm_graph.specs.Tells.{happens_along, machine_steps, tells_along}
-use Rattle.shm_pool.specs.declared.reply.Reply.{Reply}
-use Rattle.shm_pool.specs.Calls.{Calls, IsBetween, Tells, pairs, shown}
-use Rattle.shm_pool.specs.Replies.{IfReply, IsLost, is_reply}
-use Rattle.shm_pool.specs.Tokens.{Acting}
+use Rattle.shm_pool.specs.{declared.reply.Reply.Reply, Calls.{Calls, IsBetween, Tells, pairs, shown}}
+use Rattle.shm_pool.specs.{Replies.{IfReply, IsLost, is_reply}, Tokens.Acting}
 
 module _ {M A : Type 0} (k : Control M A) (does : M → ℕ → Event) where
   -- m asked for these steps of the account e, and tells their events

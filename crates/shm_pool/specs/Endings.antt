@@ -1,28 +1,15 @@
 -- how the last machine of an agent came to its end: the identity is gone, or is still there
 use Rattle.std.specs.Prelude.{◌≡◌, ℕ, true, false, List, ◌++◌, Result, Ok, Err}
-use Rattle.shm_graph.specs.declared.memo.Memo.{Memo}
-use Rattle.shm_graph.specs.declared.memo.Status.TheVariants.{Gone}
-use Rattle.shm_graph.specs.declared.memo.Step.{Step}
-use Rattle.shm_graph.specs.declared.run.Account.{Account}
-use Rattle.shm_graph.specs.Agents.{is_gone}
-use Rattle.shm_graph.specs.Asks.{Trail}
-use Rattle.shm_graph.specs.Events.{Event}
-use Rattle.shm_graph.specs.Laws.{Control}
-use Rattle.shm_graph.specs.Whole.{gives_now}
-use Rattle.shm_calls.specs.CallsControl.{calls_does, calls_of}
-use Rattle.shm_calls.specs.CallsFit.{CallsFits, CallsGives}
+use Rattle.shm_graph.specs.declared.{memo.{Memo.Memo, Status.TheVariants.Gone, Step.Step}, run.Account.Account}
+use Rattle.shm_graph.specs.{Agents.is_gone, Asks.Trail, Events.Event, Laws.Control, Whole.gives_now}
+use Rattle.shm_calls.specs.{CallsControl.{calls_does, calls_of}, CallsFit.{CallsFits, CallsGives}}
 use Rattle.shm_count.specs.declared.answer.EraSpent.{EraSpent}
-use Rattle.shm_recover.specs.Leave.Control.{leave_parts, leaving}
-use Rattle.shm_recover.specs.Leave.{MayLeave, leave_plan}
-use Rattle.shm_recover.specs.Machines.{leave}
-use Rattle.shm_recover.specs.Machines.Recovering.{recover}
-use Rattle.shm_recover.specs.Recover.Control.{recover_parts, recovering as recovery}
-use Rattle.shm_recover.specs.Recover.{recover_plan}
-use Rattle.shm_pool.specs.declared.token.Cause.{Cause}
-use Rattle.shm_pool.specs.declared.token.Cause.TheVariants as cause
-use Rattle.shm_pool.specs.Calls.{Calls, IsDriven, Tells, pairs, shown}
-use Rattle.shm_pool.specs.Doing.{AreTold}
+use Rattle.shm_recover.specs.Leave.{Control.{leave_parts, leaving, leave_steered}, MayLeave, leave_plan}
+use Rattle.shm_recover.specs.Machines.{leave, Recovering.recover}
+use Rattle.shm_recover.specs.Recover.{Control.{recover_parts, recovering as recovery, recover_steered}, recover_plan}
+use Rattle.shm_pool.specs.{declared.token.Cause.Cause, Calls.{Calls, IsDriven, Tells, pairs, shown}, Doing.AreTold}
 use Rattle.shm_pool.specs.Tokens.{Acting, Its, Token, me_of, recovering}
+use Rattle.shm_pool.specs.declared.token.Cause.TheVariants as cause
 
 -- what such a machine answers: it is done, or the own era left no room for a step
 abbrev pub Answer : Type 0
@@ -99,11 +86,11 @@ ClientMayLeave p e = MayLeave (me_of p e) e.memo × (e.memo.over ≡ true)
 
 -- what a leaving gave, and that its steps' events are those that it tells
 abbrev pub HasLeft : Its → Account → ℕ → ℕ → Token → Type 0
-HasLeft p e = EndIsTold leave (CallsFits leave_parts leave_plan) (gives_now (CallsGives leave_parts leave_plan)) (calls_does leave_parts leave_plan) (calls_of leave_plan (leaving (me_of p e))) p e
+HasLeft p e = EndIsTold leave (CallsFits leave_parts leave_plan) (gives_now (CallsGives leave_parts leave_plan)) (calls_does leave_parts leave_plan) (calls_of leave_steered (leaving (me_of p e))) p e
 
 -- and what stopped it
 abbrev pub HasNotLeft : Its → Account → ℕ → ℕ → Cause → Token → Type 0
-HasNotLeft p e = StopIsTold leave (CallsFits leave_parts leave_plan) (gives_now (CallsGives leave_parts leave_plan)) (calls_does leave_parts leave_plan) (calls_of leave_plan (leaving (me_of p e))) p e
+HasNotLeft p e = StopIsTold leave (CallsFits leave_parts leave_plan) (gives_now (CallsGives leave_parts leave_plan)) (calls_does leave_parts leave_plan) (calls_of leave_steered (leaving (me_of p e))) p e
 
 -- the corpse of a client that took no step any more
 abbrev pub fallen_of : Acting → Token
@@ -113,8 +100,8 @@ fallen_of t = record { of = t.of; account = t.account }
 
 -- what a recovery gave, and that its steps' events are those that it tells
 abbrev pub HasRecovered : Its → Account → ℕ → ℕ → Token → Type 0
-HasRecovered p e = EndIsTold recover (CallsFits recover_parts recover_plan) (gives_now (CallsGives recover_parts recover_plan)) (calls_does recover_parts recover_plan) (calls_of recover_plan (recovery (me_of p e))) p (recovering e)
+HasRecovered p e = EndIsTold recover (CallsFits recover_parts recover_plan) (gives_now (CallsGives recover_parts recover_plan)) (calls_does recover_parts recover_plan) (calls_of recover_steered (recovery (me_of p e))) p (recovering e)
 
 -- and what stopped it
 abbrev pub HasNotRecovered : Its → Account → ℕ → ℕ → Cause → Token → Type 0
-HasNotRecovered p e = StopIsTold recover (CallsFits recover_parts recover_plan) (gives_now (CallsGives recover_parts recover_plan)) (calls_does recover_parts recover_plan) (calls_of recover_plan (recovery (me_of p e))) p (recovering e)
+HasNotRecovered p e = StopIsTold recover (CallsFits recover_parts recover_plan) (gives_now (CallsGives recover_parts recover_plan)) (calls_does recover_parts recover_plan) (calls_of recover_steered (recovery (me_of p e))) p (recovering e)

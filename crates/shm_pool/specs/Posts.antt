@@ -1,14 +1,9 @@
 -- a post as contracts see it
-use Rattle.std.specs.Prelude.{◌≡◌, ℕ, ◌<◌, Bool, true, false, if◌then◌else◌, List}
-use Rattle.std.specs.Option.{is_some}
+use Rattle.std.specs.{Prelude.{◌≡◌, ℕ, ◌<◌, Bool, true, false, if◌then◌else◌, List}, Option.is_some}
 use Rattle.atomic_table.specs.declared.shared.Seat.{Seat}
-use Rattle.shm_graph.specs.declared.memo.Memo.{Memo}
-use Rattle.shm_graph.specs.declared.run.Account.{Account}
-use Rattle.shm_graph.specs.declared.run.Start.{Start}
-use Rattle.shm_graph.specs.Agents.{acts, last_agent}
+use Rattle.shm_graph.specs.{declared.{memo.Memo.Memo, run.{Account.Account, Start.Start}}, Agents.{acts, last_agent}}
 use Rattle.shm_graph.specs.Runs.{Stood, account_died, fell_by}
-use Rattle.shm_pool.specs.Rules.{alone}
-use Rattle.shm_pool.specs.Tokens.{Token, its}
+use Rattle.shm_pool.specs.{Rules.alone, Tokens.{Token, its}}
 
 -- the account of the identity: a death is noted before the next agent begins
 abbrev pub account_seen : Bool → Account → Account

@@ -1,7 +1,6 @@
 -- what a call answers
 use Rattle.std.specs.Prelude.{Bool, true, false}
-use Rattle.shm_pool.specs.declared.reply.Reply.{Reply}
-use Rattle.shm_pool.specs.declared.reply.Reply.TheVariants.{Done, Died}
+use Rattle.shm_pool.specs.declared.reply.Reply.{Reply, TheVariants.{Done, Died}}
 
 -- the client died
 abbrev pub IsLost : {A : Type 0} → Reply A → Type 0

@@ -1,20 +1,11 @@
 -- a recovery in single steps
 use Rattle.std.specs.Prelude.{◌≡◌, Bool, true, false, if◌then◌else◌, List}
 use Rattle.atomic_table.specs.declared.shared.Seat.{Seat}
-use Rattle.shm_calls.specs.declared.calls.Calls.{Calls}
-use Rattle.shm_calls.specs.CallsFit.{CallsFits}
-use Rattle.shm_graph.specs.declared.memo.Memo.{Memo}
-use Rattle.shm_graph.specs.declared.run.Account.{Account}
-use Rattle.shm_graph.specs.declared.run.Start.{Start}
-use Rattle.shm_graph.specs.Agents.{acts}
-use Rattle.shm_graph.specs.Whole.{fits_now}
-use Rattle.shm_recover.specs.declared.recover.RecoverState.{RecoverState}
-use Rattle.shm_recover.specs.Machines.Recovering.{recover}
-use Rattle.shm_recover.specs.Recover.Control.{RecoverAnswer, RecoverCall, recover_parts}
-use Rattle.shm_recover.specs.Recover.{recover_plan}
-use Rattle.shm_pool.specs.Endings.{Answer}
-use Rattle.shm_pool.specs.Rules.{alone}
-use Rattle.shm_pool.specs.Tokens.{Its, IsFallen, IsStill, its, recovering}
+use Rattle.shm_calls.specs.{declared.calls.Calls.Calls, CallsFit.CallsFits}
+use Rattle.shm_graph.specs.{declared.{memo.Memo.Memo, run.{Account.Account, Start.Start}}, Agents.acts, Whole.fits_now}
+use Rattle.shm_recover.specs.{declared.recover.RecoverState.RecoverState, Machines.Recovering.recover}
+use Rattle.shm_recover.specs.Recover.{Control.{RecoverAnswer, RecoverCall, recover_parts}, recover_plan}
+use Rattle.shm_pool.specs.{Endings.Answer, Rules.alone, Tokens.{Its, IsFallen, IsStill, its, recovering}}
 
 -- the machine of a recovery
 abbrev pub RecoverMachine : Type 0

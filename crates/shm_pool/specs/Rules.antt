@@ -2,15 +2,8 @@
 use Rattle.std.specs.Prelude.{◌≡◌, ℕ, ◌+◌, ◌<◌, ◌==◌, true, false, if◌then◌else◌, List, [], ◌∷◌}
 use Rattle.atomic_table.specs.declared.shared.Seat.{Seat}
 use Rattle.shm_words.specs.declared.geometry.Geometry.{Geometry}
-use Rattle.shm_graph.specs.declared.run.Start.{Start}
-use Rattle.shm_graph.specs.declared.memo.Memo.{Memo}
-use Rattle.shm_graph.specs.declared.run.Account.{Account}
-use Rattle.shm_graph.specs.declared.memo.Step.{Step}
-use Rattle.shm_graph.specs.declared.run.Move.{Move}
-use Rattle.shm_graph.specs.declared.run.Move.TheVariants.{Word}
-use Rattle.shm_graph.specs.Agents.{acts}
-use Rattle.shm_graph.specs.Asks.{seen_of}
-use Rattle.shm_graph.specs.Laws.{Control, step_of}
+use Rattle.shm_graph.specs.declared.{run.{Start.Start, Account.Account, Move.{Move, TheVariants.Word}}, memo.Memo.Memo}
+use Rattle.shm_graph.specs.{declared.memo.Step.Step, Agents.acts, Asks.seen_of, Laws.{Control, step_of}}
 use Rattle.shm_graph.specs.Runs.{Held, IsMove, Leads, Turned, state, first_state, account_after, first_account, IsAmong, Stood}
 use Rattle.shm_graph.specs.Whole.{Learns}
 

@@ -1,13 +1,8 @@
 -- the words that threads share as a site: what a word step asks of the seat that makes it, and what it leaves
 use Rattle.std.specs.Prelude.{◌≡◌, ℕ, ◌<◌, List, [], ◌∷◌}
-use Rattle.atomic_table.specs.Table.{Allows}
-use Rattle.atomic_table.specs.Seated.{TableId}
-use Rattle.atomic_table.specs.declared.shared.Seat.{Seat}
-use Rattle.shm_graph.specs.declared.run.Start.{Start}
-use Rattle.shm_graph.specs.declared.ask.Ask.{Ask}
-use Rattle.shm_graph.specs.declared.ask.Ask.TheVariants.{Load, Store, Exchange}
-use Rattle.shm_graph.specs.declared.memo.Seen.{Seen}
-use Rattle.shm_graph.specs.declared.run.Account.{Account}
+use Rattle.atomic_table.specs.{Table.Allows, Seated.TableId, declared.shared.Seat.Seat}
+use Rattle.shm_graph.specs.declared.{run.{Start.Start, Account.Account}, ask.Ask.Ask}
+use Rattle.shm_graph.specs.declared.{ask.Ask.TheVariants.{Load, Store, Exchange}, memo.Seen.Seen}
 use Rattle.shm_graph.specs.Asks.{at_of, seen_of, word_after}
 use Rattle.shm_pool.specs.Rules.{Rule, head_account}
 

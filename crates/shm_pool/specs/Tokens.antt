@@ -1,19 +1,10 @@
 -- pools and tokens as contracts see them
 use Rattle.std.specs.Prelude.{◌≡◌, zero, suc, ℕ, ◌<◌, ◌==◌, ◌&&◌, if◌then◌else◌, ◌⊎◌, Bool, true, false, List, [], ◌∷◌, Option}
-use Rattle.atomic_table.specs.Seated.{TableId}
-use Rattle.atomic_table.specs.declared.shared.Seat.{Seat}
+use Rattle.atomic_table.specs.{Seated.TableId, declared.shared.Seat.Seat}
 use Rattle.shm_words.specs.Layout.{GeometryFits}
-use Rattle.shm_graph.specs.declared.run.Start.{Start}
-use Rattle.shm_graph.specs.declared.ask.Me.{Me}
-use Rattle.shm_graph.specs.declared.memo.Memo.{Memo}
-use Rattle.shm_graph.specs.declared.run.Account.{Account}
-use Rattle.shm_graph.specs.declared.memo.Status.TheVariants.{New, Live, Gone}
-use Rattle.shm_graph.specs.declared.run.Move.{Move}
-use Rattle.shm_graph.specs.declared.memo.Kind.TheVariants.{Client, Recoverer}
-use Rattle.shm_graph.specs.Agents.{acts, is_gone, recovers}
-use Rattle.shm_graph.specs.Clean.{IsClean}
-use Rattle.shm_graph.specs.Spots.{see}
-use Rattle.shm_graph.specs.Laws.{Control}
+use Rattle.shm_graph.specs.declared.{run.{Start.Start, Account.Account, Move.Move}, ask.Me.Me, memo.Memo.Memo}
+use Rattle.shm_graph.specs.declared.memo.{Status.TheVariants.{New, Live, Gone}, Kind.TheVariants.{Client, Recoverer}}
+use Rattle.shm_graph.specs.{Agents.{acts, is_gone, recovers}, Clean.IsClean, Spots.see, Laws.Control}
 use Rattle.shm_graph.specs.Runs.{Held, Leads, state, first_state, first_account, account_at, account_died, account_entered, Stood}
 use Rattle.shm_script.specs.declared.log.Answer.{Answer}
 use Rattle.shm_pool.specs.Rules.{alone, IsAlone, no_account}

@@ -5,45 +5,27 @@
 
 ghost use Rattle.std.specs.Prelude.{◌≡◌, ◌≢◌, ◌<◌, ◌↔◌, ◌⊎◌, ℕ, true, false, length, IfErr, IfOk, IfSome, IsNone, is_err, None, Some, slice_index};
 ghost use Rattle.std.specs.List.{Contains};
-ghost use Rattle.shm_graph.specs.declared.spot.Spot.TheVariants.{Home};
-ghost use Rattle.shm_graph.specs.Held.{is_loose};
-ghost use Rattle.shm_graph.specs.Reach.{is_reached};
-ghost use Rattle.shm_graph.specs.Runs.{Stood};
+ghost use Rattle.shm_graph.specs.{declared.spot.Spot.TheVariants.Home, Held.is_loose, Reach.is_reached, Runs.Stood};
 ghost use Rattle.shm_graph.specs.Views.{own_word};
-ghost use Rattle.shm_calls.specs.CallsControl.{calls_control, calls_does, calls_of};
-ghost use Rattle.shm_calls.specs.Tasks.{CallsLeave};
+ghost use Rattle.shm_calls.specs.{CallsControl.{calls_control, calls_does, calls_of}, Tasks.CallsLeave};
 ghost use Rattle.shm_calls.specs.Words.{word_control};
-ghost use Rattle.shm_count.specs.declared.point.Aim.TheVariants.{Up};
-ghost use Rattle.shm_count.specs.Step.{KeepsPart};
-ghost use Rattle.shm_count.specs.UpRoot.Control.{rooting, rooting_parts};
-ghost use Rattle.shm_count.specs.UpRoot.{rooting_plan};
-ghost use Rattle.shm_ref.specs.DropRoot.Control.{drop_parts, dropping};
-ghost use Rattle.shm_ref.specs.DropRoot.{drop_plan};
-ghost use Rattle.shm_ref.specs.Hold.Control.{holding};
-ghost use Rattle.shm_ref.specs.Hold.{hold_plan};
-ghost use Rattle.shm_ref.specs.HomeOf.{finding, home_of_plan};
-ghost use Rattle.shm_ref.specs.Look.{look_plan, looking};
-ghost use Rattle.shm_ref.specs.Read.{read_plan, reading};
-ghost use Rattle.shm_ref.specs.Release.{release_plan, releasing};
-ghost use Rattle.shm_ref.specs.RootOf.{naming, naming_plan};
-ghost use Rattle.shm_ref.specs.SetHome.{home_parts, home_plan, homing};
-ghost use Rattle.shm_ref.specs.SetRef.Control.{set_parts, setting};
-ghost use Rattle.shm_ref.specs.SetRef.{set_plan};
-ghost use Rattle.shm_queue.specs.Drain.Control.{drain_parts, draining};
-ghost use Rattle.shm_queue.specs.Drain.{drain_plan};
-ghost use Rattle.shm_queue.specs.Receive.Control.{receive_parts, receiving};
-ghost use Rattle.shm_queue.specs.Receive.{receive_plan};
-ghost use Rattle.shm_queue.specs.Send.Control.{send_parts, sending};
-ghost use Rattle.shm_queue.specs.Send.{send_plan};
-ghost use Rattle.shm_pool.specs.Called.{HasAllocated, HasCalled, IsAlive, Rests};
-ghost use Rattle.shm_pool.specs.Calls.{IsBetween};
-ghost use Rattle.shm_pool.specs.Doing.{HasDone};
-ghost use Rattle.shm_pool.specs.Tokens.{me_of};
+ghost use Rattle.shm_count.specs.{declared.point.Aim.TheVariants.Up, Step.KeepsPart};
+ghost use Rattle.shm_count.specs.UpRoot.{Control.{rooting, rooting_parts}, rooting_plan};
+ghost use Rattle.shm_ref.specs.{DropRoot.{Control.{drop_parts, dropping}, drop_plan}, Hold.Control.holding};
+ghost use Rattle.shm_ref.specs.{Hold.hold_plan, HomeOf.{finding, home_of_plan}, Look.{look_plan, looking}};
+ghost use Rattle.shm_ref.specs.{Read.{read_plan, reading}, Release.{release_plan, releasing}};
+ghost use Rattle.shm_ref.specs.{RootOf.{naming, naming_plan}, SetHome.{home_parts, home_plan, homing}};
+ghost use Rattle.shm_ref.specs.SetRef.{Control.{set_parts, setting}, set_plan};
+ghost use Rattle.shm_queue.specs.Drain.{Control.{drain_parts, draining}, drain_plan};
+ghost use Rattle.shm_queue.specs.Receive.{Control.{receive_parts, receiving}, receive_plan};
+ghost use Rattle.shm_queue.specs.Send.{Control.{send_parts, sending}, send_plan};
+ghost use Rattle.shm_pool.specs.{Called.{HasAllocated, HasAllocatedNear, HasCalled, IsAlive, Rests}, Calls.IsBetween};
+ghost use Rattle.shm_pool.specs.{Doing.HasDone, Tokens.me_of};
 
 use crate::pool::SharedPool;
 use crate::reply::Reply;
 use crate::token::Client;
-use shm_alloc::{Alloc, AllocFault, TooLarge};
+use shm_alloc::{Alloc, AllocFault, Near, TooLarge};
 use shm_calls::{Calls, Task};
 use shm_count::{EraSpent, Made};
 use shm_graph::{Life, Me};
@@ -73,9 +55,9 @@ impl Client {
     ) -> Reply<P::Answer>
         requires pool { self.old.of ≡ pool.now }
         requires between { self.old.dead ≡ false → IsBetween self.old.account }
-        requires me { P.plan.me plan ≡ me_of self.old.of self.old.account }
+        requires me { P.plan.steered.me plan ≡ me_of self.old.of self.old.account }
         requires may { self.old.dead ≡ false → P.may plan self.old.account.memo }
-        ensures done { HasDone (calls_control P.Call.control P.plan) (calls_does P.Call.control P.plan) (CallsLeave P.plan) (λ m. P.rests m.plan) (calls_of P.plan plan) self.old self.new life.old.left life.new.left result }
+        ensures done { HasDone (calls_control P.Call.control P.plan.steered) (calls_does P.Call.control P.plan) (CallsLeave P.plan) (λ m. P.rests m.plan) (calls_of P.plan.steered plan) self.old self.new life.old.left life.new.left result }
         ensures effect { self.new.effect ≡ self.old.effect }
     {
         self.run(pool, Calls::new(plan), life)
@@ -102,7 +84,36 @@ impl Client {
         ensures called { IfOk result (HasAllocated refs plain.now self.old self.new life.old.left life.new.left) }
         ensures rests { Rests self.new }
     {
-        let alloc = Alloc::new(self.me(), refs, plain)?;
+        let near = Near {
+            segment: 0,
+            page: 0,
+            index: 0,
+        };
+        self.alloc_near(pool, life, refs, plain, near)
+    }
+
+    /// The same, where the search for a free block begins near a place.
+    ///
+    /// # Errors
+    ///
+    /// `TooLarge` where more than 16 reference words or more than 8 plain words are asked for: nothing has changed, and a client that has
+    /// died is told so too.
+    pub fn alloc_near(
+        &mut self,
+        pool: &SharedPool,
+        life: &mut Life,
+        refs: u8,
+        plain: &[u64],
+        near: Near,
+    ) -> Result<Reply<Result<Made, AllocFault>>, TooLarge>
+        requires pool { self.old.of ≡ pool.now }
+        requires between { self.old.dead ≡ false → IsBetween self.old.account }
+        ensures refused { is_err result ≡ true ↔ ((16 < refs) ⊎ (8 < length plain.now)) }
+        ensures fault { IfErr result (λ e. (e ≡ record { refs = refs; plain = length plain.now }) × (self.new ≡ self.old) × (life.new ≡ life.old)) }
+        ensures called { IfOk result (HasAllocatedNear refs plain.now near self.old self.new life.old.left life.new.left) }
+        ensures rests { Rests self.new }
+    {
+        let alloc = Alloc::new_near(self.me(), refs, plain, near)?;
         Ok(self.run(pool, alloc, life))
     }
 

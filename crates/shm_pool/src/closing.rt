@@ -3,8 +3,7 @@
 ghost use Rattle.std.specs.Prelude.{◌≡◌, ℕ, ◌<◌, ◌≤◌, [], length, true, false, IfOk, MatchOption, vec_len};
 ghost use Rattle.std.specs.Mem.Slots.{slots_items, slots_len, IsFull};
 ghost use Rattle.shm_words.specs.Layout.{total_of, GeometryFits};
-ghost use Rattle.shm_pool.specs.Rules.{count_in};
-ghost use Rattle.shm_pool.specs.Tokens.{its, AllStill, AllOf, accounts_of};
+ghost use Rattle.shm_pool.specs.{Rules.count_in, Tokens.{its, AllStill, AllOf, accounts_of}};
 
 use crate::notes::{Board, board};
 use crate::rule::{Glue, Place, Sit, Top};

@@ -2,9 +2,7 @@
 
 ghost use Rattle.std.specs.Prelude.{◌≡◌, true, false, None};
 ghost use Rattle.shm_table.specs.TableTasks.{LineMay};
-ghost use Rattle.shm_pool.specs.Called.{HasCommanded};
-ghost use Rattle.shm_pool.specs.Calls.{IsBetween};
-ghost use Rattle.shm_pool.specs.Tokens.{me_of};
+ghost use Rattle.shm_pool.specs.{Called.HasCommanded, Calls.IsBetween, Tokens.me_of};
 
 use crate::pool::SharedPool;
 use crate::reply::Reply;

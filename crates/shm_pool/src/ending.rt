@@ -1,12 +1,10 @@
 //! The last machine of an agent, which leaves its identity gone.
 
 ghost use Rattle.std.specs.Prelude.{◌≡◌, ◌<◌, true, false, IfOk, IfErr, is_err, is_ok};
-ghost use Rattle.shm_graph.specs.Agents.{acts};
-ghost use Rattle.shm_graph.specs.Whole.{fits_now, gives_now};
-ghost use Rattle.shm_pool.specs.declared.token.Cause.TheVariants as cause;
-ghost use Rattle.shm_pool.specs.Rules.{alone};
-ghost use Rattle.shm_pool.specs.Tokens.{has_left, its, me_of, token_of, IsFor, IsFallen, IsSeated};
+ghost use Rattle.shm_graph.specs.{Agents.acts, Whole.{fits_now, gives_now}};
+ghost use Rattle.shm_pool.specs.{Rules.alone, Tokens.{has_left, its, me_of, token_of, IsFor, IsFallen, IsSeated}};
 ghost use Rattle.shm_pool.specs.Endings.{ClientMayLeave, HasEnded, HasStopped, HasLeft, HasNotLeft, Leaves, fallen_of};
+ghost use Rattle.shm_pool.specs.declared.token.Cause.TheVariants as cause;
 
 use crate::pool::SharedPool;
 use crate::rule::Place;

@@ -1,17 +1,12 @@
 //! What is read off the calls of a client most often, and what a closed pool says of two identities.
 
 ghost use Rattle.std.specs.Prelude.{◌≡◌, ◌≢◌, ◌<◌, ℕ, List, [], Ok, Result, take, slice_index_or};
-ghost use Rattle.shm_graph.specs.declared.run.Account.{Account as AnAccount};
-ghost use Rattle.shm_graph.specs.declared.run.Start.{Start as AStart};
-ghost use Rattle.shm_graph.specs.declared.spot.Spot.TheVariants.{QueueHead};
-ghost use Rattle.shm_graph.specs.Runs.{account_at};
-ghost use Rattle.shm_graph.specs.Spots.{see};
+ghost use Rattle.shm_graph.specs.declared.run.{Account.Account as AnAccount, Start.Start as AStart};
+ghost use Rattle.shm_graph.specs.{declared.spot.Spot.TheVariants.QueueHead, Runs.account_at, Spots.see};
 ghost use Rattle.shm_alloc.specs.declared.alloc.AllocFault.{AllocFault as AnAllocFault};
 ghost use Rattle.shm_count.specs.declared.answer.Made.{Made as AMade};
-ghost use Rattle.shm_pool.specs.declared.reply.Reply.TheVariants.{Done};
-ghost use Rattle.shm_pool.specs.Called.{HasAllocated, HasRoot};
-ghost use Rattle.shm_pool.specs.Endings.{ClientMayLeave};
-ghost use Rattle.shm_pool.specs.Tokens.{Acting, IsClosedRun};
+ghost use Rattle.shm_pool.specs.{declared.reply.Reply.TheVariants.Done, Called.{HasAllocated, HasRoot}};
+ghost use Rattle.shm_pool.specs.{Endings.ClientMayLeave, Tokens.{Acting, IsClosedRun}};
 
 use shm_alloc::alloc_keeps;
 

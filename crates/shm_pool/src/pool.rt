@@ -2,10 +2,9 @@
 
 ghost use Rattle.std.specs.Prelude.{◌≡◌, ℕ, ◌<◌, ◌≤◌, [], length, IfOk, IfErr};
 ghost use Rattle.shm_words.specs.Layout.{total_of, GeometryFits};
-ghost use Rattle.shm_pool.specs.Rules.{count_in};
-ghost use Rattle.shm_graph.specs.Runs.{EraFits};
-ghost use Rattle.shm_pool.specs.Tokens.{first_tokens, AllOf, accounts_of, by_who, IsClosedRun};
+ghost use Rattle.shm_pool.specs.{Rules.count_in, Tokens.{first_tokens, AllOf, accounts_of, by_who, IsClosedRun}};
 ghost use Rattle.shm_pool.specs.Causes.{IfMissing};
+ghost use Rattle.shm_graph.specs.Runs.{EraFits};
 
 use crate::closing::{CloseCause, copy_words, missing, room, take_in};
 use crate::notes::{Board, keep};

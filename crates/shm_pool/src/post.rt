@@ -2,10 +2,8 @@
 
 ghost use Rattle.std.specs.Prelude.{◌≡◌, ◌<◌, ℕ, true, false, []};
 ghost use Rattle.shm_words.specs.Layout.{total_of};
-ghost use Rattle.shm_graph.specs.Agents.{acts, last_agent};
-ghost use Rattle.shm_graph.specs.Runs.{Stood, account_died, fell_by, first_account};
-ghost use Rattle.shm_pool.specs.Rules.{IsAlone, alone};
-ghost use Rattle.shm_pool.specs.Posts.{IsPosted, Knows, account_seen};
+ghost use Rattle.shm_graph.specs.{Agents.{acts, last_agent}, Runs.{Stood, account_died, fell_by, first_account}};
+ghost use Rattle.shm_pool.specs.{Rules.{IsAlone, alone}, Posts.{IsPosted, Knows, account_seen}};
 ghost use Rattle.shm_pool.specs.Tokens.{IsOut, IsSeated};
 ghost use Rattle.shm_work.specs.Working.{MayWork, ready_account};
 

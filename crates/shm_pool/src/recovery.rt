@@ -2,13 +2,10 @@
 
 ghost use Rattle.std.specs.Prelude.{◌≡◌, ◌<◌, true, false, IfOk, IfErr, is_err};
 ghost use Rattle.shm_words.specs.Layout.{total_of};
-ghost use Rattle.shm_graph.specs.Agents.{acts};
-ghost use Rattle.shm_graph.specs.Runs.{Stood};
-ghost use Rattle.shm_graph.specs.Whole.{fits_now, gives_now};
-ghost use Rattle.shm_pool.specs.declared.token.Cause.TheVariants as cause;
-ghost use Rattle.shm_pool.specs.Rules.{IsAlone, alone};
-ghost use Rattle.shm_pool.specs.Tokens.{me_of, begun_account, recovering, IsFallen};
+ghost use Rattle.shm_graph.specs.{Agents.acts, Runs.Stood, Whole.{fits_now, gives_now}};
+ghost use Rattle.shm_pool.specs.{Rules.{IsAlone, alone}, Tokens.{me_of, begun_account, recovering, IsFallen}};
 ghost use Rattle.shm_pool.specs.Endings.{HasEnded, HasNotRecovered, HasRecovered, HasStopped, Leaves};
+ghost use Rattle.shm_pool.specs.declared.token.Cause.TheVariants as cause;
 
 use crate::ending::{end_by, stop};
 use crate::pool::SharedPool;

@@ -2,19 +2,13 @@
 
 ghost use Rattle.std.specs.Prelude.{◌≡◌, ◌+◌, ◌<◌, ◌↔◌, true, false, Ok, IfOk, IfErr, is_ok};
 ghost use Rattle.shm_words.specs.Layout.{total_of};
-ghost use Rattle.shm_calls.specs.CallsControl.{calls_of};
-ghost use Rattle.shm_calls.specs.CallsFit.{CallsFits, CallsGives};
+ghost use Rattle.shm_calls.specs.{CallsControl.calls_of, CallsFit.{CallsFits, CallsGives}};
+ghost use Rattle.shm_graph.specs.{Agents.acts, Laws.{is_died, is_done}, Runs.Stood, Whole.{fits_now, gives_now}};
 ghost use Rattle.shm_graph.specs.declared.ask.Turn.TheVariants as turns;
-ghost use Rattle.shm_graph.specs.Agents.{acts};
-ghost use Rattle.shm_graph.specs.Laws.{is_died, is_done};
-ghost use Rattle.shm_graph.specs.Runs.{Stood};
-ghost use Rattle.shm_graph.specs.Whole.{fits_now, gives_now};
 ghost use Rattle.shm_recover.specs.Machines.Recovering.{recover};
-ghost use Rattle.shm_recover.specs.Recover.Control.{recover_parts, recovering as recovery};
+ghost use Rattle.shm_recover.specs.Recover.Control.{recover_parts, recovering as recovery, recover_steered};
 ghost use Rattle.shm_recover.specs.Recover.{recover_plan};
-ghost use Rattle.shm_pool.specs.Calls.{ClientStepped};
-ghost use Rattle.shm_pool.specs.Rules.{IsAlone, alone};
-ghost use Rattle.shm_pool.specs.Rescues.{account_of};
+ghost use Rattle.shm_pool.specs.{Calls.ClientStepped, Rules.{IsAlone, alone}, Rescues.account_of};
 ghost use Rattle.shm_pool.specs.Tokens.{me_of, IsFallen};
 
 use crate::pool::SharedPool;
@@ -77,7 +71,7 @@ impl Corpse {
     /// A recovery of the identity that is stepped: it makes no step. The death is noted and the recoverer begins with its first word step.
     pub fn start(self) -> Rescuer
         ensures of { (result.of ≡ self.of) × (result.seat ≡ self.account) × (result.begun ≡ false) × (result.done ≡ false) }
-        ensures machine { result.machine ≡ calls_of recover_plan (recovery (me_of self.of self.account)) }
+        ensures machine { result.machine ≡ calls_of recover_steered (recovery (me_of self.of self.account)) }
         ensures fits { let r = (account_of false self.account).memo in fits_now recover (CallsFits recover_parts recover_plan) result.machine r r }
     {
         let Corpse {

@@ -1,19 +1,14 @@
 //! One word step of any machine on the table.
 
 ghost use Rattle.std.specs.Prelude.{◌≡◌, ℕ, ◌+◌, ◌<◌, ◌↔◌, [], ◌∷◌, true, false, if◌then◌else◌, IfSome, IsNone};
-ghost use Rattle.shm_words.specs.declared.place.Place.TheVariants as APlace;
 ghost use Rattle.shm_words.specs.Layout.{GeometryFits, address, total_of};
+ghost use Rattle.shm_words.specs.declared.place.Place.TheVariants as APlace;
 ghost use Rattle.shm_graph.specs.declared.memo.Kind.TheVariants.{Client as AClient, Recoverer as ARecoverer};
-ghost use Rattle.shm_graph.specs.declared.memo.Memo.{Memo};
-ghost use Rattle.shm_graph.specs.Agents.{acts, recovers};
-ghost use Rattle.shm_graph.specs.Held.{status_word};
+ghost use Rattle.shm_graph.specs.{declared.memo.Memo.Memo, Agents.{acts, recovers}, Held.status_word};
 ghost use Rattle.shm_graph.specs.Laws.{is_died, is_done, is_some, turn_of};
-ghost use Rattle.shm_graph.specs.Runs.{MayBegin, account_died, account_entered, Stood};
-ghost use Rattle.shm_graph.specs.Whole.{fits_now, gives_now};
-ghost use Rattle.shm_pool.specs.Rules.{IsOf, IsAlone, alone, Told};
-ghost use Rattle.shm_pool.specs.Sites.{MayMake, Made, last_word};
-ghost use Rattle.shm_pool.specs.Calls.{ClientStepped, Drives, Tells, acts_still, StillFits};
-ghost use Rattle.shm_pool.specs.Tokens.{has_left};
+ghost use Rattle.shm_graph.specs.{Runs.{MayBegin, account_died, account_entered, Stood}, Whole.{fits_now, gives_now}};
+ghost use Rattle.shm_pool.specs.{Rules.{IsOf, IsAlone, alone, Told}, Sites.{MayMake, Made, last_word}};
+ghost use Rattle.shm_pool.specs.{Calls.{ClientStepped, Drives, Tells, acts_still, StillFits}, Tokens.has_left};
 
 use crate::rule::{ClientBegins, Dies, Place, ReadsStatus, RecovererBegins, Say, Top};
 use crate::site::OnTable;

@@ -2,20 +2,13 @@
 
 ghost use Rattle.std.specs.Prelude.{◌≡◌, ◌+◌, ◌<◌, ◌↔◌, ◌⊎◌, true, false, IfOk, IfErr, is_err};
 ghost use Rattle.shm_words.specs.Layout.{GeometryFits};
-ghost use Rattle.shm_graph.specs.declared.memo.Kind.TheVariants.{Client as AClient};
-ghost use Rattle.shm_graph.specs.declared.memo.Memo.{Memo};
-ghost use Rattle.shm_graph.specs.Agents.{recovers};
-ghost use Rattle.shm_graph.specs.Core.{core};
-ghost use Rattle.shm_graph.specs.Laws.{is_died};
-ghost use Rattle.shm_graph.specs.Runs.{account_entered, Stood};
-ghost use Rattle.shm_graph.specs.Whole.{fits_now, gives_now};
+ghost use Rattle.shm_graph.specs.{declared.memo.{Kind.TheVariants.Client as AClient, Memo.Memo}, Agents.recovers};
+ghost use Rattle.shm_graph.specs.{Core.core, Laws.is_died, Runs.{account_entered, Stood}, Whole.{fits_now, gives_now}};
 ghost use Rattle.shm_recover.specs.Join.{JoinGives, join_control, join_fresh, join_line};
-ghost use Rattle.shm_pool.specs.declared.token.Cause.TheVariants as cause;
 ghost use Rattle.shm_pool.specs.Calls.{Calls, ClientStepped, Drives, IsBetween, Tells, StillFits, shown};
-ghost use Rattle.shm_pool.specs.Doing.{HasDone};
-ghost use Rattle.shm_pool.specs.Tokens.{has_left, me_of, live, IsFor, IsOut, IsServing};
-ghost use Rattle.shm_pool.specs.Replies.{IsLost, IfReply, is_reply};
-ghost use Rattle.shm_pool.specs.Endings.{ClientMayLeave};
+ghost use Rattle.shm_pool.specs.{Doing.HasDone, Tokens.{has_left, me_of, live, IsFor, IsOut, IsServing}};
+ghost use Rattle.shm_pool.specs.{Replies.{IsLost, IfReply, is_reply}, Endings.ClientMayLeave};
+ghost use Rattle.shm_pool.specs.declared.token.Cause.TheVariants as cause;
 
 use crate::ending::stop;
 use crate::pool::SharedPool;

@@ -1,18 +1,12 @@
 -- what a call did, by where it ended
 use Rattle.std.proofs.Common.{◌≡◌, ◌≢◌, ℕ, ◌<◌, List, drop, map, ap, sym, ◌∙◌, subst, arith, inl, inr, ◌⊎◌}
-use Rattle.std.specs.Prelude.{Option, Some, None, Result, Ok, Err, IfOk, IfErr}
-use Rattle.std.specs.declared.alloc.AllocError.{AllocError}
-use Rattle.std.specs.declared.io.ErrorKind.{ErrorKind}
-use Rattle.std.specs.declared.io.ErrorKind.TheVariants.{OutOfMemory}
-use Rattle.shm_io.specs.Faults.{NoFault, Rose}
-use Rattle.shm_io.specs.Reading.{LosesFront, TakesFront}
+use Rattle.std.specs.{Prelude.{Option, Some, None, Result, Ok, Err, IfOk, IfErr}, declared.alloc.AllocError.AllocError}
+use Rattle.std.specs.declared.io.ErrorKind.{ErrorKind, TheVariants.OutOfMemory}
+use Rattle.shm_io.specs.{Faults.{NoFault, Rose}, Reading.{LosesFront, TakesFront}}
 use Rattle.shm_program.specs.Commands.{Ends, EndsUnread}
 use Rattle.shm_program.specs.Outcomes.{Answers, IsCall, IsWanting, IsWritten, Misused, Sides, usage_text}
-use Rattle.shm_program.specs.Reads.{IsRead, IsUnread, limit_of, most_of}
-use Rattle.shm_program.specs.Words.{NamesCommand, job_of}
-use Rattle.shm_program.specs.declared.answer.Reply.{Reply}
-use Rattle.shm_program.specs.declared.outcome.Finished.{Finished}
-use Rattle.shm_program.specs.declared.outcome.Finished.TheVariants.{Neither}
+use Rattle.shm_program.specs.{Reads.{IsRead, IsUnread, limit_of, most_of}, Words.{NamesCommand, job_of}}
+use Rattle.shm_program.specs.declared.{answer.Reply.Reply, outcome.Finished.{Finished, TheVariants.Neither}}
 use Rattle.shm_program.specs.declared.words.Job.{Job}
 use Rattle.shm_program.proofs.Commands.{command_named}
 use Rattle.shm_program.proofs.TopAnswers.{Said, complete, done_written, faulty, refused_written, said, same_job}

@@ -1,39 +1,24 @@
 -- the image of a closed pool: its words, what is answered to it, and the report's last line
 use Rattle.std.proofs.Common.{◌≡◌, ℕ, ◌<◌, ◌≤◌, ◌^◌, List, [], ◌++◌, get_or, append_assoc, sym, subst, ap, ◌∙◌, inl, inr, refl, lit<}
-use Rattle.std.specs.Prelude.{Option, None, Some, codes}
-use Rattle.std.specs.Fmt.{decimal}
-use Rattle.std.specs.List.{flat_map}
-use Rattle.std.proofs.lemmas.Bool.{cases_lt}
-use Rattle.std.proofs.lemmas.List.{get_or_past}
-use Rattle.shm_words.specs.declared.geometry.Geometry.{Geometry}
-use Rattle.shm_words.specs.Layout.{total_of}
-use Rattle.shm_graph.specs.declared.run.Account.{Account}
-use Rattle.shm_graph.specs.declared.table.Entry.{Entry}
-use Rattle.shm_graph.specs.Blocks.{classes, headers}
-use Rattle.shm_graph.specs.References.{homes_in_all, live_count, references, references_in_all}
-use Rattle.shm_graph.specs.Runs.{Held}
+use Rattle.std.proofs.lemmas.{Bool.cases_lt, List.get_or_past}
+use Rattle.std.specs.{Prelude.{Option, None, Some, codes}, Fmt.decimal, List.flat_map}
+use Rattle.shm_words.specs.{declared.geometry.Geometry.Geometry, Layout.total_of}
+use Rattle.shm_graph.specs.{declared.{run.Account.Account, table.Entry.Entry}, Blocks.{classes, headers}}
+use Rattle.shm_graph.specs.{References.{homes_in_all, live_count, references, references_in_all}, Runs.Held}
 use Rattle.shm_graph.specs.Spots.{classes_in, see, spot_at}
 use Rattle.shm_graph.proofs.Spots.Seeing.{see-spot}
-use Rattle.shm_audit.specs.declared.fault.ImageFault.{ImageFault}
-use Rattle.shm_audit.specs.Faults.{image_fault_of}
-use Rattle.shm_audit.specs.Images.{geometry_in, image_of, words_in}
-use Rattle.shm_audit.specs.Texts.{verdict_line}
+use Rattle.shm_audit.specs.{declared.fault.ImageFault.ImageFault, Faults.image_fault_of}
+use Rattle.shm_audit.specs.{Images.{geometry_in, image_of, words_in}, Texts.verdict_line}
 use Rattle.shm_audit.specs.Verdicts.{clean_verdict, verdict_of}
-use Rattle.shm_audit.proofs.CleanImages.{image_faultless, image_verdict}
-use Rattle.shm_audit.proofs.ReadingBack.{AreWords}
-use Rattle.shm_plain.specs.Closings.{IsClosedRun}
-use Rattle.shm_plain.specs.Pools.{Pool}
+use Rattle.shm_audit.proofs.{CleanImages.{image_faultless, image_verdict}, ReadingBack.AreWords}
+use Rattle.shm_plain.specs.{Closings.IsClosedRun, Pools.Pool}
 use Rattle.shm_replay.proofs.SameReplays.{replay_same}
 use Rattle.shm_report.specs.Logs.{line_end, log_text}
 use Rattle.shm_report.specs.Report.{named_from, row_line, rows_below, table_line, value_lines}
-use Rattle.shm_script.specs.Logged.{Logged}
-use Rattle.shm_script.specs.Values.{Traced}
+use Rattle.shm_script.specs.{Logged.Logged, Values.Traced}
 use Rattle.shm_versions.specs.RunTexts.{last_line}
-use Rattle.shm_program.specs.declared.outcome.Finished.{Finished}
-use Rattle.shm_program.specs.declared.words.Form.TheVariants.{Report}
-use Rattle.shm_program.specs.declared.words.Job.TheVariants.{Audit}
-use Rattle.shm_program.specs.Outcomes.{Answers}
-use Rattle.shm_program.specs.Replays.{IsRan, IsTold, written}
+use Rattle.shm_program.specs.declared.{outcome.Finished.Finished, words.Form.TheVariants.Report}
+use Rattle.shm_program.specs.{declared.words.Job.TheVariants.Audit, Outcomes.Answers, Replays.{IsRan, IsTold, written}}
 
 -- each word of a pool whose state holds is below 2 ^ 64
 words_small : (g : Geometry) (ws : List ℕ) (es : List Account) → Held g ws es → (i : ℕ) → get_or ws i 0 < 2 ^ 64

@@ -1,12 +1,10 @@
 -- what the words of a command ask for, by what was read in them
 use Rattle.std.proofs.Common.{◌≡◌, ◌<◌, ℕ, Bool, true, false, ◌&&◌, arith, get_or, map, List, [], ◌∷◌, Option, Some, None, length, refl, sym, ap, ap₂, ◌∙◌, IfErr, Result, Ok, Err, option_map, option_and_then}
 use Rattle.clap.specs.Words.{App, IsAmong, Kinds, Row, fault_of, is_simple, is_simple_and_free, matches_of}
-use Rattle.clap.specs.declared.error.kind.ErrorKind.{ErrorKind}
-use Rattle.clap.specs.declared.parser.matches.ArgMatches.{ArgMatches}
+use Rattle.clap.specs.declared.{error.kind.ErrorKind.ErrorKind, parser.matches.ArgMatches.ArgMatches}
 use Rattle.clap.proofs.OnLiterals.{clap_on_literals}
 use Rattle.shm_program.specs.Words.{NamesCommand, asked, job_by, job_of, make_command, name_of, poll_command, read_by, replay_command, rows_in, run_command, unless_faulty}
-use Rattle.shm_program.specs.declared.words.Job.{Job}
-use Rattle.shm_program.specs.declared.words.Name.{Name}
+use Rattle.shm_program.specs.declared.words.{Job.Job, Name.Name}
 
 pub replay_free : is_simple_and_free replay_command ≡ true
 unfolding clap_on_literals

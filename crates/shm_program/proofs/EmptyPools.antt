@@ -1,17 +1,12 @@
 -- the last line that is told of a closed pool in which no block is live
 use Rattle.std.proofs.Common.{◌≡◌, ℕ, true, false, List, ◌++◌, append_assoc, sym, ap, ap₂, ◌∙◌, arith, inl, inr}
-use Rattle.std.specs.Prelude.{Bool, codes, ◌==◌, if◌then◌else◌}
-use Rattle.std.specs.Fmt.{decimal}
-use Rattle.std.proofs.lemmas.Bool.{cases_eq}
-use Rattle.std.proofs.lemmas.Fmt.{decimal_digit}
+use Rattle.std.proofs.lemmas.{Bool.cases_eq, Fmt.decimal_digit}
+use Rattle.std.specs.{Prelude.{Bool, codes, ◌==◌, if◌then◌else◌}, Fmt.decimal}
 use Rattle.shm_words.specs.Layout.{total_of}
-use Rattle.shm_graph.specs.declared.spot.Spot.{Spot}
-use Rattle.shm_graph.specs.Blocks.{classes, headers}
-use Rattle.shm_graph.specs.References.{live_count, one_if, references, references_in_all}
-use Rattle.shm_graph.specs.Spots.{see, spot_at}
+use Rattle.shm_graph.specs.{declared.spot.Spot.Spot, Blocks.{classes, headers}}
+use Rattle.shm_graph.specs.{References.{live_count, one_if, references, references_in_all}, Spots.{see, spot_at}}
 use Rattle.shm_graph.proofs.Spots.Sums.{sum_none}
-use Rattle.shm_plain.specs.Closings.{IsClosedRun}
-use Rattle.shm_plain.specs.Pools.{Pool}
+use Rattle.shm_plain.specs.{Closings.IsClosedRun, Pools.Pool}
 use Rattle.shm_tree.specs.Keeping.{is_live}
 use Rattle.shm_versions.specs.RunTexts.{last_line}
 

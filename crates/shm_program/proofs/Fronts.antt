@@ -3,17 +3,14 @@ use Rattle.std.proofs.Common.{◌≡◌, ℕ, ◌≤◌, ◌⊎◌, List, [], �
 use Rattle.std.proofs.lemmas.List.{append-nil, take_all}
 use Rattle.std.specs.Prelude.{Option, Some, None}
 use Rattle.shm_io.specs.Writing.{Appends, AppendsFront}
-use Rattle.shm_program.specs.declared.outcome.Finished.{Finished}
-use Rattle.shm_program.specs.declared.words.Job.{Job}
+use Rattle.shm_program.specs.declared.{outcome.Finished.Finished, words.Job.Job}
 use Rattle.shm_program.specs.declared.words.Job.TheVariants.{Replay, Print, Run, Rescue, Audit, Migrate, Make, Draw, Poll, Tree}
 use Rattle.shm_program.specs.Outcomes.{Answers, Decided, Done, IsCall, IsDone, IsStatus, Misused, Refused, Sides}
 use Rattle.shm_program.specs.Reads.{Reads, limit_of, most_of}
 use Rattle.shm_program.specs.Streams.{AreFirst, Grows, IsAnswered, IsStopped, IsTextOf, WritesFrontOf}
 use Rattle.shm_program.specs.Words.{AreDetermined, job_of}
-use Rattle.shm_program.proofs.ImageSizes.{image_short, unrefused}
-use Rattle.shm_program.proofs.SameCalls.{done_bytes, refused_bytes}
-use Rattle.shm_program.proofs.SameTexts.{answers_same}
-use Rattle.shm_program.proofs.TopAnswers.{same_job}
+use Rattle.shm_program.proofs.{ImageSizes.{image_short, unrefused}, SameCalls.{done_bytes, refused_bytes}}
+use Rattle.shm_program.proofs.{SameTexts.answers_same, TopAnswers.same_job}
 
 -- ---- what was read
 

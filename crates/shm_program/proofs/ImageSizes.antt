@@ -1,16 +1,14 @@
 -- how long an image without a fault is
 use Rattle.std.proofs.Common.{◌≡◌, ℕ, ◌+◌, ◌*◌, ◌<◌, ◌≤◌, Bool, true, false, not, ◌||◌, cond, nat_lt, eqb, List, length, slice_index, arith, refl, Option, Some, None}
 use Rattle.std.proofs.lemmas.Bool.Decides.{nat_tests}
-use Rattle.shm_words.specs.declared.geometry.Geometry.{Geometry}
-use Rattle.shm_words.specs.Layout.{GeometryFits, total_of}
+use Rattle.std.specs.Option.{option_or}
+use Rattle.shm_words.specs.{declared.geometry.Geometry.Geometry, Layout.{GeometryFits, total_of}}
 use Rattle.shm_words.proofs.Placing.{total_most_wide}
-use Rattle.shm_audit.specs.declared.fault.ImageFault.{ImageFault}
-use Rattle.shm_audit.specs.declared.fault.ImageFault.TheVariants as fault
+use Rattle.shm_audit.specs.declared.{fault.ImageFault.ImageFault, verdict.Verdict.Verdict}
 use Rattle.shm_audit.specs.Images.{geometry_in, marks, numbers_in, words_in}
 use Rattle.shm_audit.specs.Faults.{frame_fault_of, image_fault_of, image_len, is_size, words_fault_of}
-use Rattle.shm_audit.specs.declared.verdict.Verdict.{Verdict}
+use Rattle.shm_audit.specs.declared.fault.ImageFault.TheVariants as fault
 use Rattle.shm_migrate.specs.Migrations.{refusal, refusal_of, verdict_in}
-use Rattle.std.specs.Option.{option_or}
 
 first_none : (a b : Option ImageFault) → option_or a b ≡ None → a ≡ None
 first_none None b e = refl

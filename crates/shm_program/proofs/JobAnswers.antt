@@ -1,16 +1,11 @@
 -- what is told of a trace, or of a script, is the answer of the job that has it
 use Rattle.std.proofs.Common.{◌≡◌, ℕ, List, Option, subst, inl}
-use Rattle.shm_script.specs.Drawing.{drawn_trace}
-use Rattle.shm_script.specs.Values.{Traced}
-use Rattle.shm_tree.specs.Scripts.{Scripted}
-use Rattle.shm_tree.specs.ScriptTexts.{Spells as SpellsScript}
-use Rattle.shm_program.specs.declared.outcome.Finished.{Finished}
-use Rattle.shm_program.specs.declared.words.Form.{Form}
-use Rattle.shm_program.specs.declared.words.Form.TheVariants.{Summary}
+use Rattle.shm_script.specs.{Drawing.drawn_trace, Values.Traced}
+use Rattle.shm_tree.specs.{Scripts.Scripted, ScriptTexts.Spells as SpellsScript}
+use Rattle.shm_program.specs.declared.{outcome.Finished.Finished, words.Form.{Form, TheVariants.Summary}}
 use Rattle.shm_program.specs.declared.words.Job.TheVariants.{Replay, Print, Run, Rescue, Make, Poll, Tree}
 use Rattle.shm_program.specs.Outcomes.{Answers, IsPrinted, Spells}
-use Rattle.shm_program.specs.Replays.{IsPollTold, IsRescueTold, IsTeamTold, IsTold}
-use Rattle.shm_program.specs.Trees.{IsTreeTold}
+use Rattle.shm_program.specs.{Replays.{IsPollTold, IsRescueTold, IsTeamTold, IsTold}, Trees.IsTreeTold}
 
 pub read_told : (form : Form) (bytes : List ℕ) (t : Traced) (status : ℕ) (finished : Finished) (text : List ℕ) → Spells bytes t → (status ≡ 0) × IsTold form t finished text → Answers (Replay form) bytes status finished text
 read_told form bytes t status finished text s d = inl (d.0, (t, s, d.1))

@@ -1,13 +1,11 @@
 -- who has a log
 use Rattle.std.proofs.Common.{◌≡◌, ◌==◌, ℕ, Bool, true, false, cond, List, [], ◌∷◌, Option, Some, None, refl, ap, ◌∙◌}
-use Rattle.std.specs.FinMap as finmap
 use Rattle.std.specs.Ordering.{nat_cmp}
+use Rattle.std.specs.FinMap as finmap
 use Rattle.shm_plain.specs.Pools.{Pool}
-use Rattle.shm_agents.specs.Logs.{AreLogs}
-use Rattle.shm_agents.specs.Turns.{script_in}
+use Rattle.shm_agents.specs.{Logs.AreLogs, Turns.script_in}
 use Rattle.shm_replay.specs.Replays.{fold_in}
-use Rattle.shm_script.specs.Logged.{Logged, Table}
-use Rattle.shm_script.specs.Values.{Scripted}
+use Rattle.shm_script.specs.{Logged.{Logged, Table}, Values.Scripted}
 
 other : (b : Bool) (s : Scripted) (later : Option Scripted) → cond b (Some s) later ≡ None → (b ≡ false) × (later ≡ None)
 other true s later e = cc

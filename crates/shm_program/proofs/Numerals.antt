@@ -1,10 +1,8 @@
 -- what a parse of a plain numeral gives
 use Rattle.std.proofs.Common.{◌≡◌, ◌≢◌, ◌<◌, ◌^◌, ℕ, Bool, true, false, cond, get_or, List, [], ◌∷◌, length, Some, None, Result, Ok, Err, refl, sym, ap, ◌∙◌, rules, arith, lt-ltb, inl, inr, le-ltb}
-use Rattle.std.specs.Result.{OkIff, result_ok}
-use Rattle.std.specs.Str.{all_ascii_digits}
-use Rattle.std.specs.Str.Parse.{ParsesUnsigned}
 use Rattle.std.proofs.lemmas.Bool.{cases_lt}
 use Rattle.std.proofs.lemmas.Str.Parse.{IsNumeralModel, numerals_by_fold, parse_plain, tells_all_ascii_digits}
+use Rattle.std.specs.{Result.{OkIff, result_ok}, Str.{all_ascii_digits, Parse.ParsesUnsigned}}
 use Rattle.shm_script.specs.Numbers.{leads_well, small, value_after}
 use Rattle.shm_program.specs.Words.{number_in}
 

@@ -1,7 +1,6 @@
 -- the words after the first one
 use Rattle.std.proofs.Common.{◌≡◌, List, [], ◌∷◌, ◌++◌, length, drop, refl, sym, ap, ◌∙◌, arith, Option, Some, None}
-use Rattle.std.specs.Option.{option_to_list}
-use Rattle.std.specs.Vec.Iter.{into_iter_items, into_iter_len, into_iter_steps}
+use Rattle.std.specs.{Option.option_to_list, Vec.Iter.{into_iter_items, into_iter_len, into_iter_steps}}
 use Rattle.std.specs.declared.vec.IntoIter.{IntoIter}
 
 nothing : {A : Type 0} (xs : List A) → length xs ≡ 0 → xs ≡ []

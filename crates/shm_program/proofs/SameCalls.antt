@@ -2,14 +2,11 @@
 use Rattle.std.proofs.Common.{◌≡◌, true, ℕ, ◌≤◌, ◌⊎◌, List, length, take, sym, ◌∙◌, subst, arith, inl, inr}
 use Rattle.std.proofs.lemmas.List.{take_all}
 use Rattle.std.specs.Prelude.{Option, Some, None}
-use Rattle.shm_program.specs.declared.outcome.Finished.{Finished}
-use Rattle.shm_program.specs.declared.words.Job.{Job}
+use Rattle.shm_program.specs.declared.{outcome.Finished.Finished, words.Job.Job}
 use Rattle.shm_program.specs.declared.words.Job.TheVariants.{Replay, Print, Run, Rescue, Audit, Migrate, Make, Draw, Poll, Tree}
 use Rattle.shm_program.specs.Outcomes.{Asks, Decided, Done, IsDone, IsFaulty, Refused}
-use Rattle.shm_program.specs.Reads.{Reads, ReadsLimit, limit_of}
-use Rattle.shm_program.specs.Words.{AreDetermined, is_determined, job_of}
-use Rattle.shm_program.proofs.ImageSizes.{image_short, unrefused}
-use Rattle.shm_program.proofs.SameTexts.{done_or_faulty, done_same, faulty_same}
+use Rattle.shm_program.specs.{Reads.{Reads, ReadsLimit, limit_of}, Words.{AreDetermined, is_determined, job_of}}
+use Rattle.shm_program.proofs.{ImageSizes.{image_short, unrefused}, SameTexts.{done_or_faulty, done_same, faulty_same}}
 use Rattle.shm_program.proofs.TopAnswers.{same_job}
 
 -- the bytes of a source up to a limit that they keep

@@ -1,36 +1,24 @@
 -- what is written of a trace is determined
 use Rattle.std.proofs.Common.{◌≡◌, true, ℕ, zero, suc, ◌<◌, ◌≤◌, List, [], ◌∷◌, ◌++◌, map, refl, sym, ap, ◌∙◌, subst, arith, inl, inr}
 use Rattle.std.proofs.lemmas.Bool.{cases_eq}
-use Rattle.std.specs.Prelude.{Option, Some, None, Result, Ok, Err}
+use Rattle.std.specs.{Prelude.{Option, Some, None, Result, Ok, Err}, List.flat_map}
 use Rattle.shm_audit.specs.Texts.{fault_line as image_fault_line}
 use Rattle.shm_words.specs.declared.geometry.Geometry.{Geometry}
-use Rattle.shm_graph.specs.declared.spot.Spot.TheVariants.{Home}
-use Rattle.shm_graph.specs.declared.table.Entry.{Entry}
-use Rattle.shm_graph.specs.Spots.{see}
+use Rattle.shm_graph.specs.{declared.{spot.Spot.TheVariants.Home, table.Entry.Entry}, Spots.see}
 use Rattle.shm_graph.specs.Tables.{IsChain, IsTable}
 use Rattle.shm_plain.specs.Pools.{Pool}
 use Rattle.shm_replay.proofs.SameReplays.{replay_same}
 use Rattle.shm_report.specs.Report.{add_entries, entries_below, row_of, rows_below, rows_text, counts_text, table_line}
-use Rattle.shm_report.specs.Logs.{client_line, log_text}
-use Rattle.shm_report.specs.TableRows.{contents_in}
+use Rattle.shm_report.specs.{Logs.{client_line, log_text}, TableRows.contents_in}
 use Rattle.shm_report.proofs.ChainReading.{chain_end}
-use Rattle.shm_script.specs.declared.fault.TraceFault.{TraceFault}
-use Rattle.shm_script.specs.Drawing.{drawn_trace}
-use Rattle.shm_script.specs.Faults.{fault_of}
-use Rattle.shm_script.specs.Logged.{Logged}
-use Rattle.shm_script.specs.Text.{text_of}
-use Rattle.shm_script.specs.Values.{Traced}
+use Rattle.shm_script.specs.{declared.fault.TraceFault.TraceFault, Drawing.drawn_trace, Faults.fault_of, Logged.Logged}
+use Rattle.shm_script.specs.{Text.text_of, Values.Traced}
 use Rattle.shm_script.proofs.Complete.{faultless, one_spelling}
 use Rattle.shm_tree.specs.Scripts.{script_of}
-use Rattle.std.specs.List.{flat_map}
 use Rattle.shm_migrate.specs.Migrations.{stop_line}
-use Rattle.shm_program.specs.Outcomes.{Answers, IsDone, IsFaulty, Spells}
-use Rattle.shm_program.specs.Refusals.{fault_line}
-use Rattle.shm_program.specs.Replays.{IsTold, written}
-use Rattle.shm_program.specs.declared.outcome.Finished.{Finished}
-use Rattle.shm_program.specs.declared.words.Form.{Form}
-use Rattle.shm_program.specs.declared.words.Form.TheVariants.{Report, Image, Summary}
-use Rattle.shm_program.specs.declared.words.Job.{Job}
+use Rattle.shm_program.specs.{Outcomes.{Answers, IsDone, IsFaulty, Spells}, Refusals.fault_line}
+use Rattle.shm_program.specs.{Replays.{IsTold, written}, declared.{outcome.Finished.Finished, words.Form.Form}}
+use Rattle.shm_program.specs.declared.words.{Form.TheVariants.{Report, Image, Summary}, Job.Job}
 use Rattle.shm_program.specs.declared.words.Job.TheVariants.{Replay, Print, Run, Rescue, Audit, Migrate, Make, Draw, Poll, Tree}
 use Rattle.shm_program.specs.Words.{is_determined}
 use Rattle.shm_program.proofs.SpelledScripts.{spelled_read}

@@ -1,14 +1,9 @@
 -- the turns that lead to a pool
 use Rattle.std.proofs.Common.{◌≡◌, List, ◌∷◌, ◌++◌, subst}
-use Rattle.shm_graph.specs.declared.memo.Step.{Step}
-use Rattle.shm_graph.specs.declared.run.Move.{Move}
-use Rattle.shm_graph.specs.declared.run.Move.TheVariants.{Word}
+use Rattle.shm_graph.specs.declared.{memo.Step.Step, run.Move.{Move, TheVariants.Word}}
 use Rattle.shm_graph.specs.Runs.{IsMove, Leads, State, Turned, first_state, moved}
-use Rattle.shm_graph.proofs.States.HeldSound.{held_state_sound}
-use Rattle.shm_graph.proofs.Runs.EraRises.{first_was_held}
-use Rattle.shm_graph.proofs.Runs.Running.{Leads-split}
-use Rattle.shm_plain.specs.Calls.{state_of}
-use Rattle.shm_plain.specs.Pools.{Pool, IsRun}
+use Rattle.shm_graph.proofs.{States.HeldSound.held_state_sound, Runs.{EraRises.first_was_held, Running.Leads-split}}
+use Rattle.shm_plain.specs.{Calls.state_of, Pools.{Pool, IsRun}}
 use Rattle.shm_program.specs.Runs.{IsOneEvent, IsSoundState, IsSoundTurn}
 
 module _ (p : Pool) (run : IsRun p) where

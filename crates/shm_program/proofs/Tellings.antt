@@ -1,15 +1,11 @@
 -- what is told of a closed pool, whoever calls for it
 use Rattle.std.proofs.Common.{◌≡◌, ℕ, List}
 use Rattle.shm_words.specs.declared.geometry.Geometry.{Geometry}
-use Rattle.shm_graph.specs.declared.table.Entry.{Entry}
-use Rattle.shm_graph.specs.Spots.{see}
-use Rattle.shm_graph.specs.Tables.{IsTable}
-use Rattle.shm_plain.specs.Closings.{IsClosedRun}
-use Rattle.shm_plain.specs.Pools.{Pool}
+use Rattle.shm_graph.specs.{declared.table.Entry.Entry, Spots.see, Tables.IsTable}
+use Rattle.shm_plain.specs.{Closings.IsClosedRun, Pools.Pool}
 use Rattle.shm_report.specs.PoolWords.{IsCleanPool}
 use Rattle.shm_script.specs.Logged.{Logged}
-use Rattle.shm_program.specs.Replays.{written}
-use Rattle.shm_program.specs.declared.words.Form.{Form}
+use Rattle.shm_program.specs.{Replays.written, declared.words.Form.Form}
 
 -- the text is what is written of these words and logs
 abbrev Wrote : Form → Geometry → List ℕ → List Logged → List ℕ → Type 0

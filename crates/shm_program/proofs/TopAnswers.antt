@@ -2,17 +2,14 @@
 use Rattle.std.proofs.Common.{◌≡◌, ℕ, ◌≤◌, List, length, sym, ◌∙◌, arith, inl, inr, ◌⊎◌, subst}
 use Rattle.std.specs.Prelude.{Option, Some, None, Result, Ok, Err}
 use Rattle.shm_io.specs.Reading.{TakesFront}
-use Rattle.shm_script.specs.Ranges.{IsTraceText}
-use Rattle.shm_script.specs.Values.{Traced}
+use Rattle.shm_script.specs.{Ranges.IsTraceText, Values.Traced}
 use Rattle.shm_script.proofs.Complete.{faultless}
 use Rattle.shm_tree.specs.Scripts.{script_of}
-use Rattle.shm_program.specs.declared.outcome.Finished.{Finished}
-use Rattle.shm_program.specs.declared.words.Job.{Job}
+use Rattle.shm_program.specs.declared.{outcome.Finished.Finished, words.Job.Job}
 use Rattle.shm_program.specs.declared.words.Job.TheVariants.{Replay, Print, Run, Rescue, Audit, Migrate, Make, Draw, Poll, Tree}
 use Rattle.shm_program.specs.Outcomes.{Answers, Done, IsDone, IsFaulty, IsInput, Refused, Spells}
 use Rattle.shm_program.specs.Reads.{IsRead, Reads, ReadsAll, ReadsLimit, input_of, limit_of}
-use Rattle.shm_program.proofs.ImageSizes.{image_short, unrefused}
-use Rattle.shm_program.proofs.SpelledScripts.{spelled_read}
+use Rattle.shm_program.proofs.{ImageSizes.{image_short, unrefused}, SpelledScripts.spelled_read}
 use Rattle.shm_program.proofs.TopReads.{read_same, reads, reads_all, reads_none}
 
 -- ---- what was read for an answer

@@ -1,8 +1,7 @@
 -- what the bytes that were read say of those that the source had left
 use Rattle.std.proofs.Common.{◌≡◌, ℕ, ◌<◌, ◌≤◌, List, [], ◌∷◌, length, take, refl, ap, ◌∙◌, arith, inl, inr, ◌⊎◌, min}
+use Rattle.std.proofs.lemmas.{Bool.cases_lt, List.{take_all, length-take, drop_all}}
 use Rattle.std.specs.Prelude.{Option, Some, None}
-use Rattle.std.proofs.lemmas.Bool.{cases_lt}
-use Rattle.std.proofs.lemmas.List.{take_all, length-take, drop_all}
 use Rattle.shm_io.specs.Reading.{TakesBytes, TakesFront}
 use Rattle.shm_program.specs.Reads.{ReadsAll, ReadsLimit, ReadsNone}
 

@@ -1,11 +1,7 @@
 -- what the process ends with
-use Rattle.std.specs.Prelude.{◌≡◌, ◌⊎◌, ℕ, List, None, Result, Ok, Err}
-use Rattle.std.specs.declared.alloc.AllocError.{AllocError}
-use Rattle.std.specs.declared.io.ErrorKind.{ErrorKind}
-use Rattle.std.specs.declared.io.ErrorKind.TheVariants.{OutOfMemory}
-use Rattle.shm_program.specs.Outcomes.{IsCall, Sides}
-use Rattle.shm_program.specs.Words.{job_of}
-use Rattle.shm_program.specs.declared.outcome.Finished.{Finished}
+use Rattle.std.specs.{Prelude.{◌≡◌, ◌⊎◌, ℕ, List, None, Result, Ok, Err}, declared.alloc.AllocError.AllocError}
+use Rattle.std.specs.declared.io.ErrorKind.{ErrorKind, TheVariants.OutOfMemory}
+use Rattle.shm_program.specs.{Outcomes.{IsCall, Sides}, Words.job_of, declared.outcome.Finished.Finished}
 use Rattle.shm_program.specs.declared.outcome.Outcome.{Outcome}
 
 -- the status of what a call came to, and 6 where memory was wanting before the words were known

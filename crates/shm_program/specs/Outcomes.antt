@@ -1,33 +1,17 @@
 -- what a call of the program does: what it reads, what it answers and what it writes
 use Rattle.std.specs.Prelude.{◌≡◌, ◌≢◌, ℕ, ◌≤◌, ◌⊎◌, List, length, codes, Option, Some, None, Err}
-use Rattle.shm_audit.specs.declared.fault.ImageFault.{ImageFault}
-use Rattle.shm_audit.specs.Faults.{image_fault_of}
-use Rattle.shm_audit.specs.Images.{geometry_in, words_in}
-use Rattle.shm_audit.specs.Texts.{fault_line as image_fault_line, verdict_line}
-use Rattle.shm_audit.specs.Verdicts.{verdict_of}
+use Rattle.shm_audit.specs.{declared.fault.ImageFault.ImageFault, Faults.image_fault_of, Images.{geometry_in, words_in}}
+use Rattle.shm_audit.specs.{Texts.{fault_line as image_fault_line, verdict_line}, Verdicts.verdict_of}
 use Rattle.shm_graph.specs.Spots.{see}
-use Rattle.shm_migrate.specs.declared.stop.MigrateStop.{MigrateStop}
-use Rattle.shm_migrate.specs.Migrations.{migrated, refusal_of, stop_line}
-use Rattle.shm_io.specs.Faults.{NoFault, Rose}
-use Rattle.shm_io.specs.Reading.{LosesFront}
-use Rattle.shm_io.specs.Writing.{Appends, AppendsFront}
-use Rattle.shm_script.specs.declared.fault.TraceFault.{TraceFault}
-use Rattle.shm_script.specs.Drawing.{drawn_trace}
-use Rattle.shm_script.specs.Faults.{fault_of}
-use Rattle.shm_script.specs.Ranges.{IsTrace, IsTraceText}
-use Rattle.shm_script.specs.Text.{text_of}
-use Rattle.shm_script.specs.Values.{Traced}
-use Rattle.shm_tree.specs.Scripts.{Scripted, script_of}
-use Rattle.shm_tree.specs.ScriptTexts.{Spells as SpellsScript}
-use Rattle.shm_program.specs.Reads.{Reads, ReadsLimit, input_of, limit_of, most_of}
-use Rattle.shm_program.specs.Refusals.{fault_line}
-use Rattle.shm_program.specs.Replays.{IsPollTold, IsRescueTold, IsTeamTold, IsTold}
-use Rattle.shm_program.specs.Trees.{IsTreeTold}
-use Rattle.shm_program.specs.Words.{NamesCommand, job_of}
-use Rattle.shm_program.specs.declared.outcome.Finished.{Finished}
-use Rattle.shm_program.specs.declared.outcome.Finished.TheVariants.{Neither}
-use Rattle.shm_program.specs.declared.words.Form.TheVariants.{Summary}
-use Rattle.shm_program.specs.declared.words.Job.{Job}
+use Rattle.shm_migrate.specs.{declared.stop.MigrateStop.MigrateStop, Migrations.{migrated, refusal_of, stop_line}}
+use Rattle.shm_io.specs.{Faults.{NoFault, Rose}, Reading.LosesFront, Writing.{Appends, AppendsFront}}
+use Rattle.shm_script.specs.{declared.fault.TraceFault.TraceFault, Drawing.drawn_trace, Faults.fault_of}
+use Rattle.shm_script.specs.{Ranges.{IsTrace, IsTraceText}, Text.text_of, Values.Traced}
+use Rattle.shm_tree.specs.{Scripts.{Scripted, script_of}, ScriptTexts.Spells as SpellsScript}
+use Rattle.shm_program.specs.{Reads.{Reads, ReadsLimit, input_of, limit_of, most_of}, Refusals.fault_line}
+use Rattle.shm_program.specs.{Replays.{IsPollTold, IsRescueTold, IsTeamTold, IsTold}, Trees.IsTreeTold}
+use Rattle.shm_program.specs.{Words.{NamesCommand, job_of}, declared.outcome.Finished.{Finished, TheVariants.Neither}}
+use Rattle.shm_program.specs.declared.words.{Form.TheVariants.Summary, Job.Job}
 use Rattle.shm_program.specs.declared.words.Job.TheVariants.{Replay, Print, Run, Rescue, Audit, Migrate, Make, Draw, Poll, Tree}
 
 -- the line that is written where the words aren't accepted

@@ -1,9 +1,7 @@
 -- which bytes a job reads
 use Rattle.std.specs.Prelude.{◌≡◌, ◌⊎◌, ℕ, ◌<◌, ◌≤◌, List, [], length, take, drop, Option, Some, None, MatchOption}
-use Rattle.shm_io.specs.Faults.{Rose}
-use Rattle.shm_io.specs.Reading.{LosesFront, TakesFront}
-use Rattle.shm_program.specs.declared.words.Job.{Job}
-use Rattle.shm_program.specs.declared.words.Job.TheVariants.{Audit, Migrate, Make, Draw}
+use Rattle.shm_io.specs.{Faults.Rose, Reading.{LosesFront, TakesFront}}
+use Rattle.shm_program.specs.declared.words.Job.{Job, TheVariants.{Audit, Migrate, Make, Draw}}
 
 -- how many bytes are read at most: one more than a trace, a script or an image may have, and none where the trace is drawn
 abbrev pub limit_of : Job → ℕ

@@ -1,8 +1,6 @@
 -- the lines of refused input
-use Rattle.std.specs.Prelude.{ℕ, List, ◌++◌, codes}
-use Rattle.std.specs.Fmt.{decimal}
-use Rattle.shm_script.specs.declared.fault.TraceKind.{TraceKind}
-use Rattle.shm_script.specs.declared.fault.TraceKind.TheVariants.{Syntax, Range, Limit, Twice}
+use Rattle.std.specs.{Prelude.{ℕ, List, ◌++◌, codes}, Fmt.decimal}
+use Rattle.shm_script.specs.declared.fault.TraceKind.{TraceKind, TheVariants.{Syntax, Range, Limit, Twice}}
 use Rattle.shm_script.specs.declared.fault.TraceFault.{TraceFault}
 
 -- what is wrong with a line

@@ -2,24 +2,16 @@
 use Rattle.std.specs.Prelude.{◌≡◌, ℕ, ◌*◌, List, Option, Some, None}
 use Rattle.shm_words.specs.declared.geometry.Geometry.{Geometry}
 use Rattle.shm_audit.specs.Images.{image_of}
-use Rattle.shm_graph.specs.Spots.{see}
-use Rattle.shm_graph.specs.declared.run.Move.{Move}
-use Rattle.shm_graph.specs.declared.table.Entry.{Entry}
+use Rattle.shm_graph.specs.{Spots.see, declared.{run.Move.Move, table.Entry.Entry}}
 use Rattle.shm_plain.specs.Pools.{Pool, pool}
-use Rattle.shm_replay.specs.declared.replaying.Replayed.{Replayed as Replay}
-use Rattle.shm_replay.specs.Replays.{IsReplay}
+use Rattle.shm_replay.specs.{declared.replaying.Replayed.Replayed as Replay, Replays.IsReplay}
 use Rattle.shm_report.specs.Report.{report_of, summary_of}
-use Rattle.shm_script.specs.Logged.{Logged}
-use Rattle.shm_script.specs.Values.{Traced}
-use Rattle.shm_async.specs.declared.runs.Polled.{Polled as Polls}
-use Rattle.shm_async.specs.Limited.{IsLimitedRun}
+use Rattle.shm_script.specs.{Logged.Logged, Values.Traced}
+use Rattle.shm_async.specs.{declared.runs.Polled.Polled as Polls, Limited.IsLimitedRun}
 use Rattle.shm_morgue.specs.declared.run.Rescued.{Rescued as Rescue}
-use Rattle.shm_team.specs.declared.team.Ran.{Ran as Team}
-use Rattle.shm_team.specs.Rans.{IsTeamRun}
-use Rattle.shm_program.specs.declared.outcome.Finished.{Finished}
-use Rattle.shm_program.specs.declared.outcome.Finished.TheVariants.{Replayed, Ran, Rescued, Polled}
-use Rattle.shm_program.specs.declared.words.Form.{Form}
-use Rattle.shm_program.specs.declared.words.Form.TheVariants.{Report, Image, Summary}
+use Rattle.shm_team.specs.{declared.team.Ran.Ran as Team, Rans.IsTeamRun}
+use Rattle.shm_program.specs.declared.outcome.Finished.{Finished, TheVariants.{Replayed, Ran, Rescued, Polled}}
+use Rattle.shm_program.specs.declared.words.Form.{Form, TheVariants.{Report, Image, Summary}}
 
 -- the trace was replayed, and what is kept is its replay: the closed pool, and the logs
 pub record IsRan (t : Traced) (finished : Finished) : Type 0 where

@@ -1,15 +1,9 @@
 -- the turns of a closed pool
 use Rattle.std.specs.Prelude.{List}
-use Rattle.shm_graph.specs.declared.memo.Step.{Step}
-use Rattle.shm_graph.specs.declared.run.Move.{Move}
-use Rattle.shm_graph.specs.declared.run.Move.TheVariants.{Word}
-use Rattle.shm_graph.specs.Asks.{at_of}
-use Rattle.shm_graph.specs.Events.{Happens, graph_of}
-use Rattle.shm_graph.specs.Laws.{event_on}
-use Rattle.shm_graph.specs.Runs.{IsMove, Leads, State, first_state, memos_of, moved}
-use Rattle.shm_graph.specs.Sound.{IsSound}
-use Rattle.shm_graph.specs.Spots.{classes_in, see, spot_at}
-use Rattle.shm_graph.specs.Views.{view}
+use Rattle.shm_graph.specs.{declared.{memo.Step.Step, run.Move.{Move, TheVariants.Word}}, Asks.at_of}
+use Rattle.shm_graph.specs.{Events.{Happens, graph_of}, Laws.event_on}
+use Rattle.shm_graph.specs.{Runs.{IsMove, Leads, State, first_state, memos_of, moved}, Sound.IsSound}
+use Rattle.shm_graph.specs.{Spots.{classes_in, see, spot_at}, Views.view}
 use Rattle.shm_plain.specs.Pools.{Pool}
 
 -- the words of this state, and its memos, are sound

@@ -1,8 +1,6 @@
 -- what a sink holds after a call of the program: what it held before, and a front of one text
 use Rattle.std.specs.Prelude.{◌≡◌, ◌⊎◌, ℕ, ◌<◌, ◌≤◌, List, ◌++◌, length, take, Option, Some, None, MatchOption}
-use Rattle.shm_program.specs.Outcomes.{Answers, Asks, Sides, usage_text}
-use Rattle.shm_program.specs.Reads.{most_of}
-use Rattle.shm_program.specs.Words.{job_of}
+use Rattle.shm_program.specs.{Outcomes.{Answers, Asks, Sides, usage_text}, Reads.most_of, Words.job_of}
 use Rattle.shm_program.specs.declared.outcome.Finished.{Finished}
 
 -- the text that these words and the bytes that were read give: the usage line where the words aren't accepted, and otherwise the answer to the bytes

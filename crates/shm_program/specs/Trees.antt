@@ -1,11 +1,8 @@
 -- the run of a script for versions of an ordered map, and what is written of it
 use Rattle.std.specs.Prelude.{◌≡◌, ℕ, List}
 use Rattle.shm_tree.specs.Scripts.{Scripted}
-use Rattle.shm_versions.specs.declared.treed.Treed.{Treed as Run}
-use Rattle.shm_versions.specs.RunTexts.{text_of_run}
-use Rattle.shm_versions.specs.TreeRuns.{IsTreeRun}
-use Rattle.shm_program.specs.declared.outcome.Finished.{Finished}
-use Rattle.shm_program.specs.declared.outcome.Finished.TheVariants.{Treed}
+use Rattle.shm_versions.specs.{declared.treed.Treed.Treed as Run, RunTexts.text_of_run, TreeRuns.IsTreeRun}
+use Rattle.shm_program.specs.declared.outcome.Finished.{Finished, TheVariants.Treed}
 
 -- the script was run, what is kept is the closed pool, and the text is what is written of that run
 abbrev pub IsTreeTold : Scripted → Finished → List ℕ → Type 0

@@ -1,14 +1,10 @@
 -- which words are accepted, and what they ask for
 use Rattle.std.specs.Prelude.{◌≡◌, ◌≤◌, ℕ, Bool, true, false, nat_le, ◌&&◌, if◌then◌else◌, List, [], ◌∷◌, codes, Option, Some, None, IfSome, option_and_then}
-use Rattle.std.specs.Option.{is_some}
-use Rattle.std.specs.Str.{bytes_eq}
+use Rattle.std.specs.{Option.is_some, Str.bytes_eq}
 use Rattle.clap.specs.Words.{App, Kinds, Row, Rule, fault_of, first_of, found_of, matches_of, new_app, new_rule, rows_of, with_rule}
-use Rattle.clap.specs.declared.builder.action.ArgAction.TheVariants.{SetTrue}
-use Rattle.clap.specs.declared.parser.matches.ArgMatches.{ArgMatches}
+use Rattle.clap.specs.declared.{builder.action.ArgAction.TheVariants.SetTrue, parser.matches.ArgMatches.ArgMatches}
 use Rattle.shm_script.specs.Numbers.{is_numeral, small, value_after}
-use Rattle.shm_program.specs.declared.words.Form.{Form}
-use Rattle.shm_program.specs.declared.words.Form.TheVariants.{Report, Image}
-use Rattle.shm_program.specs.declared.words.Job.{Job}
+use Rattle.shm_program.specs.declared.words.{Form.{Form, TheVariants.{Report, Image}}, Job.Job}
 use Rattle.shm_program.specs.declared.words.Job.TheVariants.{Replay, Print, Run, Rescue, Audit, Migrate, Make, Draw, Poll, Tree}
 use Rattle.shm_program.specs.declared.words.Name.{Name}
 use Rattle.shm_program.specs.declared.words.Name.TheVariants as name

@@ -2,11 +2,9 @@
 
 ghost use Rattle.std.specs.Prelude.{◌≡◌, true, false, ℕ, List, IfOk, IfSome};
 ghost use Rattle.shm_audit.specs.Faults.{image_fault_of};
-ghost use Rattle.shm_script.specs.declared.fault.ParseStop.{ParseStop as AStop};
-ghost use Rattle.shm_script.specs.declared.fault.TraceFault.{TraceFault as AFault};
+ghost use Rattle.shm_script.specs.declared.fault.{ParseStop.ParseStop as AStop, TraceFault.TraceFault as AFault};
 ghost use Rattle.shm_stream.specs.Audits.{IsJudged};
-ghost use Rattle.shm_program.specs.Outcomes.{Answers, IsPrinted};
-ghost use Rattle.shm_program.specs.Refusals.{fault_line};
+ghost use Rattle.shm_program.specs.{Outcomes.{Answers, IsPrinted}, Refusals.fault_line};
 ghost use Rattle.shm_program.specs.Words.{AreMedics, IsCount, JobFits, may_wait};
 
 use crate::outcome::Finished;

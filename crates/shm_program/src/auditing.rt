@@ -1,8 +1,7 @@
 //! The audit of an image that is read as a stream.
 
 ghost use Rattle.std.specs.Prelude.{◌≡◌, ℕ, List, IfErr, IfOk};
-ghost use Rattle.shm_program.specs.Outcomes.{Answers};
-ghost use Rattle.shm_program.specs.declared.words.Job.TheVariants.{Audit};
+ghost use Rattle.shm_program.specs.{Outcomes.Answers, declared.words.Job.TheVariants.Audit};
 ghost use Rattle.shm_program.specs.Reads.{IsRead, IsUnread, limit_of};
 
 use crate::answer::{Reply, tell_audit};

@@ -1,14 +1,8 @@
 //! The words of a call of the program, and the status that the process ends with.
 
-ghost use Rattle.std.specs.Prelude.{◌≡◌, None, drop, map, IfOk, IfErr};
-ghost use Rattle.std.specs.String.{string_bytes};
-ghost use Rattle.std.specs.Vec.Iter.{into_iter_items};
-ghost use Rattle.std.specs.IoError.{error_kind};
-ghost use Rattle.std.specs.declared.io.ErrorKind.TheVariants.{OutOfMemory};
-ghost use Rattle.std.specs.Process.{exit_status};
-ghost use Rattle.shm_program.specs.Words.{job_of};
-ghost use Rattle.shm_program.specs.Commands.{Ends, EndsUnread, ended_with};
-ghost use Rattle.shm_program.specs.Outcomes.{sides};
+ghost use Rattle.std.specs.{Prelude.{◌≡◌, None, drop, map, IfOk, IfErr}, String.string_bytes, Vec.Iter.into_iter_items};
+ghost use Rattle.std.specs.{IoError.error_kind, declared.io.ErrorKind.TheVariants.OutOfMemory, Process.exit_status};
+ghost use Rattle.shm_program.specs.{Words.job_of, Commands.{Ends, EndsUnread, ended_with}, Outcomes.sides};
 
 use crate::outcome::Outcome;
 use crate::top::top;

@@ -5,10 +5,8 @@ ghost use Rattle.shm_audit.specs.Faults.{image_fault_of};
 ghost use Rattle.shm_script.specs.Values.{Traced};
 ghost use Rattle.shm_versions.specs.RunTexts.{last_line};
 ghost use Rattle.shm_program.specs.declared.outcome.Finished.{Finished as AFinished};
-ghost use Rattle.shm_program.specs.declared.words.Form.TheVariants.{Image, Report};
-ghost use Rattle.shm_program.specs.declared.words.Job.TheVariants.{Audit};
-ghost use Rattle.shm_program.specs.Outcomes.{Answers};
-ghost use Rattle.shm_program.specs.Replays.{IsRan, IsTold};
+ghost use Rattle.shm_program.specs.declared.words.{Form.TheVariants.{Image, Report}, Job.TheVariants.Audit};
+ghost use Rattle.shm_program.specs.{Outcomes.Answers, Replays.{IsRan, IsTold}};
 
 /// What is written for `replay --image` is an image without a fault, so that `audit` doesn't refuse it; and what is answered to it for `audit`
 /// is the word `clean` and the line `live L refs F` with which each report of this trace ends.

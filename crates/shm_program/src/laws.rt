@@ -1,25 +1,17 @@
 //! What holds of each trace that was replayed.
 
-ghost use Rattle.std.specs.Prelude.{◌≡◌, ◌<◌, ◌∷◌, ◌++◌, List, ℕ, None, Option, Some, true};
-ghost use Rattle.std.specs.List.{flat_map};
+ghost use Rattle.std.specs.{Prelude.{◌≡◌, ◌<◌, ◌∷◌, ◌++◌, List, ℕ, None, Option, Some, true}, List.flat_map};
 ghost use Rattle.std.specs.FinMap as finmap;
-ghost use Rattle.shm_graph.specs.declared.memo.Step.{Step as AStep};
-ghost use Rattle.shm_graph.specs.declared.run.Move.{Move as AMove};
-ghost use Rattle.shm_graph.specs.declared.run.Move.TheVariants.{Word};
-ghost use Rattle.shm_graph.specs.Runs.{first_state};
-ghost use Rattle.shm_graph.specs.Tables.{map_of};
+ghost use Rattle.shm_graph.specs.declared.{memo.Step.Step as AStep, run.Move.{Move as AMove, TheVariants.Word}};
+ghost use Rattle.shm_graph.specs.{Runs.first_state, Tables.map_of};
 ghost use Rattle.shm_agents.specs.Turns.{script_in};
 ghost use Rattle.shm_replay.specs.Replays.{fold_in};
 ghost use Rattle.shm_report.specs.Logs.{log_text};
 ghost use Rattle.shm_script.specs.Values.{Traced};
-ghost use Rattle.shm_program.specs.declared.outcome.Finished.{Finished as AFinished};
-ghost use Rattle.shm_program.specs.declared.words.Form.TheVariants.{Report};
-ghost use Rattle.shm_program.specs.declared.words.Form.{Form as AForm};
-ghost use Rattle.shm_program.specs.declared.words.Job.{Job as AJob};
-ghost use Rattle.shm_program.specs.Outcomes.{Answers, Asks, Decided, Done, Refused};
-ghost use Rattle.shm_program.specs.Replays.{IsRan, IsTold};
-ghost use Rattle.shm_program.specs.Runs.{IsOneEvent, IsSoundState, IsSoundTurn};
-ghost use Rattle.shm_program.specs.Words.{AreDetermined, is_determined};
+ghost use Rattle.shm_program.specs.declared.{outcome.Finished.Finished as AFinished, words.Form.TheVariants.Report};
+ghost use Rattle.shm_program.specs.declared.words.{Form.Form as AForm, Job.Job as AJob};
+ghost use Rattle.shm_program.specs.{Outcomes.{Answers, Asks, Decided, Done, Refused}, Replays.{IsRan, IsTold}};
+ghost use Rattle.shm_program.specs.{Runs.{IsOneEvent, IsSoundState, IsSoundTurn}, Words.{AreDetermined, is_determined}};
 
 /// The report of a trace that was replayed begins with the text of these very logs.
 pub fn replay_writes_log()

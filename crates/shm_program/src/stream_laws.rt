@@ -1,10 +1,8 @@
 //! What a call writes, over every source and every sink, whatever of their reads and writes fail.
 
 ghost use Rattle.std.specs.Prelude.{◌≡◌, List, ℕ, Some};
-ghost use Rattle.shm_program.specs.declared.outcome.Finished.{Finished as AFinished};
-ghost use Rattle.shm_program.specs.Outcomes.{IsCall, Sides};
-ghost use Rattle.shm_program.specs.Streams.{Grows, IsTextOf, WritesFrontOf};
-ghost use Rattle.shm_program.specs.Words.{AreDetermined};
+ghost use Rattle.shm_program.specs.{declared.outcome.Finished.Finished as AFinished, Outcomes.{IsCall, Sides}};
+ghost use Rattle.shm_program.specs.{Streams.{Grows, IsTextOf, WritesFrontOf}, Words.AreDetermined};
 
 /// What a sink holds after a call is what it held before and a front of one text, the one that the words and the bytes that were read give: all of
 /// it with status 0, 2 or 3, not all of it with 5, and nothing with 4 or 6.

@@ -2,21 +2,16 @@
 
 ghost use Rattle.std.specs.Prelude.{◌≡◌, ◌<◌, ◌∷◌, ◌++◌, List, ℕ, None, codes};
 ghost use Rattle.std.specs.FinMap as finmap;
-ghost use Rattle.shm_graph.specs.declared.memo.Step.{Step as AStep};
-ghost use Rattle.shm_graph.specs.declared.run.Move.{Move as AMove};
-ghost use Rattle.shm_graph.specs.declared.run.Move.TheVariants.{Word};
-ghost use Rattle.shm_graph.specs.Runs.{first_state};
-ghost use Rattle.shm_graph.specs.Tables.{map_of};
+ghost use Rattle.shm_graph.specs.declared.{memo.Step.Step as AStep, run.Move.{Move as AMove, TheVariants.Word}};
+ghost use Rattle.shm_graph.specs.{Runs.first_state, Tables.map_of};
 ghost use Rattle.shm_agents.specs.Turns.{script_in};
 ghost use Rattle.shm_audit.specs.Faults.{image_fault_of};
 ghost use Rattle.shm_replay.specs.Replays.{fold_in};
 ghost use Rattle.shm_script.specs.Values.{Traced};
 ghost use Rattle.shm_versions.specs.RunTexts.{last_line};
 ghost use Rattle.shm_program.specs.declared.outcome.Finished.{Finished as AFinished};
-ghost use Rattle.shm_program.specs.declared.words.Form.TheVariants.{Image, Report};
-ghost use Rattle.shm_program.specs.declared.words.Job.TheVariants.{Audit};
-ghost use Rattle.shm_program.specs.Outcomes.{Answers};
-ghost use Rattle.shm_program.specs.Replays.{IsTeam, IsTeamTold, team_pool};
+ghost use Rattle.shm_program.specs.declared.words.{Form.TheVariants.{Image, Report}, Job.TheVariants.Audit};
+ghost use Rattle.shm_program.specs.{Outcomes.Answers, Replays.{IsTeam, IsTeamTold, team_pool}};
 ghost use Rattle.shm_program.specs.Runs.{IsOneEvent, IsSoundState, IsSoundTurn};
 
 /// The state before the first turn is sound. Each turn, in the order in which the threads took them, could be taken where it was taken, and led to

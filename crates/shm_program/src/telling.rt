@@ -2,18 +2,15 @@
 
 ghost use Rattle.std.specs.Prelude.{◌≡◌, ℕ, List, IfOk, None, Some, length};
 ghost use Rattle.shm_words.specs.Layout.{GeometryFits, total_of};
-ghost use Rattle.shm_graph.specs.declared.run.Move.{Move as AMove};
-ghost use Rattle.shm_graph.specs.declared.table.Entry.{Entry as AnEntry};
-ghost use Rattle.shm_graph.specs.Spots.{see};
+ghost use Rattle.shm_graph.specs.{declared.{run.Move.Move as AMove, table.Entry.Entry as AnEntry}, Spots.see};
 ghost use Rattle.shm_graph.specs.Tables.{IsTable};
 ghost use Rattle.shm_plain.specs.Closings.{IsClosedRun};
 ghost use Rattle.shm_report.specs.PoolWords.{IsCleanPool};
 ghost use Rattle.shm_tree.specs.ScriptTexts.{IsScript};
 ghost use Rattle.shm_program.specs.Replays.{IsPollTold, IsRescueTold, IsTeamTold, IsTold, polled_pool, written};
-ghost use Rattle.shm_program.specs.declared.outcome.Finished.TheVariants as finished;
-ghost use Rattle.shm_program.specs.declared.words.Form.TheVariants.{Report};
-ghost use Rattle.shm_program.specs.Trees.{IsTreeTold};
+ghost use Rattle.shm_program.specs.{declared.words.Form.TheVariants.Report, Trees.IsTreeTold};
 ghost use Rattle.shm_program.specs.Words.{AreMedics, IsCount};
+ghost use Rattle.shm_program.specs.declared.outcome.Finished.TheVariants as finished;
 
 use crate::answer::Reply;
 use crate::gate::ByGate;

@@ -1,10 +1,8 @@
 //! The program over a source and a sink.
 
-ghost use Rattle.std.specs.Prelude.{◌≡◌, ◌≢◌, ℕ, List, false, IfErr, IfOk, Some, map, true};
-ghost use Rattle.std.specs.String.{string_bytes};
+ghost use Rattle.std.specs.{Prelude.{◌≡◌, ◌≢◌, ℕ, List, false, IfErr, IfOk, Some, map, true}, String.string_bytes};
 ghost use Rattle.shm_program.specs.Outcomes.{Answers, IsCall, IsWanting, IsWritten, sides};
-ghost use Rattle.shm_program.specs.Reads.{IsRead, IsUnread, limit_of};
-ghost use Rattle.shm_program.specs.Words.{JobFits, job_of, may_wait};
+ghost use Rattle.shm_program.specs.{Reads.{IsRead, IsUnread, limit_of}, Words.{JobFits, job_of, may_wait}};
 
 use crate::answer::{Reply, answer, answer_waiting};
 use crate::auditing::audit_input;

@@ -1,8 +1,7 @@
 //! What the words of a call ask for.
 
 ghost use Rattle.std.specs.Prelude.{◌≡◌, ◌≢◌, ◌∷◌, [], true, false, slice_index, IfErr, IfOk, IfSome, List, None, Some, codes, map, option_and_then, option_map, ℕ};
-ghost use Rattle.std.specs.Option.{is_some};
-ghost use Rattle.std.specs.String.{string_bytes};
+ghost use Rattle.std.specs.{Option.is_some, String.string_bytes};
 ghost use Rattle.clap.specs.Words.{app_of, first_value, found_of, is_simple_and_free};
 ghost use Rattle.shm_script.specs.Numbers.{is_numeral, leads_well};
 ghost use Rattle.shm_program.specs.Words.{AreMedics, IsCount, JobFits, NamesCommand, asked, count_of, is_true, job_by, job_of, make_command, make_in, make_of, may_wait, medics_of, name_of, number_in, only, poll_command, poll_in, poll_of, read_by, replay_command, replay_in, replay_of, rows_in, run_command, run_in, run_of};

@@ -1,45 +1,30 @@
 -- what the trail of a refusal shows: a header with the greatest count was read, or the head from which the tail is 8 away
 use Rattle.std.proofs.Common.{◌≡◌, ℕ, refl, sym, ap, subst, arith, Bool, true, false}
-use Rattle.std.specs.Prelude.{◌-◌, ◌==◌, if◌then◌else◌, Option, Some, None, Result, Ok, Err}
-use Rattle.std.specs.List.{Contains}
 use Rattle.std.proofs.lemmas.List.Elements.{Contains-append_right}
-use Rattle.shm_words.specs.declared.place.Place.TheVariants as place
+use Rattle.std.specs.{Prelude.{◌-◌, ◌==◌, if◌then◌else◌, Option, Some, None, Result, Ok, Err}, List.Contains}
 use Rattle.shm_words.specs.Layout.{address}
-use Rattle.shm_graph.specs.declared.ask.Ask.{Ask}
-use Rattle.shm_graph.specs.declared.ask.Ask.TheVariants.{Load}
-use Rattle.shm_graph.specs.declared.ask.Me.{Me}
-use Rattle.shm_graph.specs.Asks.{Trail, pair}
+use Rattle.shm_words.specs.declared.place.Place.TheVariants as place
+use Rattle.shm_graph.specs.{declared.ask.{Ask.{Ask, TheVariants.Load}, Me.Me}, Asks.{Trail, pair}}
 use Rattle.shm_graph.specs.Trails.{Answers, Asked}
-use Rattle.shm_calls.specs.declared.or.Or.TheVariants.{First, Second}
-use Rattle.shm_calls.specs.Plans.{plan_trail}
+use Rattle.shm_calls.specs.{declared.or.Or.TheVariants.{First, Second}, Plans.plan_trail}
+use Rattle.shm_count.specs.{declared.answer.{UpFault.TheVariants.{CountFull, EraSpent}, Made.Made}, Refusing.ReadsCount}
+use Rattle.shm_count.specs.{Step.Refusing.step_reads, UpRoot.Control.rooting}
 use Rattle.shm_count.specs.declared.answer.ShareFault.TheVariants as share
-use Rattle.shm_count.specs.declared.answer.UpFault.TheVariants.{CountFull, EraSpent}
 use Rattle.shm_count.specs.declared.point.Aim.TheVariants as aims
-use Rattle.shm_count.specs.Refusing.{ReadsCount}
-use Rattle.shm_count.specs.Step.Refusing.{step_reads}
-use Rattle.shm_count.specs.UpRoot.Control.{rooting}
 use Rattle.shm_count.proofs.LastCalls.{count_read, reads_same, trail_ends, up_root_reads}
-use Rattle.shm_queue.specs.declared.answer.PeekFault.{PeekFault}
-use Rattle.shm_queue.specs.declared.answer.PeekFault.TheVariants as peek
-use Rattle.shm_queue.specs.declared.answer.SendFault.{SendFault}
-use Rattle.shm_queue.specs.declared.answer.SendFault.TheVariants as send
-use Rattle.shm_queue.specs.declared.answer.TakeFault.TheVariants as take
-use Rattle.shm_count.specs.declared.answer.Made.{Made}
-use Rattle.shm_queue.specs.declared.peek.PeekPoint.{PeekPoint}
-use Rattle.shm_queue.specs.declared.peek.PeekPoint.TheVariants as peeks
-use Rattle.shm_queue.specs.declared.peek.PeekState.{PeekState}
-use Rattle.shm_queue.specs.declared.receive.ReceivePoint.{ReceivePoint}
-use Rattle.shm_queue.specs.declared.receive.ReceivePoint.TheVariants as receives
-use Rattle.shm_queue.specs.declared.receive.ReceiveState.{ReceiveState}
-use Rattle.shm_queue.specs.declared.send.SendPoint.{SendPoint}
-use Rattle.shm_queue.specs.declared.send.SendPoint.TheVariants as sends
-use Rattle.shm_queue.specs.declared.send.SendState.{SendState}
-use Rattle.shm_queue.specs.Peek.Control.{PeekAnswer, peek_call_at, peek_turns, peeking}
-use Rattle.shm_queue.specs.Peek.{peek_part, peek_plan}
-use Rattle.shm_queue.specs.Receive.Control.{ReceiveAnswer, receive_call_at, receive_turns}
-use Rattle.shm_queue.specs.Receive.{receive_part, receive_plan}
+use Rattle.shm_queue.specs.declared.{answer.{PeekFault.PeekFault, SendFault.SendFault}, peek.PeekPoint.PeekPoint}
+use Rattle.shm_queue.specs.declared.{peek.PeekState.PeekState, receive.ReceivePoint.ReceivePoint}
+use Rattle.shm_queue.specs.declared.{receive.ReceiveState.ReceiveState, send.{SendPoint.SendPoint, SendState.SendState}}
+use Rattle.shm_queue.specs.Peek.{Control.{PeekAnswer, peek_call_at, peek_turns, peeking}, peek_part, peek_plan}
+use Rattle.shm_queue.specs.Receive.{Control.{ReceiveAnswer, receive_call_at, receive_turns}, receive_part, receive_plan}
 use Rattle.shm_queue.specs.Send.Control.{SendAnswer, head_at, send_after, send_call_at, send_turns, sending, slot_at}
 use Rattle.shm_queue.specs.Send.{send_part, send_plan}
+use Rattle.shm_queue.specs.declared.answer.PeekFault.TheVariants as peek
+use Rattle.shm_queue.specs.declared.answer.SendFault.TheVariants as send
+use Rattle.shm_queue.specs.declared.answer.TakeFault.TheVariants as take
+use Rattle.shm_queue.specs.declared.peek.PeekPoint.TheVariants as peeks
+use Rattle.shm_queue.specs.declared.receive.ReceivePoint.TheVariants as receives
+use Rattle.shm_queue.specs.declared.send.SendPoint.TheVariants as sends
 
 -- ---- sends
 

@@ -1,39 +1,23 @@
 -- what machines over queues leave of the latch, of what waits in queues, and of whether the pool is for tables
 use Rattle.std.proofs.Common.{◌≡◌, ◌≢◌, ℕ, ◌==◌, sym, ap, ◌∙◌, false, List, inl, inr, ◌⊎◌, Result}
-use Rattle.std.specs.Prelude.{Ok, Err, slice_index}
 use Rattle.std.proofs.lemmas.Bool.{and_right, ne_eqb}
-use Rattle.shm_graph.specs.declared.ask.Me.{Me}
-use Rattle.shm_graph.specs.declared.memo.Memo.{Memo}
-use Rattle.shm_graph.specs.declared.spot.Spot.TheVariants.{Root}
-use Rattle.shm_graph.specs.Asks.{Trail}
-use Rattle.shm_graph.specs.Events.{Event}
-use Rattle.shm_graph.specs.Held.{is_loose}
-use Rattle.shm_graph.specs.Spots.{same_spot}
-use Rattle.shm_graph.specs.MemoAfterStore.{lane_with}
+use Rattle.std.specs.Prelude.{Ok, Err, slice_index}
+use Rattle.shm_graph.specs.{declared.{ask.Me.Me, memo.Memo.Memo, spot.Spot.TheVariants.Root}, Asks.Trail, Events.Event}
+use Rattle.shm_graph.specs.{Held.is_loose, Spots.same_spot, MemoAfterStore.lane_with}
 use Rattle.shm_steps.specs.Reparting.{sight}
-use Rattle.shm_count.specs.declared.answer.EraSpent.{EraSpent as ASpent}
-use Rattle.shm_count.specs.declared.answer.Made.{Made}
-use Rattle.shm_count.specs.Roots.{rest}
-use Rattle.shm_count.specs.Slots.{Untouched}
+use Rattle.shm_count.specs.{declared.answer.{EraSpent.EraSpent as ASpent, Made.Made}, Roots.rest, Slots.Untouched}
 use Rattle.shm_count.specs.Waiting.{LeavesQueues}
 use Rattle.shm_count.proofs.Waiting.{own_queues, queues_then, root_part, same_queues}
-use Rattle.shm_queue.specs.declared.answer.PeekFault.{PeekFault}
-use Rattle.shm_queue.specs.declared.answer.PeekFault.TheVariants as peek
-use Rattle.shm_queue.specs.declared.answer.SendFault.{SendFault}
-use Rattle.shm_queue.specs.declared.answer.SendFault.TheVariants as send
-use Rattle.shm_queue.specs.declared.answer.TakeFault.{TakeFault}
-use Rattle.shm_queue.specs.declared.answer.TakeFault.TheVariants as take
-use Rattle.shm_queue.specs.declared.drain.DrainState.{DrainState}
-use Rattle.shm_queue.specs.declared.peek.PeekState.{PeekState}
-use Rattle.shm_queue.specs.declared.receive.ReceiveState.{ReceiveState}
-use Rattle.shm_queue.specs.declared.send.SendState.{SendState}
-use Rattle.shm_queue.specs.declared.take.TakeState.{TakeState}
-use Rattle.shm_queue.specs.Drain.{DrainLeaves, Drained, TakenItem}
-use Rattle.shm_queue.specs.Peek.Control.{peeking}
-use Rattle.shm_queue.specs.Peek.{PeekLeaves, PeekRefused, Peeked}
-use Rattle.shm_queue.specs.Receive.{ReceiveLeaves, ReceiveRefused, ReceiveStopped}
-use Rattle.shm_queue.specs.Send.{SendLeaves, Sent}
+use Rattle.shm_queue.specs.declared.answer.{PeekFault.PeekFault, SendFault.SendFault, TakeFault.TakeFault}
+use Rattle.shm_queue.specs.declared.{drain.DrainState.DrainState, peek.PeekState.PeekState}
+use Rattle.shm_queue.specs.declared.{receive.ReceiveState.ReceiveState, send.SendState.SendState}
+use Rattle.shm_queue.specs.{declared.take.TakeState.TakeState, Drain.{DrainLeaves, Drained, TakenItem}}
+use Rattle.shm_queue.specs.Peek.{Control.peeking, PeekLeaves, PeekRefused, Peeked}
+use Rattle.shm_queue.specs.{Receive.{ReceiveLeaves, ReceiveRefused, ReceiveStopped}, Send.{SendLeaves, Sent}}
 use Rattle.shm_queue.specs.Take.{NotTaken, Received, TakeLeaves, TakeStopped, slot_memo}
+use Rattle.shm_queue.specs.declared.answer.PeekFault.TheVariants as peek
+use Rattle.shm_queue.specs.declared.answer.SendFault.TheVariants as send
+use Rattle.shm_queue.specs.declared.answer.TakeFault.TheVariants as take
 
 -- another own root
 pub other_root : (c k j : ℕ) → j ≢ k → same_spot (Root c k) (Root c j) ≡ false

@@ -1,27 +1,16 @@
 -- what refused takes, receives and drains leave
 use Rattle.std.proofs.Common.{◌≡◌, ◌≢◌, ℕ, ◌+◌, ◌<◌, ◌≤◌, refl, sym, ap, ◌∙◌, subst, arith, append-nil, List, [], ◌∷◌, ◌++◌, length, inl, inr}
-use Rattle.std.specs.Prelude.{◌⊎◌, ◌-◌, ◌^◌, ◌%◌, Err, slice_index_or}
 use Rattle.std.proofs.lemmas.Bool.{cond-true}
-use Rattle.shm_graph.specs.declared.ask.Me.{Me}
-use Rattle.shm_graph.specs.declared.memo.Memo.{Memo}
-use Rattle.shm_graph.specs.declared.spot.Spot.TheVariants.{Era, QueueHead, Root, Slot}
-use Rattle.shm_graph.specs.Asks.{Trail}
+use Rattle.std.specs.Prelude.{◌⊎◌, ◌-◌, ◌^◌, ◌%◌, Err, slice_index_or}
+use Rattle.shm_graph.specs.declared.{ask.Me.Me, memo.Memo.Memo, spot.Spot.TheVariants.{Era, QueueHead, Root, Slot}}
+use Rattle.shm_graph.specs.{Asks.Trail, Events.Event, Views.own_word}
 use Rattle.shm_graph.specs.Events as event
-use Rattle.shm_graph.specs.Events.{Event}
-use Rattle.shm_graph.specs.Views.{own_word}
 use Rattle.shm_graph.proofs.Spots.Spotting.{same_spot_self}
-use Rattle.shm_count.specs.Lowering.{StoppedAt}
-use Rattle.shm_count.specs.Roots.{root_word}
-use Rattle.shm_count.specs.Tear.Events.{Visit, Walks}
-use Rattle.shm_queue.specs.declared.answer.PeekFault.{PeekFault}
-use Rattle.shm_queue.specs.declared.answer.PeekFault.TheVariants.{CountFull, Empty, EraSpent, RootsFull}
-use Rattle.shm_queue.specs.Drain.{DrainStopped, ItemsEvents, TakenItem, blocks_from}
-use Rattle.shm_queue.specs.Drain.Items.{head_more, lane_more}
-use Rattle.shm_queue.specs.Peek.Control.{peeking}
-use Rattle.shm_queue.specs.Peek.{PeekLeaves}
-use Rattle.shm_queue.specs.Receive.Control.{receiving}
-use Rattle.shm_queue.specs.Receive.{ReceiveLeaves, ReceiveStopped}
-use Rattle.shm_queue.specs.Take.{NotTaken, TakeStopped}
+use Rattle.shm_count.specs.{Lowering.StoppedAt, Roots.root_word, Tear.Events.{Visit, Walks}}
+use Rattle.shm_queue.specs.declared.answer.PeekFault.{PeekFault, TheVariants.{CountFull, Empty, EraSpent, RootsFull}}
+use Rattle.shm_queue.specs.Drain.{DrainStopped, ItemsEvents, TakenItem, blocks_from, Items.{head_more, lane_more}}
+use Rattle.shm_queue.specs.{Peek.{Control.peeking, PeekLeaves}, Receive.Control.receiving}
+use Rattle.shm_queue.specs.{Receive.{ReceiveLeaves, ReceiveStopped}, Take.{NotTaken, TakeStopped}}
 
 -- ---- takes
 

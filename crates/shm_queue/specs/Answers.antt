@@ -1,14 +1,10 @@
 -- what machines over queues answer where a count step was refused
-use Rattle.shm_count.specs.declared.answer.EraSpent.{EraSpent}
-use Rattle.shm_count.specs.declared.answer.ShareFault.{ShareFault}
+use Rattle.shm_count.specs.declared.answer.{EraSpent.EraSpent, ShareFault.ShareFault, UpFault.UpFault}
 use Rattle.shm_count.specs.declared.answer.ShareFault.TheVariants as share
-use Rattle.shm_count.specs.declared.answer.UpFault.{UpFault}
 use Rattle.shm_count.specs.declared.answer.UpFault.TheVariants as up
-use Rattle.shm_queue.specs.declared.answer.PeekFault.{PeekFault}
+use Rattle.shm_queue.specs.declared.answer.{PeekFault.PeekFault, SendFault.SendFault, TakeFault.TakeFault}
 use Rattle.shm_queue.specs.declared.answer.PeekFault.TheVariants as peek
-use Rattle.shm_queue.specs.declared.answer.SendFault.{SendFault}
 use Rattle.shm_queue.specs.declared.answer.SendFault.TheVariants as send
-use Rattle.shm_queue.specs.declared.answer.TakeFault.{TakeFault}
 use Rattle.shm_queue.specs.declared.answer.TakeFault.TheVariants as take
 
 abbrev pub send_fault : UpFault → SendFault

@@ -5,35 +5,17 @@ pub mod Laws
 use Rattle.std.specs.Prelude.{◌≡◌, ◌≢◌, ℕ, ◌+◌, ◌*◌, ◌-◌, ◌^◌, ◌<◌, ◌≤◌, ◌==◌, if◌then◌else◌, ◌⊎◌, true, false, Result, Ok, Err, List, [], ◌∷◌, ◌++◌, length, slice_index, slice_index_or}
 use Rattle.std.specs.List.{Contains}
 use Rattle.shm_words.specs.Layout.{GeometryFits}
-use Rattle.shm_graph.specs.declared.ask.Me.{Me}
-use Rattle.shm_graph.specs.declared.spot.Spot.{Spot}
-use Rattle.shm_graph.specs.declared.spot.Spot.TheVariants.{Era, QueueHead, Tail}
-use Rattle.shm_graph.specs.declared.memo.Fact.TheVariants.{Counter}
-use Rattle.shm_graph.specs.declared.memo.Memo.{Memo}
-use Rattle.shm_graph.specs.declared.memo.Op.TheVariants.{Nothing}
-use Rattle.shm_graph.specs.Asks.{Trail, IsWithin}
-use Rattle.shm_graph.specs.Bounds.{drain_steps, tear_steps, redo_steps}
-use Rattle.shm_graph.specs.Events.{Event}
-use Rattle.shm_graph.specs.Spots.{same_spot}
-use Rattle.shm_graph.specs.Views.{own_word}
-use Rattle.shm_steps.specs.Conditions.{IsHere}
-use Rattle.shm_steps.specs.WordParts.{StatusLoaded}
-use Rattle.shm_calls.specs.CallsPart.{calls_part}
-use Rattle.shm_calls.specs.Either.{or_part}
-use Rattle.shm_calls.specs.Grown.{grown}
-use Rattle.shm_calls.specs.Parts.{Part}
-use Rattle.shm_calls.specs.Plans.{Planned}
+use Rattle.shm_graph.specs.declared.{ask.Me.Me, spot.Spot.{Spot, TheVariants.{Era, QueueHead, Tail}}}
+use Rattle.shm_graph.specs.declared.memo.{Fact.TheVariants.Counter, Memo.Memo, Op.TheVariants.Nothing}
+use Rattle.shm_graph.specs.{Asks.{Trail, IsWithin}, Bounds.{drain_steps, tear_steps, redo_steps}, Events.Event}
+use Rattle.shm_graph.specs.{Spots.same_spot, Views.own_word}
+use Rattle.shm_steps.specs.{Conditions.IsHere, WordParts.StatusLoaded}
+use Rattle.shm_calls.specs.{CallsPart.calls_part, Either.or_part, Grown.grown, Parts.Part, Plans.Planned}
 use Rattle.shm_calls.specs.Words.{word_part}
-use Rattle.shm_count.specs.declared.answer.EraSpent.{EraSpent}
-use Rattle.shm_count.specs.Roots.{rest}
-use Rattle.shm_count.specs.Tear.Events.{frees}
-use Rattle.shm_count.specs.Tear.Memos.{is_lasting}
-use Rattle.shm_queue.specs.declared.drain.DrainPoint.{DrainPoint}
-use Rattle.shm_queue.specs.declared.drain.DrainPoint.TheVariants.{Status, Item}
-use Rattle.shm_queue.specs.declared.drain.DrainState.{DrainState}
-use Rattle.shm_queue.specs.Drain.Control.{DrainCall, DrainAnswer, drain_ask, drain_call_at, drain_line, drain_after, drain_turns, is_status}
-use Rattle.shm_queue.specs.Take.Control.{take_parts}
-use Rattle.shm_queue.specs.Take.{NotTaken, TakeEvents, TakeStopped, take_plan}
+use Rattle.shm_count.specs.{declared.answer.EraSpent.EraSpent, Roots.rest, Tear.{Events.frees, Memos.is_lasting}}
+use Rattle.shm_queue.specs.declared.drain.{DrainPoint.{DrainPoint, TheVariants.{Status, Item}}, DrainState.DrainState}
+use Rattle.shm_queue.specs.Drain.Control.{DrainCall, DrainAnswer, drain_ask, is_status, drain_steered}
+use Rattle.shm_queue.specs.Take.{Control.take_parts, NotTaken, TakeEvents, TakeStopped, take_plan}
 
 -- no step is in progress, and no item waits for its head
 pub record MayDrain (me : Me) (m : Memo) : Type 0 where
@@ -132,13 +114,7 @@ drain_part m y = grown (is_status y) (or_part (word_part (is_status y) m.me (dra
 abbrev pub drain_plan : Planned DrainState DrainCall DrainAnswer (Result ℕ EraSpent)
 drain_plan =
     record {
-      me = λ m. m.me;
-      line = λ m. drain_line;
-      first = λ m. is_status m.point;
-      start = λ m. record m { from = 0; taken = 0; point = Status };
-      call = λ m. drain_call_at m m.point;
-      after = drain_after;
-      turns = drain_turns;
+      steered = drain_steered;
       part = λ m. drain_part m m.point;
       knows = λ m. DrainKnows m m.point;
       leaves = DrainLeaves;

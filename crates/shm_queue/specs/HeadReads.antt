@@ -1,27 +1,16 @@
 -- the head of a queue, its tail and its first item are read: what is known then
 use Rattle.std.proofs.Common.{◌≡◌, ◌≢◌, ℕ, ◌%◌, ◌<◌, ◌≤◌, refl, sym, ap, ◌∙◌, subst, arith, true, false, List, [], ◌++◌, length}
-use Rattle.std.specs.Prelude.{slice_index}
-use Rattle.std.specs.List.{Contains}
 use Rattle.std.proofs.lemmas.Bool.{eq-eqb, true≢false}
+use Rattle.std.specs.{Prelude.slice_index, List.Contains}
 use Rattle.shm_words.proofs.Placing.{total_small}
 use Rattle.shm_words.specs.Layout.{address_limit}
-use Rattle.shm_graph.specs.declared.ask.Me.{Me}
-use Rattle.shm_graph.specs.declared.spot.Spot.TheVariants as spot
-use Rattle.shm_graph.specs.declared.memo.Fact.TheVariants.{Counter}
-use Rattle.shm_graph.specs.declared.memo.Memo.{Memo}
-use Rattle.shm_graph.specs.declared.memo.Stored.{Stored}
-use Rattle.shm_graph.specs.Asks.{Trail, IsWithin}
-use Rattle.shm_graph.specs.Core.{core}
-use Rattle.shm_graph.specs.Events.{Event}
-use Rattle.shm_graph.specs.Reach.{learnt}
-use Rattle.shm_graph.specs.MemoAfterRead.{valued}
+use Rattle.shm_graph.specs.declared.{ask.Me.Me, memo.{Fact.TheVariants.Counter, Memo.Memo, Stored.Stored}}
+use Rattle.shm_graph.specs.{Asks.{Trail, IsWithin}, Core.core, Events.Event, Reach.learnt, MemoAfterRead.valued}
 use Rattle.shm_graph.specs.Views.{own_word}
+use Rattle.shm_graph.specs.declared.spot.Spot.TheVariants as spot
 use Rattle.shm_steps.specs.WordParts.{CountLoaded, HeadSlotLoaded, IsHeadSlot}
 use Rattle.shm_steps.proofs.Cores.{here_same}
-use Rattle.shm_calls.specs.declared.word.Word.{Word}
-use Rattle.shm_calls.specs.CallTells.{within_more}
-use Rattle.shm_calls.specs.Grown.{Grows, grows_then}
-use Rattle.shm_calls.specs.Parts.{IsHeld}
+use Rattle.shm_calls.specs.{declared.word.Word.Word, CallTells.within_more, Grown.{Grows, grows_then}, Parts.IsHeld}
 use Rattle.shm_calls.specs.Words.{WordLeaves}
 use Rattle.shm_count.specs.Slots.Parts.{era_room}
 use Rattle.shm_queue.specs.QueueWords.{TailSeen, item_inside}

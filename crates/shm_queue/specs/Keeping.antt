@@ -1,7 +1,6 @@
 -- what machines over queues leave of what was received
 use Rattle.std.specs.Prelude.{◌≡◌, ℕ}
-use Rattle.shm_graph.specs.declared.memo.Memo.{Memo}
-use Rattle.shm_graph.specs.MemoAfterStore.{lane_with}
+use Rattle.shm_graph.specs.{declared.memo.Memo.Memo, MemoAfterStore.lane_with}
 
 -- an item from s joined what was received
 abbrev pub HasReceived : ℕ → Memo → Memo → Type 0

@@ -3,37 +3,21 @@ pub mod Control
 pub mod Laws
 use Rattle.std.specs.Prelude.{◌≡◌, ◌≢◌, ℕ, ◌+◌, ◌-◌, ◌%◌, ◌^◌, ◌<◌, ◌≤◌, false, Result, Ok, Err, List, [], ◌∷◌}
 use Rattle.std.specs.List.{Contains}
-use Rattle.shm_graph.specs.Bounds.{redo_steps}
-use Rattle.shm_graph.specs.declared.ask.Ask.{Ask}
-use Rattle.shm_graph.specs.declared.ask.Ask.TheVariants as ask
-use Rattle.shm_graph.specs.declared.ask.Me.{Me}
-use Rattle.shm_graph.specs.declared.spot.Spot.TheVariants as spot
-use Rattle.shm_graph.specs.declared.memo.Fact.TheVariants.{Counter}
-use Rattle.shm_graph.specs.declared.memo.Memo.{Memo}
-use Rattle.shm_graph.specs.Agents.{recovers}
-use Rattle.shm_graph.specs.Asks.{Trail, IsWithin}
-use Rattle.shm_graph.specs.Events.{Event}
-use Rattle.shm_graph.specs.Events as event
+use Rattle.shm_graph.specs.{Bounds.redo_steps, declared.{ask.{Ask.Ask, Me.Me}, memo.Fact.TheVariants.Counter}}
+use Rattle.shm_graph.specs.{declared.memo.Memo.Memo, Agents.recovers, Asks.{Trail, IsWithin}, Events.Event}
 use Rattle.shm_graph.specs.Views.{own_word}
+use Rattle.shm_graph.specs.declared.ask.Ask.TheVariants as ask
+use Rattle.shm_graph.specs.declared.spot.Spot.TheVariants as spot
+use Rattle.shm_graph.specs.Events as event
 use Rattle.shm_steps.specs.WordParts.{CountLoaded, HeadSlotLoaded, IsHeadSlot}
-use Rattle.shm_calls.specs.Either.{or_part}
-use Rattle.shm_calls.specs.Grown.{grown}
-use Rattle.shm_calls.specs.Parts.{Part}
-use Rattle.shm_calls.specs.Plans.{Planned}
-use Rattle.shm_calls.specs.Words.{word_part}
-use Rattle.shm_count.specs.declared.answer.Made.{Made}
-use Rattle.shm_count.specs.Roots.{root_word}
-use Rattle.shm_count.specs.Slots.{Filled, Untouched}
-use Rattle.shm_count.specs.UpRoot.{MayUpRoot}
+use Rattle.shm_calls.specs.{Either.or_part, Grown.grown, Parts.Part, Plans.Planned, Words.word_part}
+use Rattle.shm_count.specs.{declared.answer.Made.Made, Roots.root_word, Slots.{Filled, Untouched}, UpRoot.MayUpRoot}
 use Rattle.shm_count.specs.UpRoot.AsPart.{up_root_part}
-use Rattle.shm_queue.specs.declared.answer.PeekFault.{PeekFault}
-use Rattle.shm_queue.specs.declared.answer.PeekFault.TheVariants.{Empty, EraSpent, RootsFull, CountFull}
-use Rattle.shm_queue.specs.declared.peek.PeekPoint.{PeekPoint}
-use Rattle.shm_queue.specs.declared.peek.PeekPoint.TheVariants.{Head, Tail, Slot, Share}
+use Rattle.shm_queue.specs.declared.answer.PeekFault.{PeekFault, TheVariants.{Empty, EraSpent, RootsFull, CountFull}}
+use Rattle.shm_queue.specs.declared.peek.PeekPoint.{PeekPoint, TheVariants.{Head, Tail, Slot, Share}}
 use Rattle.shm_queue.specs.declared.peek.PeekState.{PeekState}
-use Rattle.shm_queue.specs.Peek.Control.{PeekCall, PeekAnswer, tail_at, head_at, slot_at, peek_call_at, peek_after, peek_turns, is_head}
-use Rattle.shm_queue.specs.QueueWords.{TailSeen}
-use Rattle.shm_queue.specs.Take.{MayTakeFrom, IsHeadRead, IsItemRead, TakeEmpty, slot_memo}
+use Rattle.shm_queue.specs.Peek.Control.{PeekCall, PeekAnswer, tail_at, head_at, slot_at, is_head, peek_steered}
+use Rattle.shm_queue.specs.{QueueWords.TailSeen, Take.{MayTakeFrom, IsHeadRead, IsItemRead, TakeEmpty, slot_memo}}
 
 -- as a take, by a client
 pub record MayPeekFrom (me : Me) (s : ℕ) (m : Memo) : Type 0 where
@@ -96,13 +80,7 @@ peek_part m y = grown (is_head y) (or_part (word_part (is_head y) m.me (peek_ask
 abbrev pub peek_plan : Planned PeekState PeekCall PeekAnswer (Result Made PeekFault)
 peek_plan =
     record {
-      me = λ m. m.me;
-      line = λ m. [];
-      first = λ m. is_head m.point;
-      start = λ m. record m { at = 0; block = 0; point = Head };
-      call = λ m. peek_call_at m m.point;
-      after = peek_after;
-      turns = peek_turns;
+      steered = peek_steered;
       part = λ m. peek_part m m.point;
       knows = λ m. PeekKnows m m.point;
       leaves = PeekLeaves;

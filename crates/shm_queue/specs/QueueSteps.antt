@@ -1,37 +1,20 @@
 -- count steps at slots of queues: when they may begin, and what their slots leave of partitions and of lists
 use Rattle.std.proofs.Common.{◌≡◌, ◌≢◌, ℕ, ◌+◌, ◌%◌, ◌^◌, ◌<◌, refl, sym, ap, ◌∙◌, arith, true, false, List, inl}
-use Rattle.std.specs.Prelude.{slice_index}
-use Rattle.std.specs.List.{Contains}
 use Rattle.std.proofs.lemmas.Bool.{and_from, cond-true, eq-eqb, lt-ltb, true≢false}
-use Rattle.shm_words.specs.declared.place.Place.TheVariants as place
+use Rattle.std.specs.{Prelude.slice_index, List.Contains}
 use Rattle.shm_words.specs.Layout.{GeometryFits, address, is_in, total_of, address_limit}
+use Rattle.shm_words.specs.declared.place.Place.TheVariants as place
 use Rattle.shm_words.proofs.Placing.{address_small, total_small}
-use Rattle.shm_graph.specs.declared.ask.Me.{Me}
-use Rattle.shm_graph.specs.declared.spot.Spot.TheVariants.{Era, QueueHead, Slot, Spare, Tail}
-use Rattle.shm_graph.specs.declared.memo.Fact.TheVariants.{Counter}
-use Rattle.shm_graph.specs.declared.memo.Memo.{Memo}
-use Rattle.shm_graph.specs.declared.memo.Op.TheVariants.{Nothing}
-use Rattle.shm_graph.specs.declared.table.Part.{Part}
-use Rattle.shm_graph.specs.declared.table.Part.TheVariants.{Loose, Table}
-use Rattle.shm_graph.specs.Agents.{recovers}
-use Rattle.shm_graph.specs.Held.{is_loose}
-use Rattle.shm_graph.specs.Reach.{is_reached}
-use Rattle.shm_graph.specs.Spots.{spot_address}
-use Rattle.shm_graph.specs.MemoAfterStore.{put}
-use Rattle.shm_graph.specs.Views.{own_word}
-use Rattle.shm_graph.proofs.Spots.SpotPlaces.{spot-place}
-use Rattle.shm_graph.proofs.Spots.Spotting.{in_pool}
-use Rattle.shm_steps.specs.Conditions.{IsHere}
-use Rattle.shm_steps.specs.Raising.{is_read}
-use Rattle.shm_steps.specs.Reparting.{Sight}
+use Rattle.shm_graph.specs.declared.{ask.Me.Me, spot.Spot.TheVariants.{Era, QueueHead, Slot, Spare, Tail}}
+use Rattle.shm_graph.specs.declared.memo.{Fact.TheVariants.Counter, Memo.Memo, Op.TheVariants.Nothing}
+use Rattle.shm_graph.specs.{declared.table.Part.{Part, TheVariants.{Loose, Table}}, Agents.recovers, Held.is_loose}
+use Rattle.shm_graph.specs.{Reach.is_reached, Spots.spot_address, MemoAfterStore.put, Views.own_word}
+use Rattle.shm_graph.proofs.Spots.{SpotPlaces.spot-place, Spotting.in_pool}
+use Rattle.shm_steps.specs.{Conditions.IsHere, Raising.is_read, Reparting.Sight}
 use Rattle.shm_steps.proofs.Items.{put_at}
-use Rattle.shm_count.specs.declared.point.Aim.TheVariants.{Up, Down}
+use Rattle.shm_count.specs.{declared.point.{Aim.TheVariants.{Up, Down}, StepState.StepState}, Slots.MayStepAt}
+use Rattle.shm_count.specs.Step.{Control.IsInside, CanStep, Parts.part_after}
 use Rattle.shm_count.specs.declared.point.StepPoint.TheVariants as point
-use Rattle.shm_count.specs.declared.point.StepState.{StepState}
-use Rattle.shm_count.specs.Slots.{MayStepAt}
-use Rattle.shm_count.specs.Step.Control.{IsInside}
-use Rattle.shm_count.specs.Step.{CanStep}
-use Rattle.shm_count.specs.Step.Parts.{part_after}
 
 -- ---- lists
 

@@ -1,43 +1,27 @@
 -- sends and takes of queues as operations: when they may begin between two calls
 use Rattle.std.proofs.Common.{◌≡◌, ◌≢◌, ℕ, ◌<◌, ◌⊎◌, true, false, List, [], refl, sym, ap, ◌∙◌, subst, inl, inr}
-use Rattle.std.specs.Prelude.{Result, Ok, Err, slice_index}
-use Rattle.std.specs.List.{Contains}
-use Rattle.shm_graph.specs.declared.ask.Me.{Me}
-use Rattle.shm_graph.specs.declared.memo.Memo.{Memo}
-use Rattle.shm_graph.specs.declared.spot.Spot.TheVariants.{Hold, Root}
-use Rattle.shm_graph.specs.Agents.{recovers}
-use Rattle.shm_graph.specs.Asks.{Trail}
-use Rattle.shm_graph.specs.Events.{Event}
-use Rattle.shm_graph.specs.Held.{is_loose}
-use Rattle.shm_graph.specs.Idle.{IsIdle, hold_word}
-use Rattle.shm_graph.specs.Operations.{IsReady}
+use Rattle.std.specs.{Prelude.{Result, Ok, Err, slice_index}, List.Contains}
+use Rattle.shm_graph.specs.{declared.{ask.Me.Me, memo.Memo.Memo, spot.Spot.TheVariants.{Hold, Root}}, Agents.recovers}
+use Rattle.shm_graph.specs.{Asks.Trail, Events.Event, Held.is_loose, Idle.{IsIdle, hold_word}, Operations.IsReady}
 use Rattle.shm_graph.specs.Reach.{is_reached}
 use Rattle.shm_graph.proofs.Idles.{idle_core}
 use Rattle.shm_calls.specs.Tasks.{IsNew, TaskLaws}
-use Rattle.shm_count.specs.declared.answer.EraSpent.{EraSpent as ASpent}
-use Rattle.shm_count.specs.declared.answer.Made.{Made}
+use Rattle.shm_count.specs.declared.answer.{EraSpent.EraSpent as ASpent, Made.Made}
 use Rattle.shm_count.specs.Idles.{filled_idle, untouched_idle, is_here}
-use Rattle.shm_queue.specs.declared.answer.PeekFault.{PeekFault}
-use Rattle.shm_queue.specs.declared.answer.PeekFault.TheVariants as peek
-use Rattle.shm_queue.specs.declared.answer.SendFault.{SendFault}
-use Rattle.shm_queue.specs.declared.answer.SendFault.TheVariants as send
-use Rattle.shm_queue.specs.declared.answer.TakeFault.{TakeFault}
-use Rattle.shm_queue.specs.declared.answer.TakeFault.TheVariants as take
-use Rattle.shm_queue.specs.declared.drain.DrainState.{DrainState}
-use Rattle.shm_queue.specs.declared.peek.PeekState.{PeekState}
-use Rattle.shm_queue.specs.declared.receive.ReceiveState.{ReceiveState}
-use Rattle.shm_queue.specs.declared.send.SendState.{SendState}
-use Rattle.shm_queue.specs.declared.take.TakeState.{TakeState}
-use Rattle.shm_queue.specs.Drain.Control.{drain_parts, draining}
-use Rattle.shm_queue.specs.Drain.{DrainKnows, DrainLeaves, Drained, drain_plan}
-use Rattle.shm_queue.specs.Peek.Control.{peek_parts, peeking}
+use Rattle.shm_queue.specs.declared.answer.{PeekFault.PeekFault, SendFault.SendFault, TakeFault.TakeFault}
+use Rattle.shm_queue.specs.declared.{drain.DrainState.DrainState, peek.PeekState.PeekState}
+use Rattle.shm_queue.specs.declared.{receive.ReceiveState.ReceiveState, send.SendState.SendState}
+use Rattle.shm_queue.specs.{declared.take.TakeState.TakeState, Drain.Control.{drain_parts, draining}}
+use Rattle.shm_queue.specs.{Drain.{DrainKnows, DrainLeaves, Drained, drain_plan}, Peek.Control.{peek_parts, peeking}}
 use Rattle.shm_queue.specs.Peek.{PeekKnows, PeekLeaves, PeekRefused, Peeked, peek_plan}
 use Rattle.shm_queue.specs.Receive.Control.{receive_parts, receiving}
 use Rattle.shm_queue.specs.Receive.{ReceiveKnows, ReceiveLeaves, ReceiveRefused, ReceiveStopped, receive_plan}
-use Rattle.shm_queue.specs.Send.Control.{send_parts, sending}
-use Rattle.shm_queue.specs.Send.{SendKnows, SendLeaves, Sent, send_plan}
+use Rattle.shm_queue.specs.Send.{Control.{send_parts, sending}, SendKnows, SendLeaves, Sent, send_plan}
 use Rattle.shm_queue.specs.Take.Control.{take_parts, taking}
 use Rattle.shm_queue.specs.Take.{MayTakeFrom, NotTaken, Received, TakeKnows, TakeLeaves, TakeStopped, slot_memo, take_plan}
+use Rattle.shm_queue.specs.declared.answer.PeekFault.TheVariants as peek
+use Rattle.shm_queue.specs.declared.answer.SendFault.TheVariants as send
+use Rattle.shm_queue.specs.declared.answer.TakeFault.TheVariants as take
 
 -- ---- a send
 

@@ -1,40 +1,25 @@
 -- word steps at queues with what the invariant says of the word, and what a held state shows of tails, heads and blocks in reach
 use Rattle.std.proofs.Common.{◌≡◌, ◌≢◌, ℕ, ◌+◌, ◌^◌, ◌<◌, ◌≤◌, refl, sym, ap, ◌∙◌, subst, arith, Bool, true, not, zero, suc, List, [], ◌∷◌, ◌++◌, map, inr}
-use Rattle.std.specs.List.{Contains}
 use Rattle.std.proofs.lemmas.Bool.{and_from, eq-eqb, lt-ltb, ne_eqb}
 use Rattle.std.proofs.lemmas.List.Elements.{All-contains, Contains-append_left, Contains-append_right}
 use Rattle.std.proofs.lemmas.Map.Views.{list_any-from_Contains}
-use Rattle.std.specs.Cmp.{nat_eq_equiv}
-use Rattle.shm_words.specs.declared.place.Place.TheVariants as place
+use Rattle.std.specs.{List.Contains, Cmp.nat_eq_equiv}
 use Rattle.shm_words.specs.Layout.{address, total_of}
-use Rattle.shm_graph.specs.declared.ask.Ask.TheVariants.{Load}
-use Rattle.shm_graph.specs.declared.ask.Me.{Me}
-use Rattle.shm_graph.specs.declared.spot.Spot.{Spot}
+use Rattle.shm_words.specs.declared.place.Place.TheVariants as place
+use Rattle.shm_graph.specs.declared.{ask.{Ask.TheVariants.Load, Me.Me}, spot.Spot.Spot}
 use Rattle.shm_graph.specs.declared.spot.Spot.TheVariants.{Era, QueueHead, Home, Slot, Tail}
-use Rattle.shm_graph.specs.declared.memo.Fact.TheVariants.{Counter}
-use Rattle.shm_graph.specs.declared.memo.Memo.{Memo}
-use Rattle.shm_graph.specs.declared.memo.Op.TheVariants.{Nothing}
-use Rattle.shm_graph.specs.Held.{HeldAt}
-use Rattle.shm_graph.specs.Laws.{framed}
-use Rattle.shm_graph.specs.declared.memo.Look.{Look}
-use Rattle.shm_graph.specs.declared.memo.Stored.{Stored}
+use Rattle.shm_graph.specs.declared.memo.{Fact.TheVariants.Counter, Memo.Memo, Op.TheVariants.Nothing, Look.Look}
+use Rattle.shm_graph.specs.{declared.memo.Stored.Stored, Held.HeldAt, Laws.framed}
 use Rattle.shm_graph.specs.Reach.{in_slot, in_slots, is_reached, named_blocks, not_zero, reached_blocks, roots_below, shown}
 use Rattle.shm_graph.specs.Views.{own_word, view}
-use Rattle.shm_graph.proofs.Memos.Calls.{FactHolds}
-use Rattle.shm_graph.proofs.States.Holders.{Holds, reach_counted, target_counted}
-use Rattle.shm_graph.proofs.States.Reached.{reached_here}
-use Rattle.shm_graph.proofs.Spots.SpotPlaces.{spot-place}
+use Rattle.shm_graph.proofs.{Memos.Calls.FactHolds, States.Holders.{Holds, reach_counted, target_counted}}
+use Rattle.shm_graph.proofs.{States.Reached.reached_here, Spots.SpotPlaces.spot-place}
 use Rattle.shm_laws.proofs.Keep.{Contains-filter}
-use Rattle.shm_calls.specs.Parts.{IsHeld}
-use Rattle.shm_calls.specs.Words.{IsWord}
-use Rattle.shm_calls.specs.WordSteps.{load_at}
+use Rattle.shm_calls.specs.{Parts.IsHeld, Words.IsWord, WordSteps.load_at}
 use Rattle.shm_steps.specs.WordParts.{Leaves, same_memo}
-use Rattle.shm_steps.proofs.BeginAt.{word_target}
-use Rattle.shm_steps.proofs.BeginWords.{known_here}
-use Rattle.shm_steps.proofs.Cores.{room_least}
+use Rattle.shm_steps.proofs.{BeginAt.word_target, BeginWords.known_here, Cores.room_least}
 use Rattle.shm_steps.proofs.Words.Own.{at_step, word_for}
-use Rattle.shm_count.specs.DyingBlocks.{live_room}
-use Rattle.shm_count.specs.Step.Control.{IsInside}
+use Rattle.shm_count.specs.{DyingBlocks.live_room, Step.Control.IsInside}
 
 -- ---- loads of heads and tails
 

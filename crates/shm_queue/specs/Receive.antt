@@ -2,28 +2,16 @@
 pub mod Control
 pub mod Laws
 use Rattle.std.specs.Prelude.{◌≡◌, ℕ, ◌+◌, ◌-◌, ◌^◌, ◌<◌, ◌⊎◌, Result, Ok, Err, List, [], ◌++◌, length, ◌*◌}
-use Rattle.shm_graph.specs.declared.ask.Me.{Me}
-use Rattle.shm_graph.specs.declared.memo.Memo.{Memo}
-use Rattle.shm_graph.specs.Asks.{Trail, IsWithin}
-use Rattle.shm_graph.specs.Bounds.{tear_steps, redo_steps}
-use Rattle.shm_graph.specs.Events.{Event}
-use Rattle.shm_calls.specs.CallsPart.{calls_part}
-use Rattle.shm_calls.specs.Either.{or_part}
-use Rattle.shm_calls.specs.Grown.{grown}
-use Rattle.shm_calls.specs.Parts.{Part}
-use Rattle.shm_calls.specs.Plans.{Planned}
-use Rattle.shm_count.specs.declared.answer.Made.{Made}
-use Rattle.shm_count.specs.Tear.Events.{frees}
-use Rattle.shm_queue.specs.declared.answer.PeekFault.{PeekFault}
-use Rattle.shm_queue.specs.declared.answer.PeekFault.TheVariants.{EraSpent}
-use Rattle.shm_queue.specs.declared.receive.ReceivePoint.{ReceivePoint}
-use Rattle.shm_queue.specs.declared.receive.ReceivePoint.TheVariants.{Look, Item}
-use Rattle.shm_queue.specs.declared.receive.ReceiveState.{ReceiveState}
-use Rattle.shm_queue.specs.Peek.Control.{peek_parts, peeking}
+use Rattle.shm_graph.specs.{declared.{ask.Me.Me, memo.Memo.Memo}, Asks.{Trail, IsWithin}}
+use Rattle.shm_graph.specs.{Bounds.{tear_steps, redo_steps}, Events.Event}
+use Rattle.shm_calls.specs.{CallsPart.calls_part, Either.or_part, Grown.grown, Parts.Part, Plans.Planned}
+use Rattle.shm_count.specs.{declared.answer.Made.Made, Tear.Events.frees}
+use Rattle.shm_queue.specs.declared.answer.PeekFault.{PeekFault, TheVariants.EraSpent}
+use Rattle.shm_queue.specs.declared.receive.ReceivePoint.{ReceivePoint, TheVariants.{Look, Item}}
+use Rattle.shm_queue.specs.{declared.receive.ReceiveState.ReceiveState, Peek.Control.{peek_parts, peeking}}
 use Rattle.shm_queue.specs.Peek.{MayPeekFrom, Peeked, PeekRefused, peek_plan}
-use Rattle.shm_queue.specs.Receive.Control.{ReceiveCall, ReceiveAnswer, receive_call_at, receive_after, receive_turns, is_look}
-use Rattle.shm_queue.specs.Take.Control.{take_parts}
-use Rattle.shm_queue.specs.Take.{MayTakeFrom, NotTaken, TakeDone, TakeStopped, take_plan}
+use Rattle.shm_queue.specs.Receive.Control.{ReceiveCall, ReceiveAnswer, is_look, receive_steered}
+use Rattle.shm_queue.specs.Take.{Control.take_parts, MayTakeFrom, NotTaken, TakeDone, TakeStopped, take_plan}
 
 abbrev pub ReceiveKnows : ReceiveState → ReceivePoint → Memo → Memo → Trail → List Event → Type 0
 ReceiveKnows m Look r0 r tr es = MayPeekFrom m.me m.from r0 × (r ≡ r0) × (tr ≡ []) × (es ≡ [])
@@ -74,13 +62,7 @@ receive_part y = grown (is_look y) (or_part (calls_part peek_parts peek_plan) (c
 abbrev pub receive_plan : Planned ReceiveState ReceiveCall ReceiveAnswer (Result Made PeekFault)
 receive_plan =
     record {
-      me = λ m. m.me;
-      line = λ m. [];
-      first = λ m. is_look m.point;
-      start = λ m. record m { root = 0; block = 0; point = Look };
-      call = λ m. receive_call_at m m.point;
-      after = receive_after;
-      turns = receive_turns;
+      steered = receive_steered;
       part = λ m. receive_part m.point;
       knows = λ m. ReceiveKnows m m.point;
       leaves = ReceiveLeaves;

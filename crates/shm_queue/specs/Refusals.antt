@@ -2,17 +2,11 @@
 use Rattle.std.proofs.Common.{◌≡◌, ℕ, zero, suc, ap, ◌∙◌, arith, Bool, true, false, length}
 use Rattle.std.specs.Prelude.{◌==◌, nat_lt, Result, Ok, Err}
 use Rattle.shm_words.specs.Headers.{header_of}
-use Rattle.shm_graph.specs.declared.ask.Me.{Me}
-use Rattle.shm_graph.specs.declared.spot.Spot.{Spot}
-use Rattle.shm_graph.specs.Asks.{Trail}
-use Rattle.shm_graph.specs.Trails.{Answers, Chosen}
+use Rattle.shm_graph.specs.{declared.{ask.Me.Me, spot.Spot.Spot}, Asks.Trail, Trails.{Answers, Chosen}}
 use Rattle.shm_calls.specs.Parts.{Part, PartLaws}
-use Rattle.shm_count.specs.declared.answer.EraSpent.{EraSpent as ASpent}
-use Rattle.shm_count.specs.declared.answer.UpFault.TheVariants.{EraSpent}
-use Rattle.shm_count.specs.declared.point.Aim.TheVariants.{Down}
-use Rattle.shm_count.specs.declared.point.StepState.{StepState}
-use Rattle.shm_count.specs.Slots.Parts.{down_slot_part, down_slot_laws}
-use Rattle.shm_count.specs.Step.Control.{last_era}
+use Rattle.shm_count.specs.declared.answer.{EraSpent.EraSpent as ASpent, UpFault.TheVariants.EraSpent}
+use Rattle.shm_count.specs.declared.point.{Aim.TheVariants.Down, StepState.StepState}
+use Rattle.shm_count.specs.{Slots.Parts.{down_slot_part, down_slot_laws}, Step.Control.last_era}
 use Rattle.shm_count.specs.Step.Machines.{down_control, down_told}
 use Rattle.shm_count.specs.Step.Asks.{StepTrails, exchange_trail, header_trail, redo_trail, row_trail, set_trail, show_trail, slot_trail, step_trail, first_trail, more_trail}
 

@@ -3,42 +3,21 @@ pub mod Control
 pub mod Laws
 use Rattle.std.specs.Prelude.{◌≡◌, ◌≢◌, ℕ, ◌+◌, ◌-◌, ◌%◌, ◌^◌, ◌<◌, ◌≤◌, true, false, Result, Ok, Err, List, [], ◌∷◌, slice_index}
 use Rattle.std.specs.List.{Contains}
-use Rattle.shm_graph.specs.Bounds.{redo_steps}
-use Rattle.shm_words.specs.Layout.{GeometryFits}
-use Rattle.shm_graph.specs.declared.ask.Ask.{Ask}
-use Rattle.shm_graph.specs.declared.ask.Ask.TheVariants as ask
-use Rattle.shm_graph.specs.declared.ask.Me.{Me}
-use Rattle.shm_graph.specs.declared.spot.Spot.{Spot}
-use Rattle.shm_graph.specs.declared.spot.Spot.TheVariants as spot
-use Rattle.shm_graph.specs.declared.memo.Memo.{Memo}
-use Rattle.shm_graph.specs.declared.memo.Op.TheVariants.{Nothing}
-use Rattle.shm_graph.specs.Agents.{recovers}
-use Rattle.shm_graph.specs.Asks.{Trail, IsWithin}
-use Rattle.shm_graph.specs.Core.{core}
-use Rattle.shm_graph.specs.Events.{Event}
-use Rattle.shm_graph.specs.Events as event
-use Rattle.shm_graph.specs.Held.{is_loose}
-use Rattle.shm_graph.specs.Reach.{is_reached}
-use Rattle.shm_graph.specs.Spots.{same_spot}
-use Rattle.shm_graph.specs.MemoAfterStore.{lane_with}
+use Rattle.shm_graph.specs.{Bounds.redo_steps, declared.{ask.{Ask.Ask, Me.Me}, spot.Spot.Spot, memo.Memo.Memo}}
+use Rattle.shm_graph.specs.{declared.memo.Op.TheVariants.Nothing, Agents.recovers, Asks.{Trail, IsWithin}, Core.core}
+use Rattle.shm_graph.specs.{Events.Event, Held.is_loose, Reach.is_reached, Spots.same_spot, MemoAfterStore.lane_with}
 use Rattle.shm_graph.specs.Views.{own_word}
-use Rattle.shm_steps.specs.Conditions.{IsHere}
-use Rattle.shm_steps.specs.WordParts.{CountLoaded, TailStored}
-use Rattle.shm_calls.specs.Either.{or_part}
-use Rattle.shm_calls.specs.Parts.{Part}
-use Rattle.shm_calls.specs.Plans.{Planned}
-use Rattle.shm_calls.specs.Words.{word_part}
-use Rattle.shm_count.specs.Slots.{Filled, Untouched}
-use Rattle.shm_count.specs.Slots.Parts.{up_slot_part}
-use Rattle.shm_count.specs.Tear.Memos.{is_lasting}
-use Rattle.shm_queue.specs.declared.answer.SendFault.{SendFault}
-use Rattle.shm_queue.specs.declared.answer.SendFault.TheVariants.{QueueFull, EraSpent, CountFull}
-use Rattle.shm_queue.specs.declared.send.SendPoint.{SendPoint}
-use Rattle.shm_queue.specs.declared.send.SendPoint.TheVariants.{Tail, Head, Up, Store}
-use Rattle.shm_queue.specs.declared.send.SendState.{SendState}
-use Rattle.shm_queue.specs.QueueSteps.{MayPutAt}
-use Rattle.shm_queue.specs.QueueWords.{HeadSeen}
-use Rattle.shm_queue.specs.Send.Control.{SendCall, SendAnswer, tail_at, head_at, send_call_at, send_after, send_turns, is_tail}
+use Rattle.shm_graph.specs.declared.ask.Ask.TheVariants as ask
+use Rattle.shm_graph.specs.declared.spot.Spot.TheVariants as spot
+use Rattle.shm_graph.specs.Events as event
+use Rattle.shm_words.specs.Layout.{GeometryFits}
+use Rattle.shm_steps.specs.{Conditions.IsHere, WordParts.{CountLoaded, TailStored}}
+use Rattle.shm_calls.specs.{Either.or_part, Parts.Part, Plans.Planned, Words.word_part}
+use Rattle.shm_count.specs.{Slots.{Filled, Untouched, Parts.up_slot_part}, Tear.Memos.is_lasting}
+use Rattle.shm_queue.specs.declared.answer.SendFault.{SendFault, TheVariants.{QueueFull, EraSpent, CountFull}}
+use Rattle.shm_queue.specs.declared.send.SendPoint.{SendPoint, TheVariants.{Tail, Head, Up, Store}}
+use Rattle.shm_queue.specs.{declared.send.SendState.SendState, QueueSteps.MayPutAt, QueueWords.HeadSeen}
+use Rattle.shm_queue.specs.Send.Control.{SendCall, SendAnswer, tail_at, head_at, is_tail, send_steered}
 
 -- ---- when it may begin
 
@@ -142,13 +121,7 @@ send_part m y = or_part (word_part (is_tail y) m.me (send_ask m y) (SendFound m 
 abbrev pub send_plan : Planned SendState SendCall SendAnswer (Result ℕ SendFault)
 send_plan =
     record {
-      me = λ m. m.me;
-      line = λ m. [];
-      first = λ m. is_tail m.point;
-      start = λ m. record m { tail = 0; point = Tail };
-      call = λ m. send_call_at m m.point;
-      after = λ m. send_after m m.point;
-      turns = λ m. send_turns m m.point;
+      steered = send_steered;
       part = λ m. send_part m m.point;
       knows = λ m. SendKnows m m.point;
       leaves = SendLeaves;

@@ -5,48 +5,25 @@ pub mod Laws
 use Rattle.std.specs.Prelude.{◌≡◌, ◌≢◌, ℕ, ◌+◌, ◌-◌, ◌%◌, ◌^◌, ◌<◌, ◌≤◌, ◌⊎◌, Bool, true, false, Result, Ok, Err, List, [], ◌∷◌, length, slice_index}
 use Rattle.std.specs.List.{Contains, filter}
 use Rattle.shm_words.specs.Layout.{GeometryFits, total_of}
-use Rattle.shm_graph.specs.declared.ask.Ask.{Ask}
-use Rattle.shm_graph.specs.declared.ask.Ask.TheVariants as ask
-use Rattle.shm_graph.specs.declared.ask.Me.{Me}
-use Rattle.shm_graph.specs.declared.spot.Spot.{Spot}
-use Rattle.shm_graph.specs.declared.spot.Spot.TheVariants as spot
-use Rattle.shm_graph.specs.declared.memo.Fact.TheVariants.{Counter}
-use Rattle.shm_graph.specs.declared.memo.Memo.{Memo}
-use Rattle.shm_graph.specs.declared.memo.Op.TheVariants.{Nothing}
-use Rattle.shm_graph.specs.Asks.{Trail, IsWithin}
-use Rattle.shm_graph.specs.Bounds.{tear_steps, redo_steps}
-use Rattle.shm_graph.specs.Core.{core}
-use Rattle.shm_graph.specs.Events.{Event}
-use Rattle.shm_graph.specs.Events as event
-use Rattle.shm_graph.specs.Reach.{learnt}
-use Rattle.shm_graph.specs.MemoAfterRead.{valued}
-use Rattle.shm_graph.specs.Spots.{same_spot}
-use Rattle.shm_graph.specs.MemoAfterStore.{head_stored, lane_with, other_than}
+use Rattle.shm_graph.specs.declared.{ask.{Ask.Ask, Me.Me}, spot.Spot.Spot, memo.{Fact.TheVariants.Counter, Memo.Memo}}
+use Rattle.shm_graph.specs.{declared.memo.Op.TheVariants.Nothing, Asks.{Trail, IsWithin}}
+use Rattle.shm_graph.specs.{Bounds.{tear_steps, redo_steps}, Core.core, Events.Event, Reach.learnt}
+use Rattle.shm_graph.specs.{MemoAfterRead.valued, Spots.same_spot, MemoAfterStore.{head_stored, lane_with, other_than}}
 use Rattle.shm_graph.specs.Views.{own_word}
+use Rattle.shm_graph.specs.declared.ask.Ask.TheVariants as ask
+use Rattle.shm_graph.specs.declared.spot.Spot.TheVariants as spot
+use Rattle.shm_graph.specs.Events as event
 use Rattle.shm_steps.specs.Conditions.{IsHere}
 use Rattle.shm_steps.specs.WordParts.{CountLoaded, HeadSlotLoaded, HeadStored, IsHeadSlot, as_known}
-use Rattle.shm_calls.specs.Either.{or_part}
-use Rattle.shm_calls.specs.Grown.{Grows, grown}
-use Rattle.shm_calls.specs.Parts.{IsHeld, Part}
-use Rattle.shm_calls.specs.Plans.{Planned}
-use Rattle.shm_calls.specs.Words.{word_part}
-use Rattle.shm_count.specs.CountParts.{tear_part}
-use Rattle.shm_count.specs.Lowering.{StoppedAt}
-use Rattle.shm_count.specs.Roots.{rest}
-use Rattle.shm_count.specs.Slots.{Lost, Sifts, Untouched, emptied}
-use Rattle.shm_count.specs.Step.Control.{IsInside}
-use Rattle.shm_count.specs.Tear.Events.{Visit, Walks, frees}
-use Rattle.shm_count.specs.Tear.{CanTear}
-use Rattle.shm_count.specs.Tear.Memos.{is_lasting}
-use Rattle.shm_queue.specs.declared.answer.TakeFault.{TakeFault}
-use Rattle.shm_queue.specs.declared.answer.TakeFault.TheVariants.{Empty, EraSpent}
-use Rattle.shm_queue.specs.declared.take.TakePoint.{TakePoint}
-use Rattle.shm_queue.specs.declared.take.TakePoint.TheVariants.{Head, Tail, Slot, Lower, Store, Tear}
-use Rattle.shm_queue.specs.declared.take.TakeState.{TakeState}
-use Rattle.shm_queue.specs.QueueSteps.{MayTakeAt}
-use Rattle.shm_queue.specs.QueueWords.{TailSeen}
+use Rattle.shm_calls.specs.{Either.or_part, Grown.{Grows, grown}, Parts.{IsHeld, Part}, Plans.Planned, Words.word_part}
+use Rattle.shm_count.specs.{CountParts.tear_part, Lowering.StoppedAt, Roots.rest}
+use Rattle.shm_count.specs.{Slots.{Lost, Sifts, Untouched, emptied}, Step.Control.IsInside}
+use Rattle.shm_count.specs.Tear.{Events.{Visit, Walks, frees}, CanTear, Memos.is_lasting}
+use Rattle.shm_queue.specs.declared.answer.TakeFault.{TakeFault, TheVariants.{Empty, EraSpent}}
+use Rattle.shm_queue.specs.declared.take.TakePoint.{TakePoint, TheVariants.{Head, Tail, Slot, Lower, Store, Tear}}
+use Rattle.shm_queue.specs.{declared.take.TakeState.TakeState, QueueSteps.MayTakeAt, QueueWords.TailSeen}
 use Rattle.shm_queue.specs.Refusals.{lower_part}
-use Rattle.shm_queue.specs.Take.Control.{TakeCall, TakeAnswer, tail_at, head_at, slot_at, take_call_at, take_after, take_turns, is_head}
+use Rattle.shm_queue.specs.Take.Control.{TakeCall, TakeAnswer, tail_at, head_at, slot_at, is_head, take_steered}
 
 -- ---- when it may begin
 
@@ -223,13 +200,7 @@ take_part m y = grown (is_head y) (or_part (word_part (is_head y) m.me (take_ask
 abbrev pub take_plan : Planned TakeState TakeCall TakeAnswer (Result (Unit {0}) TakeFault)
 take_plan =
     record {
-      me = λ m. m.me;
-      line = λ m. [];
-      first = λ m. is_head m.point;
-      start = λ m. record m { at = 0; block = 0; last = false; point = Head };
-      call = λ m. take_call_at m m.point;
-      after = take_after;
-      turns = take_turns;
+      steered = take_steered;
       part = λ m. take_part m m.point;
       knows = λ m. TakeKnows m m.point;
       leaves = TakeLeaves;

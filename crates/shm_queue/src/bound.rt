@@ -1,28 +1,17 @@
 //! How many word steps machines over queues make.
 
 ghost use Rattle.std.specs.Prelude.{◌≡◌, ℕ, ◌+◌, ◌*◌, ◌⊎◌, true, false, Result, Ok, Err, length, List};
-ghost use Rattle.shm_graph.specs.declared.ask.Me.{Me as AMe};
-ghost use Rattle.shm_graph.specs.declared.memo.Memo.{Memo as AMemo};
-ghost use Rattle.shm_graph.specs.Asks.{Trail, IsWithin};
-ghost use Rattle.shm_graph.specs.Bounds.{drain_steps, redo_steps, tear_steps};
-ghost use Rattle.shm_count.specs.Tear.Events.{frees};
-ghost use Rattle.shm_count.specs.declared.answer.EraSpent.{EraSpent as ASpent};
-ghost use Rattle.shm_count.specs.declared.answer.Made.{Made as AMade};
+ghost use Rattle.shm_graph.specs.{declared.{ask.Me.Me as AMe, memo.Memo.Memo as AMemo}, Asks.{Trail, IsWithin}};
+ghost use Rattle.shm_graph.specs.{Bounds.{drain_steps, redo_steps, tear_steps}, Events.Event as AnEvent};
+ghost use Rattle.shm_count.specs.{Tear.Events.frees, declared.answer.{EraSpent.EraSpent as ASpent, Made.Made as AMade}};
 ghost use Rattle.shm_queue.specs.declared.answer.PeekFault.{PeekFault as APeekFault};
 ghost use Rattle.shm_queue.specs.declared.answer.PeekFault.TheVariants.{CountFull as IsCounted, Empty as IsVacant, EraSpent as IsLate, RootsFull as AreFull};
 ghost use Rattle.shm_queue.specs.declared.answer.SendFault.{SendFault as ASendFault};
 ghost use Rattle.shm_queue.specs.declared.answer.TakeFault.TheVariants.{Empty as IsEmpty, EraSpent as IsSpent};
-ghost use Rattle.shm_queue.specs.Drain.{DrainStopped, DrainLeaves};
-ghost use Rattle.shm_queue.specs.Receive.{ReceiveStopped, ReceiveLeaves};
-ghost use Rattle.shm_queue.specs.Take.{TakeStopped, TakeLeaves};
-ghost use Rattle.shm_graph.specs.Events.{Event as AnEvent};
-ghost use Rattle.shm_queue.specs.Send.{SendLeaves};
-ghost use Rattle.shm_queue.specs.Send.Control.{sending};
-ghost use Rattle.shm_queue.specs.Take.Control.{taking};
-ghost use Rattle.shm_queue.specs.Peek.{PeekLeaves};
-ghost use Rattle.shm_queue.specs.Peek.Control.{peeking};
-ghost use Rattle.shm_queue.specs.Drain.Control.{draining};
-ghost use Rattle.shm_queue.specs.Receive.Control.{receiving};
+ghost use Rattle.shm_queue.specs.Drain.{DrainStopped, DrainLeaves, Control.draining};
+ghost use Rattle.shm_queue.specs.Receive.{ReceiveStopped, ReceiveLeaves, Control.receiving};
+ghost use Rattle.shm_queue.specs.{Take.{TakeStopped, TakeLeaves, Control.taking}, Send.{SendLeaves, Control.sending}};
+ghost use Rattle.shm_queue.specs.Peek.{PeekLeaves, Control.peeking};
 
 /// A send took at most 11 word steps, in format 2 12, and three more for each exchange that failed.
 pub fn send_bound()

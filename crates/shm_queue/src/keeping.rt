@@ -1,36 +1,18 @@
 //! What machines over queues leave of the memo, whatever they answer: what was sent and received, what waits, the roots and the latch.
 
 ghost use Rattle.std.specs.Prelude.{◌≡◌, ◌≢◌, ◌⊎◌, ℕ, ◌+◌, ◌%◌, ◌<◌, Result, Err, IfErr, IfOk, List, [], ◌++◌, length, slice_index_or};
-ghost use Rattle.shm_graph.specs.declared.ask.Me.{Me as AMe};
-ghost use Rattle.shm_graph.specs.declared.memo.Memo.{Memo as AMemo};
+ghost use Rattle.shm_graph.specs.{declared.{ask.Me.Me as AMe, memo.Memo.Memo as AMemo}, Asks.Trail, Core.core};
+ghost use Rattle.shm_graph.specs.{Events.Event as AnEvent, Idle.IsIdle, MemoAfterStore.lane_with, Views.own_word};
 ghost use Rattle.shm_graph.specs.declared.spot.Spot.TheVariants as spots;
-ghost use Rattle.shm_graph.specs.Asks.{Trail};
-ghost use Rattle.shm_graph.specs.Core.{core};
-ghost use Rattle.shm_graph.specs.Events.{Event as AnEvent};
-ghost use Rattle.shm_graph.specs.Idle.{IsIdle};
-ghost use Rattle.shm_graph.specs.MemoAfterStore.{lane_with};
-ghost use Rattle.shm_graph.specs.Views.{own_word};
-ghost use Rattle.shm_count.specs.declared.answer.EraSpent.{EraSpent as ASpent};
-ghost use Rattle.shm_count.specs.declared.answer.Made.{Made as AMade};
-ghost use Rattle.shm_count.specs.Roots.{AreRootsReached, root_word};
-ghost use Rattle.shm_count.specs.Tear.Memos.{Knows};
-ghost use Rattle.shm_count.specs.Waiting.{LeavesQueues};
-ghost use Rattle.shm_queue.specs.declared.answer.PeekFault.{PeekFault as APeekFault};
+ghost use Rattle.shm_count.specs.declared.answer.{EraSpent.EraSpent as ASpent, Made.Made as AMade};
+ghost use Rattle.shm_count.specs.{Roots.{AreRootsReached, root_word}, Tear.Memos.Knows, Waiting.LeavesQueues};
+ghost use Rattle.shm_queue.specs.declared.answer.{PeekFault.PeekFault as APeekFault, SendFault.SendFault as ASendFault};
+ghost use Rattle.shm_queue.specs.{declared.answer.TakeFault.TakeFault as ATakeFault, Drain.Control.draining};
+ghost use Rattle.shm_queue.specs.{Drain.{DrainLeaves, TakenItem as AnItem, blocks_from}, Keeping.{HasReceived, IsLeft}};
+ghost use Rattle.shm_queue.specs.{Peek.{Control.peeking, PeekLeaves}, Receive.{Control.receiving, ReceiveLeaves}};
+ghost use Rattle.shm_queue.specs.{Send.{Control.sending, SendLeaves}, Take.{Control.taking, TakeLeaves}};
 ghost use Rattle.shm_queue.specs.declared.answer.PeekFault.TheVariants as peek;
-ghost use Rattle.shm_queue.specs.declared.answer.SendFault.{SendFault as ASendFault};
-ghost use Rattle.shm_queue.specs.declared.answer.TakeFault.{TakeFault as ATakeFault};
 ghost use Rattle.shm_queue.specs.declared.answer.TakeFault.TheVariants as take;
-ghost use Rattle.shm_queue.specs.Drain.Control.{draining};
-ghost use Rattle.shm_queue.specs.Drain.{DrainLeaves, TakenItem as AnItem, blocks_from};
-ghost use Rattle.shm_queue.specs.Keeping.{HasReceived, IsLeft};
-ghost use Rattle.shm_queue.specs.Peek.Control.{peeking};
-ghost use Rattle.shm_queue.specs.Peek.{PeekLeaves};
-ghost use Rattle.shm_queue.specs.Receive.Control.{receiving};
-ghost use Rattle.shm_queue.specs.Receive.{ReceiveLeaves};
-ghost use Rattle.shm_queue.specs.Send.Control.{sending};
-ghost use Rattle.shm_queue.specs.Send.{SendLeaves};
-ghost use Rattle.shm_queue.specs.Take.Control.{taking};
-ghost use Rattle.shm_queue.specs.Take.{TakeLeaves};
 
 /// A send that is done answers the tail before, and its block stands at the end of what was sent to that identity; one that is refused sent
 /// nothing. Whatever it answers, the latch, what waits, the zero-count blocks and the roots are what they were, and what roots name is in reach.

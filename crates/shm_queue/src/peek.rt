@@ -2,9 +2,7 @@
 
 ghost use Rattle.std.specs.Prelude.{◌≡◌, ◌<◌};
 ghost use Rattle.shm_words.specs.Layout.{GeometryFits};
-ghost use Rattle.shm_queue.specs.Peek.Control.{peeking, after_word, turns_word};
-ghost use Rattle.shm_queue.specs.Peek.{peek_plan};
-ghost use Rattle.shm_queue.specs.Peek.Laws.{peek_laws};
+ghost use Rattle.shm_queue.specs.Peek.{Control.{peeking, after_word, turns_word}, peek_plan, Laws.peek_laws};
 ghost use Rattle.shm_queue.specs.QueueTasks.{PeekMay, peek_task};
 
 use crate::answer::PeekFault;

@@ -2,12 +2,8 @@
 
 ghost use Rattle.std.specs.Prelude.{◌≡◌, ◌<◌};
 ghost use Rattle.shm_words.specs.Layout.{GeometryFits};
-ghost use Rattle.shm_queue.specs.Receive.Control.{receiving};
-ghost use Rattle.shm_queue.specs.Receive.{receive_plan};
-ghost use Rattle.shm_queue.specs.Peek.Laws.{peek_laws};
-ghost use Rattle.shm_queue.specs.Receive.Laws.{receive_laws};
-ghost use Rattle.shm_queue.specs.Take.Laws.{take_laws};
-ghost use Rattle.shm_queue.specs.QueueTasks.{ReceiveMay, receive_task};
+ghost use Rattle.shm_queue.specs.{Receive.{Control.receiving, receive_plan, Laws.receive_laws}, Peek.Laws.peek_laws};
+ghost use Rattle.shm_queue.specs.{Take.Laws.take_laws, QueueTasks.{ReceiveMay, receive_task}};
 
 use crate::answer::{PeekFault, TakeFault};
 use crate::peek::Peek;

@@ -2,40 +2,25 @@
 
 ghost use Rattle.std.specs.Prelude.{◌≡◌, ◌≢◌, ◌⊎◌, ℕ, ◌+◌, ◌-◌, ◌%◌, ◌^◌, ◌<◌, ◌≤◌, Ok, Err, List, [], ◌∷◌, ◌++◌, length, slice_index_or};
 ghost use Rattle.std.specs.List.{Contains};
-ghost use Rattle.shm_words.specs.declared.place.Place.TheVariants as place;
 ghost use Rattle.shm_words.specs.Layout.{address};
+ghost use Rattle.shm_words.specs.declared.place.Place.TheVariants as place;
+ghost use Rattle.shm_graph.specs.declared.{ask.Me.Me as AMe, memo.{Fact.TheVariants.Counter, Memo.Memo as AMemo}};
+ghost use Rattle.shm_graph.specs.{Asks.{Trail, pair}, Core.core, Events.Event as AnEvent, Views.own_word};
 ghost use Rattle.shm_graph.specs.declared.ask.Ask.TheVariants as ask;
-ghost use Rattle.shm_graph.specs.declared.ask.Me.{Me as AMe};
-ghost use Rattle.shm_graph.specs.declared.memo.Fact.TheVariants.{Counter};
-ghost use Rattle.shm_graph.specs.declared.memo.Memo.{Memo as AMemo};
 ghost use Rattle.shm_graph.specs.declared.spot.Spot.TheVariants as spots;
-ghost use Rattle.shm_graph.specs.Asks.{Trail, pair};
-ghost use Rattle.shm_graph.specs.Core.{core};
 ghost use Rattle.shm_graph.specs.Events as event;
-ghost use Rattle.shm_graph.specs.Events.{Event as AnEvent};
-ghost use Rattle.shm_graph.specs.Views.{own_word};
 ghost use Rattle.shm_steps.specs.WordParts.{as_known};
 ghost use Rattle.shm_calls.specs.Plans.{plan_trail};
-ghost use Rattle.shm_count.specs.declared.answer.EraSpent.{EraSpent as ASpent};
-ghost use Rattle.shm_count.specs.Lowering.{StoppedAt};
-ghost use Rattle.shm_count.specs.Refusing.{ReadsCount};
-ghost use Rattle.shm_count.specs.Roots.{root_word};
-ghost use Rattle.shm_count.specs.Slots.{Untouched};
-ghost use Rattle.shm_count.specs.Tear.Events.{Visit as AVisit, Walks};
-ghost use Rattle.shm_queue.specs.declared.answer.PeekFault.{PeekFault as APeekFault};
+ghost use Rattle.shm_count.specs.{declared.answer.EraSpent.EraSpent as ASpent, Lowering.StoppedAt, Refusing.ReadsCount};
+ghost use Rattle.shm_count.specs.{Roots.root_word, Slots.Untouched, Tear.Events.{Visit as AVisit, Walks}};
+ghost use Rattle.shm_queue.specs.{declared.answer.PeekFault.PeekFault as APeekFault, Drain.Control.draining};
+ghost use Rattle.shm_queue.specs.Drain.{DrainLeaves, ItemsEvents, TakenItem as AnItem, blocks_from};
+ghost use Rattle.shm_queue.specs.{Peek.{Control.peeking, PeekLeaves, peek_plan}, Receive.Control.receiving};
+ghost use Rattle.shm_queue.specs.{Receive.{ReceiveLeaves, receive_plan}, Send.{Control.sending, SendLeaves, send_plan}};
+ghost use Rattle.shm_queue.specs.Take.{Control.taking, Received, TakeLeaves, slot_memo};
 ghost use Rattle.shm_queue.specs.declared.answer.PeekFault.TheVariants as peek;
 ghost use Rattle.shm_queue.specs.declared.answer.SendFault.TheVariants as send;
 ghost use Rattle.shm_queue.specs.declared.answer.TakeFault.TheVariants as take;
-ghost use Rattle.shm_queue.specs.Drain.Control.{draining};
-ghost use Rattle.shm_queue.specs.Drain.{DrainLeaves, ItemsEvents, TakenItem as AnItem, blocks_from};
-ghost use Rattle.shm_queue.specs.Peek.Control.{peeking};
-ghost use Rattle.shm_queue.specs.Peek.{PeekLeaves, peek_plan};
-ghost use Rattle.shm_queue.specs.Receive.Control.{receiving};
-ghost use Rattle.shm_queue.specs.Receive.{ReceiveLeaves, receive_plan};
-ghost use Rattle.shm_queue.specs.Send.Control.{sending};
-ghost use Rattle.shm_queue.specs.Send.{SendLeaves, send_plan};
-ghost use Rattle.shm_queue.specs.Take.Control.{taking};
-ghost use Rattle.shm_queue.specs.Take.{Received, TakeLeaves, slot_memo};
 
 /// A send is refused only, in this order, where the own tail is 8 above the head that it loaded; where the own era leaves no room for the
 /// step up; where a header of the block that was read shows 1,023. No event is told, and what was sent is as before.

@@ -1,29 +1,17 @@
 -- what a leaving and a recovery that are done leave in the words, and what a recovery keeps
 use Rattle.std.proofs.Common.{◌≡◌, ◌≢◌, ℕ, ◌+◌, ◌%◌, ◌<◌, ◌≤◌, ◌⊎◌, refl, sym, ap, ◌∙◌, subst, arith, List, [], ◌∷◌, ◌++◌, append-nil, length, true, inl, inr, eqb}
-use Rattle.std.specs.Prelude.{Ok, ◌==◌, slice_index, slice_index_or}
 use Rattle.std.proofs.lemmas.Bool.{cond-false, eq-eqb, ne_eqb}
-use Rattle.std.specs.List.{Contains}
 use Rattle.std.proofs.lemmas.List.Elements.{All-contains, Contains-append_cases, Contains-push_cases}
-use Rattle.shm_graph.specs.declared.ask.Me.{Me}
-use Rattle.shm_graph.specs.declared.memo.Memo.{Memo}
-use Rattle.shm_graph.specs.declared.memo.Op.TheVariants.{Nothing}
-use Rattle.shm_graph.specs.declared.memo.Status.TheVariants.{Gone}
+use Rattle.std.specs.{Prelude.{Ok, ◌==◌, slice_index, slice_index_or}, List.Contains}
+use Rattle.shm_graph.specs.declared.{ask.Me.Me, memo.{Memo.Memo, Op.TheVariants.Nothing, Status.TheVariants.Gone}}
 use Rattle.shm_graph.specs.declared.spot.Spot.{Spot}
 use Rattle.shm_graph.specs.declared.spot.Spot.TheVariants.{Status, Hold, Latch, Home, Era, Root, Tail, QueueHead, Slot, Segment}
-use Rattle.shm_graph.specs.Asks.{Trail}
-use Rattle.shm_graph.specs.Blocks.{IsLive, headers}
-use Rattle.shm_graph.specs.Events.{ChangeDown, Event}
-use Rattle.shm_graph.specs.Held.{HeldAt, status_word}
-use Rattle.shm_graph.specs.Sound.{IsSound}
-use Rattle.shm_graph.specs.Views.{own_word, owner_is, targets, view}
+use Rattle.shm_graph.specs.{Asks.Trail, Blocks.{IsLive, headers}, Events.{ChangeDown, Event}}
+use Rattle.shm_graph.specs.{Held.{HeldAt, status_word}, Sound.IsSound, Views.{own_word, owner_is, targets, view}}
 use Rattle.shm_graph.proofs.States.GoneStates.{gone_idle, gone_roots, gone_hold, gone_latches, gone_segments, gone_zero_counts, gone_sends, gone_takes}
-use Rattle.shm_graph.proofs.States.HeldSound.{held_sound}
-use Rattle.shm_graph.proofs.States.Reached.{shown_target}
-use Rattle.shm_recover.specs.Departures.{LeftOrRecovered}
-use Rattle.shm_recover.specs.FinishTakes.{QueueDone, waiting}
-use Rattle.shm_recover.specs.Recover.Control.{recovering}
-use Rattle.shm_recover.specs.Recover.Losses.{IsLoss, roots_losses}
-use Rattle.shm_recover.specs.Recover.{OnlyLoses, RecoverLeaves}
+use Rattle.shm_graph.proofs.States.{HeldSound.held_sound, Reached.shown_target}
+use Rattle.shm_recover.specs.{Departures.LeftOrRecovered, FinishTakes.{QueueDone, waiting}, Recover.Control.recovering}
+use Rattle.shm_recover.specs.Recover.{Losses.{IsLoss, roots_losses}, OnlyLoses, RecoverLeaves}
 
 -- ---- nothing is left
 

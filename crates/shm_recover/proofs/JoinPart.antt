@@ -1,20 +1,12 @@
 -- the laws of a join as a part
 use Rattle.std.proofs.Common.{◌≡◌, Bool, refl, sym, ap, subst, []}
-use Rattle.shm_words.specs.declared.place.Place.TheVariants as place
 use Rattle.shm_words.specs.Layout.{address}
-use Rattle.shm_graph.specs.declared.ask.Ask.TheVariants.{Store}
-use Rattle.shm_graph.specs.declared.spot.Spot.{Spot}
-use Rattle.shm_graph.specs.Asks.{Trail}
-use Rattle.shm_graph.specs.Blocks.{classes}
-use Rattle.shm_graph.specs.Events.{Nothing}
-use Rattle.shm_graph.specs.Laws.{framed, event_on}
-use Rattle.shm_graph.specs.Tells.{Tells, happens_along}
-use Rattle.shm_calls.specs.Parts.{PartLaws}
-use Rattle.shm_calls.specs.Placed.{placed}
-use Rattle.shm_recover.specs.declared.join.JoinState.{JoinState}
-use Rattle.shm_recover.specs.Join.Asks.{join_trail}
-use Rattle.shm_recover.specs.Join.{JoinFits, JoinGives, join_control}
-use Rattle.shm_recover.specs.Join.Keeps.{join_begins, join_laws, status_spot}
+use Rattle.shm_words.specs.declared.place.Place.TheVariants as place
+use Rattle.shm_graph.specs.{declared.{ask.Ask.TheVariants.Store, spot.Spot.Spot}, Asks.Trail, Blocks.classes}
+use Rattle.shm_graph.specs.{Events.Nothing, Laws.{framed, event_on}, Tells.{Tells, happens_along}}
+use Rattle.shm_calls.specs.{Parts.PartLaws, Placed.placed}
+use Rattle.shm_recover.specs.{declared.join.JoinState.JoinState, Join.Asks.join_trail}
+use Rattle.shm_recover.specs.Join.{JoinFits, JoinGives, join_control, Keeps.{join_begins, join_laws, status_spot}}
 use Rattle.shm_recover.specs.Join.AsPart.{join_does, join_part}
 
 pub join_tells : Tells join_control JoinFits join_does

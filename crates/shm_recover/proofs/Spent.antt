@@ -1,36 +1,20 @@
 -- what a refusal as spent tells and leaves, and what a scan frees
 use Rattle.std.proofs.Common.{◌≡◌, ◌≢◌, ℕ, ◌+◌, ◌-◌, ◌^◌, ◌<◌, ◌≤◌, ◌⊎◌, refl, sym, ap, subst, arith, Bool, true, false, List, [], ◌∷◌, ◌++◌, length, inl, inr}
-use Rattle.std.specs.Prelude.{Ok, Err, None, slice_index, slice_index_or}
-use Rattle.std.specs.List.{Contains}
 use Rattle.std.proofs.lemmas.Bool.{eq-eqb}
 use Rattle.std.proofs.lemmas.List.Elements.{All-contains, Contains-append_cases, Contains-append_left, Contains-append_right, Contains-push_cases}
-use Rattle.shm_graph.specs.declared.ask.Me.{Me}
-use Rattle.shm_graph.specs.declared.memo.Memo.{Memo}
-use Rattle.shm_graph.specs.declared.memo.Op.{Op}
-use Rattle.shm_graph.specs.declared.memo.Op.TheVariants.{Nothing}
-use Rattle.shm_graph.specs.declared.memo.Status.TheVariants.{Dead}
-use Rattle.shm_graph.specs.declared.spot.Spot.{Spot}
-use Rattle.shm_graph.specs.declared.spot.Spot.TheVariants.{Home, Era, Root, Tail, QueueHead}
-use Rattle.shm_graph.specs.Asks.{IsWithin, Trail}
-use Rattle.shm_graph.specs.Blocks.{IsLive, headers}
-use Rattle.shm_graph.specs.Bounds.{recovery_steps}
-use Rattle.shm_graph.specs.Events.{Event, Free}
-use Rattle.shm_graph.specs.Held.{HeldAt, IsDying, OwnSound, is_root, room_of}
-use Rattle.shm_graph.specs.Reach.{shown}
+use Rattle.std.specs.{Prelude.{Ok, Err, None, slice_index, slice_index_or}, List.Contains}
+use Rattle.shm_graph.specs.declared.{ask.Me.Me, memo.{Memo.Memo, Op.{Op, TheVariants.Nothing}, Status.TheVariants.Dead}}
+use Rattle.shm_graph.specs.declared.spot.Spot.{Spot, TheVariants.{Home, Era, Root, Tail, QueueHead}}
+use Rattle.shm_graph.specs.{Asks.{IsWithin, Trail}, Blocks.{IsLive, headers}, Bounds.recovery_steps}
+use Rattle.shm_graph.specs.{Events.{Event, Free}, Held.{HeldAt, IsDying, OwnSound, is_root, room_of}, Reach.shown}
 use Rattle.shm_graph.specs.Views.{own_word, view}
-use Rattle.shm_count.specs.declared.answer.EraSpent.{EraSpent}
-use Rattle.shm_count.specs.Roots.{root_word}
-use Rattle.shm_count.specs.Tear.Events.{Visit, events_of, frees}
+use Rattle.shm_count.specs.{declared.answer.EraSpent.EraSpent, Roots.root_word, Tear.Events.{Visit, events_of, frees}}
 use Rattle.shm_count.specs.Tear.Memos.{is_lasting}
 use Rattle.shm_count.proofs.TearWalks.{walk_frees}
 use Rattle.shm_ref.specs.Lefts.{is_root_of}
-use Rattle.shm_recover.specs.Departures.{WasSpent}
-use Rattle.shm_recover.specs.Leave.Control.{leaving}
-use Rattle.shm_recover.specs.Leave.{LeaveLeaves}
-use Rattle.shm_recover.specs.Recover.Control.{recovering}
+use Rattle.shm_recover.specs.{Departures.WasSpent, Leave.{Control.leaving, LeaveLeaves}, Recover.Control.recovering}
 use Rattle.shm_recover.specs.Recover.{AreRootless, AreSent, AreTaken, HasCome, RecoverLeaves, SameTakes}
-use Rattle.shm_recover.specs.Scan.Control.{scanning}
-use Rattle.shm_recover.specs.Scan.{IsApart, ScanEvents, ScanLeaves}
+use Rattle.shm_recover.specs.Scan.{Control.scanning, IsApart, ScanEvents, ScanLeaves}
 use Rattle.shm_recover.proofs.Departing.{done_half, done_whole}
 
 -- ---- the own era

@@ -3,39 +3,24 @@ pub mod Mending
 pub mod Queues
 use Rattle.std.proofs.Common.{◌≡◌, ℕ, Bool, refl, ap, List}
 use Rattle.std.specs.Prelude.{Result}
-use Rattle.shm_graph.specs.declared.memo.Memo.{Memo}
-use Rattle.shm_graph.specs.Asks.{Trail}
-use Rattle.shm_graph.specs.Events.{Event}
-use Rattle.shm_graph.specs.Held.{is_loose}
-use Rattle.shm_graph.specs.declared.ask.Me.{Me}
+use Rattle.shm_graph.specs.{declared.{memo.Memo.Memo, ask.Me.Me}, Asks.Trail, Events.Event, Held.is_loose}
 use Rattle.shm_steps.specs.Reparting.{map_in}
-use Rattle.shm_calls.specs.CallsControl.{calls_control}
-use Rattle.shm_calls.specs.CallsPart.{calls_part}
-use Rattle.shm_calls.specs.Either.{or_control, or_part}
+use Rattle.shm_calls.specs.{CallsControl.calls_control, CallsPart.calls_part, Either.{or_control, or_part}}
 use Rattle.shm_calls.specs.Words.{word_control, word_part}
 use Rattle.shm_count.specs.Steady.{IsSteady, SameTable}
 use Rattle.shm_count.proofs.Steady.{calls_steady, or_steady, table_of, table_then, word_steady}
-use Rattle.shm_ref.specs.DropRoots.Control.{drop_root}
-use Rattle.shm_ref.specs.DropRoots.{roots_plan}
+use Rattle.shm_ref.specs.DropRoots.{Control.drop_root, roots_plan}
 use Rattle.shm_ref.proofs.Steady.{roots_steady}
-use Rattle.shm_recover.specs.declared.leave.LeavePoint.{LeavePoint}
+use Rattle.shm_recover.specs.declared.leave.{LeavePoint.LeavePoint, LeaveState.LeaveState}
+use Rattle.shm_recover.specs.declared.recover.{RecoverPoint.RecoverPoint, RecoverState.RecoverState}
+use Rattle.shm_recover.specs.{FinishTakes.finish_plan, GiveUp.give_plan}
+use Rattle.shm_recover.specs.Leave.Control.{is_roots, leave_ask, leave_parts, leave_steered}
+use Rattle.shm_recover.specs.{Leave.{HasLeft, LeaveFound, LeaveKnows, leave_plan}, Mend.{Control.mend_parts, mend_plan}}
+use Rattle.shm_recover.specs.Recover.Control.{back_control, finish_control, give_control, mend_control, recover_parts, roots_control, scan_control, recover_steered}
+use Rattle.shm_recover.specs.{Recover.{IsRecovering, RecoverKnows, recover_part, recover_plan}, Scan.Control.scan_parts}
+use Rattle.shm_recover.specs.{Scan.scan_plan, TakeBack.{Control.back_parts, back_plan}}
 use Rattle.shm_recover.specs.declared.leave.LeavePoint.TheVariants as leave
-use Rattle.shm_recover.specs.declared.leave.LeaveState.{LeaveState}
-use Rattle.shm_recover.specs.declared.recover.RecoverPoint.{RecoverPoint}
 use Rattle.shm_recover.specs.declared.recover.RecoverPoint.TheVariants as recover
-use Rattle.shm_recover.specs.declared.recover.RecoverState.{RecoverState}
-use Rattle.shm_recover.specs.FinishTakes.{finish_plan}
-use Rattle.shm_recover.specs.GiveUp.{give_plan}
-use Rattle.shm_recover.specs.Leave.Control.{is_roots, leave_ask, leave_parts}
-use Rattle.shm_recover.specs.Leave.{HasLeft, LeaveFound, LeaveKnows, leave_plan}
-use Rattle.shm_recover.specs.Mend.Control.{mend_parts}
-use Rattle.shm_recover.specs.Mend.{mend_plan}
-use Rattle.shm_recover.specs.Recover.Control.{back_control, finish_control, give_control, mend_control, recover_parts, roots_control, scan_control}
-use Rattle.shm_recover.specs.Recover.{IsRecovering, RecoverKnows, recover_part, recover_plan}
-use Rattle.shm_recover.specs.Scan.Control.{scan_parts}
-use Rattle.shm_recover.specs.Scan.{scan_plan}
-use Rattle.shm_recover.specs.TakeBack.Control.{back_parts}
-use Rattle.shm_recover.specs.TakeBack.{back_plan}
 use Rattle.shm_recover.proofs.Steady.Mending.{mend_steady}
 use Rattle.shm_recover.proofs.Steady.Queues.{back_steady, finish_steady, give_steady, scan_steady}
 
@@ -70,7 +55,7 @@ recover_calls =
     (or_steady finish_control (or_control scan_control give_control) takes (or_part scan give) finish_steady
     (or_steady scan_control give_control scan give scan_steady give_steady))))
 
-pub recover_steady : IsSteady (calls_control recover_parts recover_plan) (calls_part recover_parts recover_plan)
+pub recover_steady : IsSteady (calls_control recover_parts recover_steered) (calls_part recover_parts recover_plan)
 recover_steady = calls_steady recover_parts recover_plan (λ m. recover_known m m.point) (λ m. recover_calls)
 
 -- ---- a leaving
@@ -89,5 +74,5 @@ leave_calls m =
     or_steady roots_control word_control (calls_part drop_root roots_plan) (word_part (is_roots m.point) m.me (leave_ask m m.point) (LeaveFound m m.point)) roots_steady
     (word_steady (is_roots m.point) m.me (leave_ask m m.point) (LeaveFound m m.point))
 
-pub leave_steady : IsSteady (calls_control leave_parts leave_plan) (calls_part leave_parts leave_plan)
+pub leave_steady : IsSteady (calls_control leave_parts leave_steered) (calls_part leave_parts leave_plan)
 leave_steady = calls_steady leave_parts leave_plan (λ m. leave_known m m.point) leave_calls

@@ -1,14 +1,8 @@
 -- what a leaving and a recovery have in common: the identity is gone, or the own era left no room
 use Rattle.std.specs.Prelude.{◌⊎◌, Ok, Err, List}
-use Rattle.shm_graph.specs.declared.ask.Me.{Me}
-use Rattle.shm_graph.specs.declared.memo.Memo.{Memo}
-use Rattle.shm_graph.specs.Asks.{Trail}
-use Rattle.shm_graph.specs.Events.{Event}
+use Rattle.shm_graph.specs.{declared.{ask.Me.Me, memo.Memo.Memo}, Asks.Trail, Events.Event}
 use Rattle.shm_count.specs.declared.answer.EraSpent.{EraSpent}
-use Rattle.shm_recover.specs.Leave.Control.{leaving}
-use Rattle.shm_recover.specs.Leave.{LeaveLeaves}
-use Rattle.shm_recover.specs.Recover.Control.{recovering}
-use Rattle.shm_recover.specs.Recover.{RecoverLeaves}
+use Rattle.shm_recover.specs.{Leave.{Control.leaving, LeaveLeaves}, Recover.{Control.recovering, RecoverLeaves}}
 
 -- a leaving or a recovery that is done left this
 abbrev pub LeftOrRecovered : Me → Memo → Memo → Trail → List Event → Type 0

@@ -3,26 +3,14 @@ pub mod Control
 pub mod Words
 pub mod Laws
 use Rattle.std.specs.Prelude.{◌≡◌, ◌≢◌, ℕ, ◌+◌, ◌*◌, ◌-◌, ◌^◌, ◌<◌, ◌≤◌, ◌==◌, if◌then◌else◌, ◌⊎◌, false, List, [], ◌∷◌, ◌++◌, length, slice_index, slice_index_or}
-use Rattle.shm_graph.specs.declared.ask.Me.{Me}
-use Rattle.shm_graph.specs.declared.spot.Spot.{Spot}
-use Rattle.shm_graph.specs.declared.spot.Spot.TheVariants.{QueueHead}
-use Rattle.shm_graph.specs.declared.memo.Memo.{Memo}
-use Rattle.shm_graph.specs.Asks.{Trail, IsWithin}
-use Rattle.shm_graph.specs.Core.{core}
-use Rattle.shm_graph.specs.Events.{Event}
-use Rattle.shm_graph.specs.Spots.{same_spot}
-use Rattle.shm_graph.specs.Views.{own_word}
+use Rattle.shm_graph.specs.declared.{ask.Me.Me, spot.Spot.{Spot, TheVariants.QueueHead}, memo.Memo.Memo}
+use Rattle.shm_graph.specs.{Asks.{Trail, IsWithin}, Core.core, Events.Event, Spots.same_spot, Views.own_word}
 use Rattle.shm_steps.specs.WordParts.{CountLoaded, HeadStored}
-use Rattle.shm_calls.specs.declared.word.Word.{Word}
-use Rattle.shm_calls.specs.Parts.{Part}
-use Rattle.shm_calls.specs.Plans.{Planned}
-use Rattle.shm_calls.specs.Words.{word_part}
-use Rattle.shm_recover.specs.declared.finish_takes.FinishPoint.{FinishPoint}
-use Rattle.shm_recover.specs.declared.finish_takes.FinishPoint.TheVariants.{Head, Tail, Slot, Store}
+use Rattle.shm_calls.specs.{declared.word.Word.Word, Parts.Part, Plans.Planned, Words.word_part}
+use Rattle.shm_recover.specs.declared.finish_takes.FinishPoint.{FinishPoint, TheVariants.{Head, Tail, Slot, Store}}
 use Rattle.shm_recover.specs.declared.finish_takes.FinishState.{FinishState}
-use Rattle.shm_recover.specs.FinishTakes.Control.{after_word, finish_ask, finish_call, from_of, is_first, turns_word}
-use Rattle.shm_recover.specs.FinishTakes.Words.{FirstSlotLoaded, IsFirstSlot, TailShown}
-use Rattle.shm_recover.specs.Others.{MayServe, other_at}
+use Rattle.shm_recover.specs.FinishTakes.Control.{finish_ask, from_of, is_first, finish_steered}
+use Rattle.shm_recover.specs.{FinishTakes.Words.{FirstSlotLoaded, IsFirstSlot, TailShown}, Others.{MayServe, other_at}}
 
 -- ---- queues
 
@@ -101,13 +89,7 @@ finish_part m y = word_part (is_first (record m { point = y })) m.me (finish_ask
 abbrev pub finish_plan : Planned FinishState Word ℕ (Unit {0})
 finish_plan =
     record {
-      me = λ m. m.me;
-      line = λ m. [];
-      first = is_first;
-      start = λ m. record m { passed = 0; at = 0; point = Head };
-      call = λ m. finish_call m m.point;
-      after = λ m n. after_word m m.point n;
-      turns = λ m n. turns_word m m.point n;
+      steered = finish_steered;
       part = λ m. finish_part m m.point;
       knows = λ m. FinishKnows m m.point;
       leaves = λ m r0 r tr es u. FinishDone m.me r0 r tr es;

@@ -1,28 +1,15 @@
 -- segments that are given up before the status gone, as a plan: what is known before each word step, and what is left
 pub mod Control
 pub mod Laws
-use Rattle.std.specs.Prelude.{◌≡◌, ℕ, ◌+◌, ◌*◌, ◌<◌, ◌≤◌, List, [], slice_index, None}
-use Rattle.std.specs.List.{Contains}
-use Rattle.shm_graph.specs.declared.ask.Me.{Me}
-use Rattle.shm_graph.specs.declared.spot.Spot.TheVariants.{Hold}
-use Rattle.shm_graph.specs.declared.memo.Memo.{Memo}
-use Rattle.shm_graph.specs.declared.memo.Status.TheVariants.{Gone}
-use Rattle.shm_graph.specs.Asks.{Trail, IsWithin}
-use Rattle.shm_graph.specs.Core.{core}
-use Rattle.shm_graph.specs.Events.{Event}
-use Rattle.shm_graph.specs.Laws.{GoneNow}
-use Rattle.shm_graph.specs.Views.{own_word}
+use Rattle.std.specs.{Prelude.{◌≡◌, ℕ, ◌+◌, ◌*◌, ◌<◌, ◌≤◌, List, [], slice_index, None}, List.Contains}
+use Rattle.shm_graph.specs.declared.{ask.Me.Me, spot.Spot.TheVariants.Hold, memo.{Memo.Memo, Status.TheVariants.Gone}}
+use Rattle.shm_graph.specs.{Asks.{Trail, IsWithin}, Core.core, Events.Event, Laws.GoneNow, Views.own_word}
 use Rattle.shm_steps.specs.WordParts.{GoneStored, SegmentGiven, SegmentLoaded}
-use Rattle.shm_calls.specs.declared.word.Word.{Word}
-use Rattle.shm_calls.specs.Parts.{Part}
-use Rattle.shm_calls.specs.Plans.{Planned}
-use Rattle.shm_calls.specs.Words.{word_part}
+use Rattle.shm_calls.specs.{declared.word.Word.Word, Parts.Part, Plans.Planned, Words.word_part}
 use Rattle.shm_count.specs.Roots.{root_word}
 use Rattle.shm_ref.specs.Lefts.{MayDrop}
-use Rattle.shm_recover.specs.declared.give_up.GivePoint.{GivePoint}
-use Rattle.shm_recover.specs.declared.give_up.GivePoint.TheVariants.{Look, Give, Status}
-use Rattle.shm_recover.specs.declared.give_up.GiveState.{GiveState}
-use Rattle.shm_recover.specs.GiveUp.Control.{after_word, give_ask, give_call, is_first, turns_word}
+use Rattle.shm_recover.specs.declared.give_up.GivePoint.{GivePoint, TheVariants.{Look, Give, Status}}
+use Rattle.shm_recover.specs.{declared.give_up.GiveState.GiveState, GiveUp.Control.{give_ask, is_first, give_steered}}
 
 -- ---- when it may begin
 
@@ -78,13 +65,7 @@ give_part m y = word_part (is_first (record m { point = y })) m.me (give_ask m y
 abbrev pub give_plan : Planned GiveState Word ℕ (Unit {0})
 give_plan =
     record {
-      me = λ m. m.me;
-      line = λ m. [];
-      first = is_first;
-      start = λ m. record m { segment = 0; point = Look };
-      call = λ m. give_call m m.point;
-      after = λ m n. after_word m m.point n;
-      turns = λ m n. turns_word m.point;
+      steered = give_steered;
       part = λ m. give_part m m.point;
       knows = λ m. GiveKnows m m.point;
       leaves = λ m r0 r tr es u. GivenUp m.me r0 r tr es;

@@ -4,16 +4,9 @@ pub mod Keeps
 pub mod AsPart
 use Rattle.std.specs.Prelude.{◌≡◌, ℕ, ◌<◌, ◌⊎◌, Bool, true, false, Some, List, [], ◌∷◌}
 use Rattle.shm_words.specs.Layout.{GeometryFits}
-use Rattle.shm_graph.specs.declared.ask.Me.{Me}
-use Rattle.shm_graph.specs.declared.memo.Memo.{Memo}
-use Rattle.shm_graph.specs.declared.memo.Status.TheVariants.{Gone, Live, New}
-use Rattle.shm_graph.specs.Asks.{Trail}
-use Rattle.shm_graph.specs.Core.{core}
-use Rattle.shm_graph.specs.Idle.{IsIdle}
-use Rattle.shm_graph.specs.Laws.{Control}
-use Rattle.shm_recover.specs.declared.join.JoinPoint.{JoinPoint}
-use Rattle.shm_recover.specs.declared.join.JoinPoint.TheVariants.{Start, Over}
-use Rattle.shm_recover.specs.declared.join.JoinState.{JoinState}
+use Rattle.shm_graph.specs.{declared.{ask.Me.Me, memo.{Memo.Memo, Status.TheVariants.{Gone, Live, New}}}, Asks.Trail}
+use Rattle.shm_graph.specs.{Core.core, Idle.IsIdle, Laws.Control}
+use Rattle.shm_recover.specs.declared.join.{JoinPoint.{JoinPoint, TheVariants.{Start, Over}}, JoinState.JoinState}
 use Rattle.shm_recover.specs.Join.Asks.{join_ask, join_trail}
 
 -- an identity of a pool whose sizes are in range

@@ -3,32 +3,17 @@ pub mod Control
 pub mod Words
 pub mod Laws
 pub mod Gone
-use Rattle.std.specs.Prelude.{◌≡◌, ℕ, ◌+◌, ◌*◌, ◌<◌, ◌≤◌, Result, Ok, Err, List, [], slice_index, None}
-use Rattle.std.specs.List.{Contains}
-use Rattle.shm_graph.specs.Bounds.{redo_steps, tear_steps}
-use Rattle.shm_graph.specs.declared.ask.Me.{Me}
-use Rattle.shm_graph.specs.declared.spot.Spot.TheVariants.{Hold}
-use Rattle.shm_graph.specs.declared.memo.Memo.{Memo}
+use Rattle.std.specs.{Prelude.{◌≡◌, ℕ, ◌+◌, ◌*◌, ◌<◌, ◌≤◌, Result, Ok, Err, List, [], slice_index, None}, List.Contains}
+use Rattle.shm_graph.specs.{Bounds.{redo_steps, tear_steps}, declared.{ask.Me.Me, spot.Spot.TheVariants.Hold}}
+use Rattle.shm_graph.specs.{declared.memo.Memo.Memo, Asks.{Trail, IsWithin}, Events.Event, Laws.GoneNow, Views.own_word}
 use Rattle.shm_graph.specs.declared.memo.Status.TheVariants as status
-use Rattle.shm_graph.specs.Asks.{Trail, IsWithin}
-use Rattle.shm_graph.specs.Events.{Event}
-use Rattle.shm_graph.specs.Laws.{GoneNow}
-use Rattle.shm_graph.specs.Views.{own_word}
 use Rattle.shm_steps.specs.WordParts.{GoneStored, SegmentGiven, SegmentLoaded}
-use Rattle.shm_calls.specs.CallsPart.{calls_part}
-use Rattle.shm_calls.specs.Either.{or_part}
-use Rattle.shm_calls.specs.Plans.{Planned}
-use Rattle.shm_calls.specs.Words.{word_part}
-use Rattle.shm_count.specs.declared.answer.EraSpent.{EraSpent}
-use Rattle.shm_count.specs.Roots.{root_word}
-use Rattle.shm_count.specs.Tear.Events.{Visit, frees}
-use Rattle.shm_recover.specs.declared.leave.LeavePoint.{LeavePoint}
-use Rattle.shm_recover.specs.declared.leave.LeavePoint.TheVariants.{Roots, Look, Give, Status}
+use Rattle.shm_calls.specs.{CallsPart.calls_part, Either.or_part, Plans.Planned, Words.word_part}
+use Rattle.shm_count.specs.{declared.answer.EraSpent.EraSpent, Roots.root_word, Tear.Events.{Visit, frees}}
+use Rattle.shm_recover.specs.declared.leave.LeavePoint.{LeavePoint, TheVariants.{Roots, Look, Give, Status}}
 use Rattle.shm_recover.specs.declared.leave.LeaveState.{LeaveState}
-use Rattle.shm_recover.specs.Leave.Control.{LeaveCall, LeaveAnswer, leave_ask, leave_call_at, leave_after, leave_line, leave_turns, is_roots}
-use Rattle.shm_ref.specs.Lefts.{MayDrop, RootsEvents}
-use Rattle.shm_ref.specs.DropRoots.Control.{drop_root}
-use Rattle.shm_ref.specs.DropRoots.{RootsStopped, roots_plan}
+use Rattle.shm_recover.specs.Leave.Control.{LeaveCall, LeaveAnswer, leave_ask, is_roots, leave_steered}
+use Rattle.shm_ref.specs.{Lefts.{MayDrop, RootsEvents}, DropRoots.{Control.drop_root, RootsStopped, roots_plan}}
 
 -- ---- when it may begin
 
@@ -89,13 +74,7 @@ LeaveFound m Roots = λ r n x. ⊥
 abbrev pub leave_plan : Planned LeaveState LeaveCall LeaveAnswer (Result (Unit {0}) EraSpent)
 leave_plan =
     record {
-      me = λ m. m.me;
-      line = λ m. leave_line;
-      first = λ m. is_roots m.point;
-      start = λ m. record m { segment = 0; point = Roots };
-      call = λ m. leave_call_at m m.point;
-      after = leave_after;
-      turns = leave_turns;
+      steered = leave_steered;
       part = λ m. or_part (calls_part drop_root roots_plan) (word_part (is_roots m.point) m.me (leave_ask m m.point) (LeaveFound m m.point));
       knows = λ m. LeaveKnows m m.point;
       leaves = LeaveLeaves;

@@ -1,19 +1,12 @@
 -- a leaving as an operation: when it may begin between two calls, and where it ends there
-use Rattle.std.proofs.Common.{◌≡◌, ℕ, List, [], nat_lt, refl, sym, subst}
+use Rattle.std.proofs.{Common.{◌≡◌, ℕ, List, [], nat_lt, refl, sym, subst}, lemmas.Bool.true≢false}
 use Rattle.std.specs.Prelude.{IsErr, None, Result, Ok, Err, slice_index}
-use Rattle.std.proofs.lemmas.Bool.{true≢false}
-use Rattle.shm_graph.specs.declared.memo.Memo.{Memo}
-use Rattle.shm_graph.specs.Asks.{Trail}
-use Rattle.shm_graph.specs.Events.{Event}
-use Rattle.shm_graph.specs.Idle.{IsIdle}
+use Rattle.shm_graph.specs.{declared.memo.Memo.Memo, Asks.Trail, Events.Event, Idle.IsIdle}
 use Rattle.shm_calls.specs.Tasks.{IsNew, TaskLaws}
 use Rattle.shm_count.specs.declared.answer.EraSpent.{EraSpent}
 use Rattle.shm_ref.specs.RootTasks.{left_idle}
-use Rattle.shm_recover.specs.declared.leave.LeaveState.{LeaveState}
-use Rattle.shm_recover.specs.Leave.Control.{leave_parts, leaving}
-use Rattle.shm_recover.specs.Leave.Gone.{idle_may_leave}
-use Rattle.shm_recover.specs.Leave.Laws.{leave_begin}
-use Rattle.shm_recover.specs.Leave.{LeaveKnows, LeaveLeaves, leave_plan}
+use Rattle.shm_recover.specs.{declared.leave.LeaveState.LeaveState, Leave.Control.{leave_parts, leaving}}
+use Rattle.shm_recover.specs.Leave.{Gone.idle_may_leave, Laws.leave_begin, LeaveKnows, LeaveLeaves, leave_plan}
 
 -- an identity may leave that holds no latch and has no zero-count block, and for which no block waits at a tail and no item for a head
 abbrev pub LeaveMay : LeaveState → Memo → Type 0

@@ -8,45 +8,26 @@ pub mod Tied
 pub mod Laws
 pub mod Machines
 use Rattle.std.specs.Prelude.{◌≡◌, ◌≢◌, ℕ, ◌+◌, ◌^◌, ◌<◌, ◌≤◌, ◌⊎◌, Bool, true, false, None, Some, List, [], ◌∷◌, ◌++◌}
-use Rattle.shm_words.specs.declared.redo.Redo.{Redo as ARedo}
+use Rattle.shm_words.specs.{declared.redo.Redo.Redo as ARedo, Layout.{GeometryFits, total_of}}
 use Rattle.shm_words.specs.declared.redo.Redo.TheVariants as redos
-use Rattle.shm_words.specs.Layout.{GeometryFits, total_of}
-use Rattle.shm_graph.specs.declared.ask.Me.{Me}
-use Rattle.shm_graph.specs.declared.spot.Spot.{Spot}
+use Rattle.shm_graph.specs.declared.{ask.Me.Me, spot.Spot.Spot}
 use Rattle.shm_graph.specs.declared.spot.Spot.TheVariants.{Body, Era as OwnEra, Hold, Home, QueueHead, Redo as RedoWord, RedoMore, Root, Tail}
-use Rattle.shm_graph.specs.declared.memo.Memo.{Memo}
-use Rattle.shm_graph.specs.declared.memo.Op.TheVariants.{Change, Nothing}
-use Rattle.shm_graph.specs.declared.memo.ChangeStage.TheVariants.{Raising}
-use Rattle.shm_graph.specs.declared.memo.First.TheVariants.{Written}
+use Rattle.shm_graph.specs.declared.memo.{Memo.Memo, Op.TheVariants.{Change, Nothing}, ChangeStage.TheVariants.Raising}
+use Rattle.shm_graph.specs.{declared.memo.First.TheVariants.Written, Agents.recovers, Asks.{Trail, IsWithin}}
+use Rattle.shm_graph.specs.{Bounds.redo_steps, Core.core, Events.{ChangeDown, Event}, Held.is_loose}
+use Rattle.shm_graph.specs.{Ops.{IsUncommitted, held_over_of, slot_of}, Reach.{learnt, shown}, Spots.spot_address}
+use Rattle.shm_graph.specs.{MemoAfterStore.{op_closed, op_written, with_own, written}, Views.{own_word, owner_is}}
 use Rattle.shm_graph.specs.declared.memo.Status.TheVariants as status
-use Rattle.shm_graph.specs.Agents.{recovers}
-use Rattle.shm_graph.specs.Asks.{Trail, IsWithin}
-use Rattle.shm_graph.specs.Bounds.{redo_steps}
-use Rattle.shm_graph.specs.Core.{core}
-use Rattle.shm_graph.specs.Events.{ChangeDown, Event}
-use Rattle.shm_graph.specs.Held.{is_loose}
-use Rattle.shm_graph.specs.Ops.{IsUncommitted, held_over_of, slot_of}
-use Rattle.shm_graph.specs.Reach.{learnt, shown}
-use Rattle.shm_graph.specs.Spots.{spot_address}
-use Rattle.shm_graph.specs.MemoAfterStore.{op_closed, op_written, with_own, written}
-use Rattle.shm_graph.specs.Views.{own_word, owner_is}
-use Rattle.shm_laws.specs.OwnWords.{Closes}
-use Rattle.shm_laws.specs.Slotting.{Writes}
-use Rattle.shm_steps.specs.Reparting.{map_in}
-use Rattle.shm_steps.specs.WordParts.{CountLoaded, DeadStored, EraStored, Makes, OwnLoaded}
-use Rattle.shm_calls.specs.CallsPart.{calls_part}
-use Rattle.shm_calls.specs.Either.{or_part}
-use Rattle.shm_calls.specs.Parts.{IsHeld, Part}
-use Rattle.shm_calls.specs.Plans.{Planned}
+use Rattle.shm_laws.specs.{OwnWords.Closes, Slotting.Writes}
+use Rattle.shm_steps.specs.{Reparting.map_in, WordParts.{CountLoaded, DeadStored, EraStored, Makes, OwnLoaded}}
+use Rattle.shm_calls.specs.{CallsPart.calls_part, Either.or_part, Parts.{IsHeld, Part}, Plans.Planned}
 use Rattle.shm_calls.specs.Words.{word_control, word_part}
 use Rattle.shm_count.specs.CommitTest.{record_in, testing_plan}
 use Rattle.shm_recover.specs.declared.mend.MendPoint.{MendPoint}
 use Rattle.shm_recover.specs.declared.mend.MendPoint.TheVariants.{Dead, Era, Redo, More, Test, Slot, Close, Lower, Unlatch}
-use Rattle.shm_recover.specs.declared.mend.MendState.{MendState}
-use Rattle.shm_recover.specs.MendLower.{MayLowerDead, lowering_plan}
-use Rattle.shm_recover.specs.MendRest.{bare}
+use Rattle.shm_recover.specs.{declared.mend.MendState.MendState, MendLower.{MayLowerDead, lowering_plan}, MendRest.bare}
 use Rattle.shm_recover.specs.MendUnlatch.{unlatching_plan}
-use Rattle.shm_recover.specs.Mend.Control.{MendAnswer, MendCall, before_of, block_of, is_dead, is_first, is_second, mend_after, mend_ask, mend_call, mend_turns, slot_at, value_at}
+use Rattle.shm_recover.specs.Mend.Control.{MendAnswer, MendCall, before_of, block_of, is_dead, is_first, is_second, mend_ask, slot_at, value_at, mend_steered}
 
 -- ---- when it may begin
 
@@ -190,13 +171,7 @@ mend_part m y =
 abbrev pub mend_plan : Planned MendState MendCall MendAnswer (Unit {0})
 mend_plan =
     record {
-      me = λ m. m.me;
-      line = λ m. [];
-      first = λ m. is_dead m.point;
-      start = λ m. record m { era = 0; first = 0; redo = redos.Idle; point = Dead };
-      call = λ m. mend_call m m.point;
-      after = mend_after;
-      turns = mend_turns;
+      steered = mend_steered;
       part = λ m. mend_part m m.point;
       knows = λ m. MendKnows m m.point;
       leaves = λ m r0 r tr es done. IsMended m.me r0 r tr es;

@@ -4,36 +4,22 @@ pub mod Headers
 pub mod Laws
 use Rattle.std.specs.Prelude.{◌≡◌, ◌≢◌, ℕ, ◌+◌, ◌-◌, ◌^◌, ◌<◌, ◌≤◌, ◌⊎◌, true, false, List, [], ◌∷◌, ◌++◌}
 use Rattle.std.specs.List.{Contains}
-use Rattle.shm_words.specs.Headers.{header_of}
-use Rattle.shm_words.specs.Layout.{GeometryFits, total_of}
-use Rattle.shm_graph.specs.declared.ask.Me.{Me}
-use Rattle.shm_graph.specs.declared.spot.Spot.{Spot}
-use Rattle.shm_graph.specs.declared.spot.Spot.TheVariants.{Era}
-use Rattle.shm_graph.specs.declared.memo.Fact.TheVariants.{Header as HeaderRead}
-use Rattle.shm_graph.specs.declared.memo.Memo.{Memo}
+use Rattle.shm_words.specs.{Headers.header_of, Layout.{GeometryFits, total_of}}
+use Rattle.shm_graph.specs.declared.{ask.Me.Me, spot.Spot.{Spot, TheVariants.Era}}
+use Rattle.shm_graph.specs.declared.memo.{Fact.TheVariants.Header as HeaderRead, Memo.Memo}
 use Rattle.shm_graph.specs.declared.memo.Op.TheVariants.{Change, Nothing}
 use Rattle.shm_graph.specs.declared.memo.ChangeStage.TheVariants.{Lowering as LoweringStage}
-use Rattle.shm_graph.specs.declared.memo.Second.TheVariants.{Closed, Open}
-use Rattle.shm_graph.specs.Agents.{recovers}
-use Rattle.shm_graph.specs.Asks.{Trail, IsWithin}
-use Rattle.shm_graph.specs.Core.{core}
-use Rattle.shm_graph.specs.Events.{ChangeDown, Event}
-use Rattle.shm_graph.specs.Views.{own_word}
-use Rattle.shm_steps.specs.Conditions.{IsHere}
-use Rattle.shm_steps.specs.Raising.{OwnRowShows}
+use Rattle.shm_graph.specs.{declared.memo.Second.TheVariants.{Closed, Open}, Agents.recovers, Asks.{Trail, IsWithin}}
+use Rattle.shm_graph.specs.{Core.core, Events.{ChangeDown, Event}, Views.own_word}
+use Rattle.shm_steps.specs.{Conditions.IsHere, Raising.OwnRowShows}
 use Rattle.shm_steps.specs.WordParts.{CountLoaded, EraClosedLowering, FormerLowered, HeaderSeen, RowStored, former_event}
-use Rattle.shm_calls.specs.declared.word.Word.{Word}
-use Rattle.shm_calls.specs.EventWords.{event_part}
-use Rattle.shm_calls.specs.Grown.{grown}
-use Rattle.shm_calls.specs.Parts.{Part}
-use Rattle.shm_calls.specs.Plans.{Planned}
+use Rattle.shm_calls.specs.{declared.word.Word.Word, EventWords.event_part, Grown.grown, Parts.Part, Plans.Planned}
 use Rattle.shm_calls.specs.Words.{word_part}
 use Rattle.shm_count.specs.CommitTest.StepTrail.{read_part}
 use Rattle.shm_recover.specs.declared.mend_lower.MendLowerPoint.{MendLowerPoint}
 use Rattle.shm_recover.specs.declared.mend_lower.MendLowerPoint.TheVariants.{Header, Row, Show, Exchange, Close}
-use Rattle.shm_recover.specs.declared.mend_lower.MendLowerState.{MendLowerState}
-use Rattle.shm_recover.specs.MendRest.{bare, is_row}
-use Rattle.shm_recover.specs.MendLower.Control.{is_header, lowered, lowering_after, lowering_ask, lowering_call, lowering_turns}
+use Rattle.shm_recover.specs.{declared.mend_lower.MendLowerState.MendLowerState, MendRest.{bare, is_row}}
+use Rattle.shm_recover.specs.MendLower.Control.{is_header, lowered, lowering_ask, lowering_steered}
 
 -- a change of a recoverer's identity is at its second half, of era e, and is to take the reference to block a away
 pub record MayLowerDead (me : Me) (a e : ℕ) (r : Memo) : Type 0 where
@@ -125,13 +111,7 @@ lowering_part m y = grown (is_header y) (word_part (is_header y) m.me (lowering_
 abbrev pub lowering_plan : Planned MendLowerState Word ℕ (Unit {0})
 lowering_plan =
     record {
-      me = λ m. m.me;
-      line = λ m. [];
-      first = λ m. is_header m.point;
-      start = λ m. record m { header = 0; point = Header };
-      call = λ m. lowering_call m m.point;
-      after = λ m. lowering_after m m.point;
-      turns = λ m n. lowering_turns m.point;
+      steered = lowering_steered;
       part = λ m. lowering_part m m.point;
       knows = λ m. LoweringKnows m m.point;
       leaves = λ m r0 r tr es done. IsLowered m.me m.block m.era r0 r tr es;

@@ -1,10 +1,7 @@
 -- what a mending leaves as it was
 use Rattle.std.specs.Prelude.{Bool, true, false, [], None}
-use Rattle.shm_graph.specs.declared.spot.Spot.{Spot}
-use Rattle.shm_graph.specs.declared.spot.Spot.TheVariants.{Era, Hold}
-use Rattle.shm_graph.specs.declared.memo.Memo.{Memo}
-use Rattle.shm_graph.specs.declared.memo.Op.TheVariants.{Nothing}
-use Rattle.shm_graph.specs.Core.{core}
+use Rattle.shm_graph.specs.declared.{spot.Spot.{Spot, TheVariants.{Era, Hold}}, memo.Memo.Memo}
+use Rattle.shm_graph.specs.{declared.memo.Op.TheVariants.Nothing, Core.core}
 
 -- the memo but its own words, the step in progress, the latch, the zero-count blocks, and what it knows and has read: the status, the segments, the queues, the partition and the block that is prepared are left
 abbrev pub bare : Memo → Memo

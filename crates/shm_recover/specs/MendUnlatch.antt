@@ -3,28 +3,15 @@ pub mod Control
 pub mod Laws
 use Rattle.std.specs.Prelude.{◌≡◌, ℕ, ◌<◌, true, false, None, Some, List, []}
 use Rattle.shm_words.specs.Layout.{GeometryFits}
-use Rattle.shm_graph.specs.declared.ask.Me.{Me}
-use Rattle.shm_graph.specs.declared.spot.Spot.{Spot}
-use Rattle.shm_graph.specs.declared.spot.Spot.TheVariants.{Hold}
-use Rattle.shm_graph.specs.declared.memo.Memo.{Memo}
-use Rattle.shm_graph.specs.declared.memo.Op.TheVariants.{Nothing}
-use Rattle.shm_graph.specs.Agents.{recovers}
-use Rattle.shm_graph.specs.Asks.{Trail, IsWithin}
-use Rattle.shm_graph.specs.Core.{core}
-use Rattle.shm_graph.specs.Events.{Event}
-use Rattle.shm_graph.specs.Ops.{IsUncommitted}
-use Rattle.shm_graph.specs.Views.{own_word}
-use Rattle.shm_steps.specs.Conditions.{IsHere}
-use Rattle.shm_steps.specs.WordParts.{HoldLoaded, HoldStored, LatchGiven, LatchLoaded}
-use Rattle.shm_calls.specs.declared.word.Word.{Word}
-use Rattle.shm_calls.specs.Parts.{Part}
-use Rattle.shm_calls.specs.Plans.{Planned}
-use Rattle.shm_calls.specs.Words.{word_part}
+use Rattle.shm_graph.specs.declared.{ask.Me.Me, spot.Spot.{Spot, TheVariants.Hold}, memo.Memo.Memo}
+use Rattle.shm_graph.specs.{declared.memo.Op.TheVariants.Nothing, Agents.recovers, Asks.{Trail, IsWithin}, Core.core}
+use Rattle.shm_graph.specs.{Events.Event, Ops.IsUncommitted, Views.own_word}
+use Rattle.shm_steps.specs.{Conditions.IsHere, WordParts.{HoldLoaded, HoldStored, LatchGiven, LatchLoaded}}
+use Rattle.shm_calls.specs.{declared.word.Word.Word, Parts.Part, Plans.Planned, Words.word_part}
 use Rattle.shm_recover.specs.declared.mend_unlatch.MendUnlatchPoint.{MendUnlatchPoint}
 use Rattle.shm_recover.specs.declared.mend_unlatch.MendUnlatchPoint.TheVariants.{Whose, Look, Give, Back}
-use Rattle.shm_recover.specs.declared.mend_unlatch.MendUnlatchState.{MendUnlatchState}
-use Rattle.shm_recover.specs.MendRest.{bare, is_hold}
-use Rattle.shm_recover.specs.MendUnlatch.Control.{is_whose, unlatching_after, unlatching_ask, unlatching_call, unlatching_turns}
+use Rattle.shm_recover.specs.{declared.mend_unlatch.MendUnlatchState.MendUnlatchState, MendRest.{bare, is_hold}}
+use Rattle.shm_recover.specs.MendUnlatch.Control.{is_whose, unlatching_ask, unlatching_steered}
 
 -- a recoverer's step in progress, if there is one, isn't committed
 pub record MayUnlatchDead (me : Me) (r : Memo) : Type 0 where
@@ -88,13 +75,7 @@ unlatching_part m y = word_part (is_whose y) m.me (unlatching_ask m.me m.author 
 abbrev pub unlatching_plan : Planned MendUnlatchState Word ℕ (Unit {0})
 unlatching_plan =
     record {
-      me = λ m. m.me;
-      line = λ m. [];
-      first = λ m. is_whose m.point;
-      start = λ m. record m { author = 0; point = Whose };
-      call = λ m. unlatching_call m m.point;
-      after = λ m. unlatching_after m m.point;
-      turns = λ m. unlatching_turns m.point;
+      steered = unlatching_steered;
       part = λ m. unlatching_part m m.point;
       knows = λ m. UnlatchingKnows m m.point;
       leaves = λ m r0 r tr es done. Unlatched m.me r0 r tr es;

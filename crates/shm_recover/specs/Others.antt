@@ -1,9 +1,8 @@
 -- the other identities of a pool, one after the other
 use Rattle.std.proofs.Common.{◌≡◌, ◌≢◌, ℕ, ◌+◌, ◌<◌, ◌≤◌, ◌⊎◌, refl, arith, Bool, true, false, inl, inr}
-use Rattle.std.specs.Prelude.{nat_lt, if◌then◌else◌}
 use Rattle.std.proofs.lemmas.Bool.{cases_eq, ltb-false, ltb-true}
-use Rattle.shm_graph.specs.declared.ask.Me.{Me}
-use Rattle.shm_graph.specs.declared.memo.Memo.{Memo}
+use Rattle.std.specs.Prelude.{nat_lt, if◌then◌else◌}
+use Rattle.shm_graph.specs.declared.{ask.Me.Me, memo.Memo.Memo}
 use Rattle.shm_ref.specs.Lefts.{MayDrop}
 
 -- no step of the identity is in progress, and the pool has other identities, to which it has queues

@@ -4,46 +4,24 @@ pub mod Losses
 pub mod Laws
 use Rattle.std.specs.Prelude.{◌≡◌, ℕ, ◌+◌, ◌*◌, ◌-◌, ◌^◌, ◌<◌, ◌≤◌, ◌⊎◌, Bool, true, false, Result, Ok, Err, List, [], ◌∷◌, ◌++◌, length, slice_index, None}
 use Rattle.std.specs.List.{All, Contains}
-use Rattle.shm_graph.specs.Bounds.{recovery_steps, redo_steps, tear_steps}
-use Rattle.shm_graph.specs.declared.ask.Me.{Me}
-use Rattle.shm_graph.specs.declared.spot.Spot.{Spot}
-use Rattle.shm_graph.specs.declared.spot.Spot.TheVariants.{Era, Home, QueueHead, Root, Tail}
-use Rattle.shm_graph.specs.declared.memo.Memo.{Memo}
-use Rattle.shm_graph.specs.declared.memo.Op.TheVariants.{Nothing}
+use Rattle.shm_graph.specs.{Bounds.{recovery_steps, redo_steps, tear_steps}, declared.{ask.Me.Me, spot.Spot.Spot}}
+use Rattle.shm_graph.specs.declared.{spot.Spot.TheVariants.{Era, Home, QueueHead, Root, Tail}, memo.Memo.Memo}
+use Rattle.shm_graph.specs.{declared.memo.Op.TheVariants.Nothing, Asks.{Trail, IsWithin}, Events.Event, Held.is_loose}
+use Rattle.shm_graph.specs.{Laws.GoneNow, Reach.shown, Views.own_word}
 use Rattle.shm_graph.specs.declared.memo.Status.TheVariants as status
-use Rattle.shm_graph.specs.Asks.{Trail, IsWithin}
-use Rattle.shm_graph.specs.Events.{Event}
 use Rattle.shm_graph.specs.Events as event
-use Rattle.shm_graph.specs.Held.{is_loose}
-use Rattle.shm_graph.specs.Laws.{GoneNow}
-use Rattle.shm_graph.specs.Reach.{shown}
-use Rattle.shm_graph.specs.Views.{own_word}
 use Rattle.shm_steps.specs.Reparting.{map_in}
-use Rattle.shm_calls.specs.CallsPart.{calls_part}
-use Rattle.shm_calls.specs.Either.{or_part}
-use Rattle.shm_calls.specs.Parts.{Part}
-use Rattle.shm_calls.specs.Plans.{Planned}
-use Rattle.shm_calls.specs.Words.{word_control}
-use Rattle.shm_count.specs.declared.answer.EraSpent.{EraSpent}
-use Rattle.shm_count.specs.Roots.{rest, root_word}
-use Rattle.shm_count.specs.Tear.Events.{Visit, frees}
+use Rattle.shm_calls.specs.{CallsPart.calls_part, Either.or_part, Parts.Part, Plans.Planned, Words.word_control}
+use Rattle.shm_count.specs.{declared.answer.EraSpent.EraSpent, Roots.{rest, root_word}, Tear.Events.{Visit, frees}}
 use Rattle.shm_count.specs.Tear.Memos.{is_lasting}
-use Rattle.shm_ref.specs.DropRoots.Control.{drop_root}
-use Rattle.shm_ref.specs.DropRoots.{roots_plan}
+use Rattle.shm_ref.specs.DropRoots.{Control.drop_root, roots_plan}
 use Rattle.shm_recover.specs.declared.recover.RecoverPoint.{RecoverPoint}
 use Rattle.shm_recover.specs.declared.recover.RecoverPoint.TheVariants.{Mend, Roots, Back, Takes, Scan, Give}
 use Rattle.shm_recover.specs.declared.recover.RecoverState.{RecoverState}
-use Rattle.shm_recover.specs.FinishTakes.{QueueDone, QueueSame, finish_plan}
-use Rattle.shm_recover.specs.GiveUp.{give_plan}
-use Rattle.shm_recover.specs.Join.{IsMember}
-use Rattle.shm_recover.specs.Mend.Control.{mend_parts}
-use Rattle.shm_recover.specs.Mend.{IsMended, MayMend, mend_plan}
-use Rattle.shm_recover.specs.Recover.Control.{RecoverAnswer, RecoverCall, is_mend, recover_after, recover_call_at, recover_line, recover_turns}
-use Rattle.shm_recover.specs.Recover.Losses.{AreLosses}
-use Rattle.shm_recover.specs.Scan.Control.{scan_parts}
-use Rattle.shm_recover.specs.Scan.{scan_plan}
-use Rattle.shm_recover.specs.TakeBack.Control.{back_parts}
-use Rattle.shm_recover.specs.TakeBack.{back_plan}
+use Rattle.shm_recover.specs.{FinishTakes.{QueueDone, QueueSame, finish_plan}, GiveUp.give_plan, Join.IsMember}
+use Rattle.shm_recover.specs.Mend.{Control.mend_parts, IsMended, MayMend, mend_plan}
+use Rattle.shm_recover.specs.Recover.{Control.{RecoverAnswer, RecoverCall, recover_steered}, Losses.AreLosses}
+use Rattle.shm_recover.specs.{Scan.{Control.scan_parts, scan_plan}, TakeBack.{Control.back_parts, back_plan}}
 
 -- ---- events
 
@@ -171,13 +149,7 @@ recover_part = or_part (calls_part mend_parts mend_plan) (or_part (calls_part dr
 abbrev pub recover_plan : Planned RecoverState RecoverCall RecoverAnswer (Result (Unit {0}) EraSpent)
 recover_plan =
     record {
-      me = λ m. m.me;
-      line = λ m. recover_line;
-      first = λ m. is_mend m.point;
-      start = λ m. record m { point = Mend };
-      call = λ m. recover_call_at m m.point;
-      after = recover_after;
-      turns = λ m. recover_turns;
+      steered = recover_steered;
       part = λ m. recover_part;
       knows = λ m. RecoverKnows m m.point;
       leaves = RecoverLeaves;

@@ -4,34 +4,17 @@ pub mod Words
 pub mod Laws
 use Rattle.std.specs.Prelude.{◌≡◌, ℕ, ◌+◌, ◌*◌, ◌/◌, ◌%◌, ◌^◌, ◌<◌, ◌≤◌, ◌⊎◌, ◌-◌, true, Result, Ok, Err, List, [], ◌∷◌, ◌++◌, length}
 use Rattle.std.specs.List.{All, Contains}
-use Rattle.shm_words.specs.Classes.{IsClass}
-use Rattle.shm_words.specs.Layout.{bodies}
-use Rattle.shm_graph.specs.Bounds.{tear_steps}
-use Rattle.shm_graph.specs.declared.ask.Me.{Me}
-use Rattle.shm_graph.specs.declared.spot.Spot.{Spot}
-use Rattle.shm_graph.specs.declared.spot.Spot.TheVariants.{Era}
-use Rattle.shm_graph.specs.declared.memo.Fact.TheVariants.{Class}
-use Rattle.shm_graph.specs.declared.memo.Memo.{Memo}
-use Rattle.shm_graph.specs.declared.memo.Op.TheVariants.{Nothing}
-use Rattle.shm_graph.specs.Asks.{Trail, IsWithin}
-use Rattle.shm_graph.specs.Events.{Event}
-use Rattle.shm_graph.specs.Views.{own_word}
-use Rattle.shm_calls.specs.Either.{or_part}
-use Rattle.shm_calls.specs.Grown.{grown}
-use Rattle.shm_calls.specs.Parts.{Part}
-use Rattle.shm_calls.specs.Plans.{Planned}
-use Rattle.shm_calls.specs.Words.{word_part}
-use Rattle.shm_count.specs.declared.answer.EraSpent.{EraSpent}
-use Rattle.shm_count.specs.CountParts.{tear_part}
-use Rattle.shm_count.specs.Roots.{rest}
-use Rattle.shm_count.specs.Tear.Events.{Visit, Walks, frees}
-use Rattle.shm_count.specs.Tear.{CanTear}
-use Rattle.shm_count.specs.Tear.Memos.{is_lasting}
+use Rattle.shm_words.specs.{Classes.IsClass, Layout.bodies}
+use Rattle.shm_graph.specs.{Bounds.tear_steps, declared.{ask.Me.Me, spot.Spot.{Spot, TheVariants.Era}}}
+use Rattle.shm_graph.specs.declared.memo.{Fact.TheVariants.Class, Memo.Memo, Op.TheVariants.Nothing}
+use Rattle.shm_graph.specs.{Asks.{Trail, IsWithin}, Events.Event, Views.own_word}
+use Rattle.shm_calls.specs.{Either.or_part, Grown.grown, Parts.Part, Plans.Planned, Words.word_part}
+use Rattle.shm_count.specs.{declared.answer.EraSpent.EraSpent, CountParts.tear_part, Roots.rest}
+use Rattle.shm_count.specs.Tear.{Events.{Visit, Walks, frees}, CanTear, Memos.is_lasting}
 use Rattle.shm_ref.specs.Lefts.{MayDrop}
-use Rattle.shm_recover.specs.declared.scan.ScanPoint.{ScanPoint}
-use Rattle.shm_recover.specs.declared.scan.ScanPoint.TheVariants.{Page, Header, Tear}
+use Rattle.shm_recover.specs.declared.scan.ScanPoint.{ScanPoint, TheVariants.{Page, Header, Tear}}
 use Rattle.shm_recover.specs.declared.scan.ScanState.{ScanState}
-use Rattle.shm_recover.specs.Scan.Control.{ScanAnswer, ScanCall, block_at, is_first, place_in, scan_after, scan_ask, scan_call_at, scan_turns, words_before}
+use Rattle.shm_recover.specs.Scan.Control.{ScanAnswer, ScanCall, block_at, is_first, place_in, scan_ask, words_before, scan_steered}
 use Rattle.shm_recover.specs.Scan.Words.{LostSeen, PageSeen}
 
 -- ---- what is left of the memo
@@ -135,13 +118,7 @@ scan_part m y = let first = is_first (record m { point = y }) in grown first (or
 abbrev pub scan_plan : Planned ScanState ScanCall ScanAnswer (Result ℕ EraSpent)
 scan_plan =
     record {
-      me = λ m. m.me;
-      line = λ m. [];
-      first = is_first;
-      start = λ m. record m { segment = 0; page = 0; class = 0; offset = 0; found = 0; point = Page };
-      call = λ m. scan_call_at m m.point;
-      after = scan_after;
-      turns = scan_turns;
+      steered = scan_steered;
       part = λ m. scan_part m m.point;
       knows = λ m. ScanKnows m m.point;
       leaves = ScanLeaves;

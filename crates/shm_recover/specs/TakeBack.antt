@@ -5,35 +5,18 @@ pub mod Memos
 pub mod Laws
 use Rattle.std.specs.Prelude.{◌≡◌, ◌≢◌, ℕ, zero, suc, ◌+◌, ◌*◌, ◌-◌, ◌%◌, ◌<◌, ◌≤◌, ◌⊎◌, true, false, Result, Ok, Err, List, [], ◌∷◌, ◌++◌, length, slice_index}
 use Rattle.std.specs.List.{Contains}
-use Rattle.shm_graph.specs.Bounds.{redo_steps, tear_steps}
-use Rattle.shm_graph.specs.declared.ask.Me.{Me}
-use Rattle.shm_graph.specs.declared.spot.Spot.{Spot}
+use Rattle.shm_graph.specs.{Bounds.{redo_steps, tear_steps}, declared.{ask.Me.Me, spot.Spot.Spot, memo.Memo.Memo}}
+use Rattle.shm_graph.specs.{declared.memo.Op.TheVariants.Nothing, Asks.{Trail, IsWithin}, Events.Event, Views.own_word}
 use Rattle.shm_graph.specs.declared.spot.Spot.TheVariants as spot
-use Rattle.shm_graph.specs.declared.memo.Memo.{Memo}
-use Rattle.shm_graph.specs.declared.memo.Op.TheVariants.{Nothing}
-use Rattle.shm_graph.specs.Asks.{Trail, IsWithin}
-use Rattle.shm_graph.specs.Events.{Event}
 use Rattle.shm_graph.specs.Events as event
-use Rattle.shm_graph.specs.Views.{own_word}
 use Rattle.shm_steps.specs.WordParts.{CountLoaded, IsTailSlot, TailSlotLoaded}
-use Rattle.shm_calls.specs.Either.{or_part}
-use Rattle.shm_calls.specs.Parts.{IsHeld, Part}
-use Rattle.shm_calls.specs.Plans.{Planned}
-use Rattle.shm_calls.specs.Words.{word_part}
-use Rattle.shm_count.specs.declared.answer.EraSpent.{EraSpent}
-use Rattle.shm_count.specs.CountParts.{tear_part}
-use Rattle.shm_count.specs.Lowering.{StoppedAt}
-use Rattle.shm_count.specs.Roots.{rest}
-use Rattle.shm_count.specs.Slots.{Lost}
-use Rattle.shm_count.specs.Slots.Parts.{down_slot_part}
-use Rattle.shm_count.specs.Tear.Events.{Visit, Walks, frees}
-use Rattle.shm_count.specs.Tear.{CanTear}
+use Rattle.shm_calls.specs.{Either.or_part, Parts.{IsHeld, Part}, Plans.Planned, Words.word_part}
+use Rattle.shm_count.specs.{declared.answer.EraSpent.EraSpent, CountParts.tear_part, Lowering.StoppedAt, Roots.rest}
+use Rattle.shm_count.specs.{Slots.{Lost, Parts.down_slot_part}, Tear.{Events.{Visit, Walks, frees}, CanTear}}
 use Rattle.shm_count.specs.Tear.Memos.{is_lasting}
-use Rattle.shm_recover.specs.declared.take_back.BackPoint.{BackPoint}
-use Rattle.shm_recover.specs.declared.take_back.BackPoint.TheVariants.{Tail, Head, Slot, Lower, Tear}
-use Rattle.shm_recover.specs.declared.take_back.BackState.{BackState}
-use Rattle.shm_recover.specs.Others.{MayServe, other_at}
-use Rattle.shm_recover.specs.TakeBack.Control.{BackAnswer, BackCall, back_after, back_ask, back_call_at, back_turns, is_first, to_of}
+use Rattle.shm_recover.specs.declared.take_back.BackPoint.{BackPoint, TheVariants.{Tail, Head, Slot, Lower, Tear}}
+use Rattle.shm_recover.specs.{declared.take_back.BackState.BackState, Others.{MayServe, other_at}}
+use Rattle.shm_recover.specs.TakeBack.Control.{BackAnswer, BackCall, back_ask, is_first, to_of, back_steered}
 use Rattle.shm_recover.specs.TakeBack.Words.{HeadShown, MayBackAt}
 
 -- ---- what is left of the memo
@@ -140,13 +123,7 @@ back_part m y = or_part (word_part (is_first (record m { point = y })) m.me (bac
 abbrev pub back_plan : Planned BackState BackCall BackAnswer (Result (Unit {0}) EraSpent)
 back_plan =
     record {
-      me = λ m. m.me;
-      line = λ m. [];
-      first = is_first;
-      start = λ m. record m { passed = 0; at = 0; block = 0; point = Tail };
-      call = λ m. back_call_at m m.point;
-      after = back_after;
-      turns = back_turns;
+      steered = back_steered;
       part = λ m. back_part m m.point;
       knows = λ m. BackKnows m m.point;
       leaves = BackLeaves;

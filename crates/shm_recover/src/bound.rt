@@ -1,16 +1,11 @@
 //! How many word steps a leaving makes.
 
 ghost use Rattle.std.specs.Prelude.{◌≡◌, ℕ, ◌+◌, ◌*◌, false, true, Ok, Err, List, length};
-ghost use Rattle.shm_graph.specs.declared.ask.Me.{Me as AMe};
-ghost use Rattle.shm_graph.specs.declared.memo.Memo.{Memo as AMemo};
-ghost use Rattle.shm_graph.specs.Asks.{Trail, IsWithin};
-ghost use Rattle.shm_graph.specs.Bounds.{leave_steps};
-ghost use Rattle.shm_count.specs.declared.answer.EraSpent.{EraSpent as ASpent};
-ghost use Rattle.shm_count.specs.Tear.Events.{Visit, frees};
+ghost use Rattle.shm_graph.specs.{declared.{ask.Me.Me as AMe, memo.Memo.Memo as AMemo}, Asks.{Trail, IsWithin}};
+ghost use Rattle.shm_graph.specs.{Bounds.leave_steps, Events.Event as AnEvent};
+ghost use Rattle.shm_count.specs.{declared.answer.EraSpent.EraSpent as ASpent, Tear.Events.{Visit, frees}};
 ghost use Rattle.shm_ref.specs.Lefts.{Stopped};
-ghost use Rattle.shm_graph.specs.Events.{Event as AnEvent};
-ghost use Rattle.shm_recover.specs.Leave.Control.{leaving};
-ghost use Rattle.shm_recover.specs.Leave.{LeaveLeaves};
+ghost use Rattle.shm_recover.specs.Leave.{Control.leaving, LeaveLeaves};
 
 /// A leaving took at most two word steps for each segment, 145, and 164 for each block that it freed or left on the way, in format 2 161
 /// and 180, and three more for each exchange that failed.

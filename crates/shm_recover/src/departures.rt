@@ -3,34 +3,19 @@
 
 ghost use Rattle.std.specs.Prelude.{◌≡◌, ◌≢◌, ℕ, ◌+◌, ◌-◌, ◌%◌, ◌^◌, ◌<◌, ◌≤◌, ◌⊎◌, true, false, Ok, Err, None, List, [], ◌∷◌, ◌++◌, length, slice_index, slice_index_or};
 ghost use Rattle.std.specs.List.{Contains};
-ghost use Rattle.shm_graph.specs.declared.ask.Me.{Me as AMe};
-ghost use Rattle.shm_graph.specs.declared.memo.Memo.{Memo as AMemo};
-ghost use Rattle.shm_graph.specs.declared.memo.Op.TheVariants.{Nothing};
-ghost use Rattle.shm_graph.specs.declared.memo.Status.TheVariants as status;
-ghost use Rattle.shm_graph.specs.declared.spot.Spot.{Spot as ASpot};
-ghost use Rattle.shm_graph.specs.declared.spot.Spot.TheVariants as spot;
-ghost use Rattle.shm_graph.specs.Asks.{IsWithin, Trail};
-ghost use Rattle.shm_graph.specs.Blocks.{IsLive, headers};
-ghost use Rattle.shm_graph.specs.Bounds.{recovery_steps};
-ghost use Rattle.shm_graph.specs.Events.{Event as AnEvent, ChangeDown, Free};
-ghost use Rattle.shm_graph.specs.Held.{HeldAt, IsDying, is_root};
-ghost use Rattle.shm_graph.specs.Reach.{shown};
-ghost use Rattle.shm_graph.specs.Views.{own_word, targets, view};
-ghost use Rattle.shm_count.specs.declared.answer.EraSpent.{EraSpent as ASpent};
-ghost use Rattle.shm_count.specs.Roots.{root_word};
-ghost use Rattle.shm_count.specs.Tear.Events.{Visit, frees};
-ghost use Rattle.shm_count.specs.Tear.Memos.{is_lasting};
-ghost use Rattle.shm_ref.specs.DropRoots.Control.{dropping_roots};
-ghost use Rattle.shm_ref.specs.DropRoots.{RootsLeaves};
-ghost use Rattle.shm_recover.specs.Departures.{LeftOrRecovered, WasSpent};
-ghost use Rattle.shm_recover.specs.Leave.Control.{leaving};
-ghost use Rattle.shm_recover.specs.Leave.{LeaveLeaves};
-ghost use Rattle.shm_recover.specs.Recover.Control.{recovering};
-ghost use Rattle.shm_recover.specs.Recover.Losses.{IsLoss};
-ghost use Rattle.shm_recover.specs.Recover.{RecoverLeaves};
-ghost use Rattle.shm_recover.specs.Scan.Control.{scanning};
-ghost use Rattle.shm_recover.specs.Scan.{IsApart, ScanLeaves};
+ghost use Rattle.shm_graph.specs.declared.{ask.Me.Me as AMe, memo.{Memo.Memo as AMemo, Op.TheVariants.Nothing}};
+ghost use Rattle.shm_graph.specs.{declared.spot.Spot.Spot as ASpot, Asks.{IsWithin, Trail}, Blocks.{IsLive, headers}};
+ghost use Rattle.shm_graph.specs.{Bounds.recovery_steps, Events.{Event as AnEvent, ChangeDown, Free}};
+ghost use Rattle.shm_graph.specs.{Held.{HeldAt, IsDying, is_root}, Reach.shown, Views.{own_word, targets, view}};
 ghost use Rattle.shm_graph.specs.Sound.{IsGone};
+ghost use Rattle.shm_graph.specs.declared.memo.Status.TheVariants as status;
+ghost use Rattle.shm_graph.specs.declared.spot.Spot.TheVariants as spot;
+ghost use Rattle.shm_count.specs.{declared.answer.EraSpent.EraSpent as ASpent, Roots.root_word};
+ghost use Rattle.shm_count.specs.Tear.{Events.{Visit, frees}, Memos.is_lasting};
+ghost use Rattle.shm_ref.specs.DropRoots.{Control.dropping_roots, RootsLeaves};
+ghost use Rattle.shm_recover.specs.{Departures.{LeftOrRecovered, WasSpent}, Leave.{Control.leaving, LeaveLeaves}};
+ghost use Rattle.shm_recover.specs.{Recover.{Control.recovering, Losses.IsLoss, RecoverLeaves}, Scan.Control.scanning};
+ghost use Rattle.shm_recover.specs.Scan.{IsApart, ScanLeaves};
 
 /// In each state that holds once a leaving or a recovery is done the words have nothing of the identity: its status word is 3, no step
 /// of it is in progress, its roots and its hold word are 0, no latch word and no segment word is its number and one, and each

@@ -5,26 +5,14 @@
 
 ghost use Rattle.std.specs.Prelude.{◌≡◌, ◌≢◌, ℕ, ◌+◌, ◌<◌, ◌^◌, ◌⊎◌, [], ◌∷◌, false};
 ghost use Rattle.shm_words.specs.Layout.{GeometryFits};
-ghost use Rattle.shm_graph.specs.declared.ask.Me.{Me as AMe};
-ghost use Rattle.shm_graph.specs.declared.memo.Kind.TheVariants.{Recoverer};
-ghost use Rattle.shm_graph.specs.declared.memo.Memo.{Memo as AMemo};
-ghost use Rattle.shm_graph.specs.declared.spot.Spot.{Spot as ASpot};
-ghost use Rattle.shm_graph.specs.Agents.{entered};
-ghost use Rattle.shm_graph.specs.Asks.{Trail, IsWithin};
-ghost use Rattle.shm_graph.specs.Bounds.{redo_steps};
-ghost use Rattle.shm_graph.specs.Events.{ChangeDown};
-ghost use Rattle.shm_graph.specs.Held.{is_loose};
+ghost use Rattle.shm_graph.specs.declared.{ask.Me.Me as AMe, memo.{Kind.TheVariants.Recoverer, Memo.Memo as AMemo}};
+ghost use Rattle.shm_graph.specs.{declared.spot.Spot.Spot as ASpot, Agents.entered, Asks.{Trail, IsWithin}};
+ghost use Rattle.shm_graph.specs.{Bounds.redo_steps, Events.ChangeDown, Held.is_loose, Ops.held_over_of, Tells.Tells};
 ghost use Rattle.shm_steps.specs.Reparting.{map_in};
-ghost use Rattle.shm_graph.specs.Ops.{held_over_of};
-ghost use Rattle.shm_graph.specs.Tells.{Tells};
-ghost use Rattle.shm_calls.specs.CallsControl.{calls_does};
-ghost use Rattle.shm_calls.specs.CallsFit.{CallsFits};
-ghost use Rattle.shm_calls.specs.Plans.{plan_trail};
-ghost use Rattle.shm_recover.specs.Mend.Control as control;
-ghost use Rattle.shm_recover.specs.Mend.Control.{mend_parts, mending};
-ghost use Rattle.shm_recover.specs.Mend.{IsMended, MayMend, mend_plan};
-ghost use Rattle.shm_recover.specs.Mend.Laws.{mend_laws};
+ghost use Rattle.shm_calls.specs.{CallsControl.calls_does, CallsFit.CallsFits, Plans.plan_trail};
+ghost use Rattle.shm_recover.specs.Mend.{Control.{mend_parts, mending}, IsMended, MayMend, mend_plan, Laws.mend_laws};
 ghost use Rattle.shm_recover.specs.Mend.Machines.{mend, MendFits, MendGives, mend_told};
+ghost use Rattle.shm_recover.specs.Mend.Control as control;
 
 use crate::mend_lower::MendLower;
 use crate::mend_unlatch::MendUnlatch;

@@ -3,10 +3,8 @@
 ghost use Rattle.std.specs.Prelude.{◌≡◌, ◌+◌, ◌<◌, ◌^◌};
 ghost use Rattle.shm_words.specs.Layout.{GeometryFits};
 ghost use Rattle.shm_count.specs.Step.Control as step;
+ghost use Rattle.shm_recover.specs.MendLower.{Control.lowering, lowering_plan, Laws.lowering_laws};
 ghost use Rattle.shm_recover.specs.MendLower.Control as control;
-ghost use Rattle.shm_recover.specs.MendLower.Control.{lowering};
-ghost use Rattle.shm_recover.specs.MendLower.{lowering_plan};
-ghost use Rattle.shm_recover.specs.MendLower.Laws.{lowering_laws};
 
 use shm_calls::{Plan, Word};
 use shm_graph::{Machine, Me};

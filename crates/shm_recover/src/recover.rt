@@ -2,14 +2,9 @@
 
 ghost use Rattle.std.specs.Prelude.{◌≡◌, ◌<◌, [], ◌∷◌};
 ghost use Rattle.shm_words.specs.Layout.{GeometryFits};
-ghost use Rattle.shm_recover.specs.Recover.Control.{queues_next, recovering};
-ghost use Rattle.shm_recover.specs.Recover.{recover_plan};
-ghost use Rattle.shm_recover.specs.Recover.Laws.{recover_laws};
-ghost use Rattle.shm_recover.specs.FinishTakes.Laws.{finish_laws};
-ghost use Rattle.shm_recover.specs.GiveUp.Laws.{give_laws};
-ghost use Rattle.shm_recover.specs.Mend.Laws.{mend_laws};
-ghost use Rattle.shm_recover.specs.Scan.Laws.{scan_laws};
-ghost use Rattle.shm_recover.specs.TakeBack.Laws.{back_laws};
+ghost use Rattle.shm_recover.specs.Recover.{Control.{queues_next, recovering, recover_steered}, recover_plan};
+ghost use Rattle.shm_recover.specs.{Recover.Laws.recover_laws, FinishTakes.Laws.finish_laws, GiveUp.Laws.give_laws};
+ghost use Rattle.shm_recover.specs.{Mend.Laws.mend_laws, Scan.Laws.scan_laws, TakeBack.Laws.back_laws};
 ghost use Rattle.shm_ref.specs.DropRoots.Laws.{roots_laws};
 
 use crate::finish_takes::FinishTakes;
@@ -75,7 +70,7 @@ impl Recover {
         requires geometry { GeometryFits me.geometry }
         requires who { me.who < me.geometry.clients }
         ensures state { result ≡ recovering me }
-        ensures line { recover_plan.line result ≡ 114 ∷ 101 ∷ 99 ∷ 111 ∷ 118 ∷ 101 ∷ 114 ∷ [] }
+        ensures line { recover_steered.line result ≡ 114 ∷ 101 ∷ 99 ∷ 111 ∷ 118 ∷ 101 ∷ 114 ∷ [] }
     {
         Recover {
             state: RecoverState {

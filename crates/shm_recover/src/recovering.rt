@@ -1,27 +1,14 @@
 //! When a recovery may begin, what it leaves, and how many word steps the machines that it is made of take.
 
 ghost use Rattle.std.specs.Prelude.{◌≡◌, ℕ, ◌+◌, ◌*◌, ◌-◌, ◌<◌, false, true, Ok, Err, [], List, length};
-ghost use Rattle.shm_graph.specs.declared.ask.Me.{Me as AMe};
-ghost use Rattle.shm_graph.specs.declared.memo.Memo.{Memo as AMemo};
-ghost use Rattle.shm_graph.specs.Asks.{Trail, IsWithin};
-ghost use Rattle.shm_graph.specs.declared.spot.Spot.{Spot as ASpot};
-ghost use Rattle.shm_graph.specs.Bounds.{recovery_steps, redo_steps, tear_steps};
-ghost use Rattle.shm_graph.specs.Held.{HeldAt};
-ghost use Rattle.shm_graph.specs.Sound.{IsGone};
-ghost use Rattle.shm_graph.specs.Views.{view};
-ghost use Rattle.shm_count.specs.declared.answer.EraSpent.{EraSpent as ASpent};
-ghost use Rattle.shm_count.specs.Tear.Events.{Visit, frees};
-ghost use Rattle.shm_recover.specs.FinishTakes.{FinishDone};
-ghost use Rattle.shm_recover.specs.GiveUp.{GivenUp};
-ghost use Rattle.shm_recover.specs.Machines.Recovering.{RecoverFits};
-ghost use Rattle.shm_recover.specs.Mend.{MayMend};
-ghost use Rattle.shm_recover.specs.Recover.Control.{recovering};
-ghost use Rattle.shm_recover.specs.Recover.{RecoverLeaves, RecoverStopped};
-ghost use Rattle.shm_recover.specs.Scan.Control.{scanning};
-ghost use Rattle.shm_recover.specs.Scan.{ScanLeaves};
-ghost use Rattle.shm_recover.specs.TakeBack.Control.{taking_back};
+ghost use Rattle.shm_graph.specs.declared.{ask.Me.Me as AMe, memo.Memo.Memo as AMemo, spot.Spot.Spot as ASpot};
+ghost use Rattle.shm_graph.specs.{Asks.{Trail, IsWithin}, Bounds.{recovery_steps, redo_steps, tear_steps}, Held.HeldAt};
+ghost use Rattle.shm_graph.specs.{Sound.IsGone, Views.view, Events.Event as AnEvent};
+ghost use Rattle.shm_count.specs.{declared.answer.EraSpent.EraSpent as ASpent, Tear.Events.{Visit, frees}};
+ghost use Rattle.shm_recover.specs.{FinishTakes.FinishDone, GiveUp.GivenUp, Machines.Recovering.RecoverFits};
+ghost use Rattle.shm_recover.specs.{Mend.MayMend, Recover.{Control.recovering, RecoverLeaves, RecoverStopped}};
+ghost use Rattle.shm_recover.specs.{Scan.{Control.scanning, ScanLeaves}, TakeBack.Control.taking_back};
 ghost use Rattle.shm_recover.specs.TakeBack.{BackLeaves, BackStopped};
-ghost use Rattle.shm_graph.specs.Events.{Event as AnEvent};
 
 /// It took at most 11 word steps for each other client, 164 for each block that it freed or left on the way, in format 2 12 and 180, and
 /// three more for each exchange that failed.

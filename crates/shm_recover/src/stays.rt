@@ -1,20 +1,14 @@
 //! What stays on the way of a recovery and of a leaving, so that who comes after one that died in the middle finds it.
 
 ghost use Rattle.std.specs.Prelude.{◌≡◌, false, Result};
-ghost use Rattle.shm_graph.specs.declared.memo.Memo.{Memo as AMemo};
-ghost use Rattle.shm_graph.specs.Asks.{Trail};
-ghost use Rattle.shm_calls.specs.declared.calls.Calls.{Calls as ACalls};
-ghost use Rattle.shm_calls.specs.CallsFit.{CallsFits};
-ghost use Rattle.shm_count.specs.declared.answer.EraSpent.{EraSpent as ASpent};
-ghost use Rattle.shm_count.specs.Steady.{SameTable};
+ghost use Rattle.shm_graph.specs.{declared.memo.Memo.Memo as AMemo, Asks.Trail};
+ghost use Rattle.shm_calls.specs.{declared.calls.Calls.Calls as ACalls, CallsFit.CallsFits};
+ghost use Rattle.shm_count.specs.{declared.answer.EraSpent.EraSpent as ASpent, Steady.SameTable};
 ghost use Rattle.shm_recover.specs.declared.leave.LeaveState.{LeaveState as ALeaveState};
 ghost use Rattle.shm_recover.specs.declared.recover.RecoverState.{RecoverState as ARecoverState};
-ghost use Rattle.shm_recover.specs.Leave.Control.{LeaveAnswer, LeaveCall, leave_parts};
-ghost use Rattle.shm_recover.specs.Leave.{leave_plan};
-ghost use Rattle.shm_recover.specs.Machines.Recovering.{recover};
-ghost use Rattle.shm_recover.specs.Machines.{leave};
-ghost use Rattle.shm_recover.specs.Recover.Control.{RecoverAnswer, RecoverCall, recover_parts};
-ghost use Rattle.shm_recover.specs.Recover.{recover_plan};
+ghost use Rattle.shm_recover.specs.Leave.{Control.{LeaveAnswer, LeaveCall, leave_parts}, leave_plan};
+ghost use Rattle.shm_recover.specs.Machines.{Recovering.recover, leave};
+ghost use Rattle.shm_recover.specs.Recover.{Control.{RecoverAnswer, RecoverCall, recover_parts}, recover_plan};
 
 /// While a recovery runs, and while a client leaves, the map of its table is what it was at the beginning, and whether the pool is for tables too.
 /// A machine that has answered tells by its answer what it left.

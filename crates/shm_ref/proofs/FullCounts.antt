@@ -1,30 +1,21 @@
 -- a home or a reference word that isn't set because a count is full: a header that was read shows it
 use Rattle.std.proofs.Common.{◌≡◌, ℕ, ◌+◌, Bool, true, false}
 use Rattle.std.specs.Prelude.{◌==◌, ◌%◌, nat_le, if◌then◌else◌, Option, Some, None, Result, Ok, Err}
-use Rattle.shm_words.specs.Layout.{address_limit}
-use Rattle.shm_words.specs.Tags.{tag_author, tag_refs}
+use Rattle.shm_words.specs.{Layout.address_limit, Tags.{tag_author, tag_refs}}
 use Rattle.shm_graph.specs.Asks.{Trail}
-use Rattle.shm_calls.specs.declared.or.Or.TheVariants.{First, Second}
-use Rattle.shm_calls.specs.Plans.{plan_trail}
-use Rattle.shm_count.specs.declared.answer.UpFault.TheVariants.{CountFull, EraSpent}
-use Rattle.shm_count.specs.declared.point.Aim.TheVariants as aims
-use Rattle.shm_count.specs.Refusing.{ReadsCount}
+use Rattle.shm_calls.specs.{declared.or.Or.TheVariants.{First, Second}, Plans.plan_trail}
+use Rattle.shm_count.specs.{declared.answer.UpFault.TheVariants.{CountFull, EraSpent}, Refusing.ReadsCount}
 use Rattle.shm_count.specs.Step.Refusing.{step_reads}
+use Rattle.shm_count.specs.declared.point.Aim.TheVariants as aims
 use Rattle.shm_count.proofs.LastCalls.{count_read, reads_same}
-use Rattle.shm_ref.specs.declared.answer.HomeFault.{HomeFault}
+use Rattle.shm_ref.specs.declared.{answer.{HomeFault.HomeFault, SetFault.SetFault}, set_home.HomePoint.HomePoint}
+use Rattle.shm_ref.specs.declared.{set_home.HomeState.HomeState, set_ref.{SetPoint.SetPoint, SetState.SetState}}
+use Rattle.shm_ref.specs.{HomeParts.home_address, SetHome.{HomeAnswer, home_call_at, home_plan, home_turns}}
+use Rattle.shm_ref.specs.SetRef.{Control.{SetAnswer, lowered_turns, set_call_at, set_turns}, set_plan}
 use Rattle.shm_ref.specs.declared.answer.HomeFault.TheVariants as home
-use Rattle.shm_ref.specs.declared.answer.SetFault.{SetFault}
 use Rattle.shm_ref.specs.declared.answer.SetFault.TheVariants as set
-use Rattle.shm_ref.specs.declared.set_home.HomePoint.{HomePoint}
 use Rattle.shm_ref.specs.declared.set_home.HomePoint.TheVariants as homing
-use Rattle.shm_ref.specs.declared.set_home.HomeState.{HomeState}
-use Rattle.shm_ref.specs.declared.set_ref.SetPoint.{SetPoint}
 use Rattle.shm_ref.specs.declared.set_ref.SetPoint.TheVariants as setting
-use Rattle.shm_ref.specs.declared.set_ref.SetState.{SetState}
-use Rattle.shm_ref.specs.HomeParts.{home_address}
-use Rattle.shm_ref.specs.SetHome.{HomeAnswer, home_call_at, home_plan, home_turns}
-use Rattle.shm_ref.specs.SetRef.Control.{SetAnswer, lowered_turns, set_call_at, set_turns}
-use Rattle.shm_ref.specs.SetRef.{set_plan}
 
 -- the own home
 module _ (d n : ℕ) where

@@ -1,27 +1,15 @@
 -- what stays where the own home is set
 use Rattle.std.proofs.Common.{◌≡◌, ℕ, ◌&&◌, ◌==◌, refl, ap, ◌∙◌, not, List, [], ◌∷◌, ◌++◌, Result}
-use Rattle.std.specs.Prelude.{Ok, Err, IfOk, IfErr}
 use Rattle.std.proofs.lemmas.Bool.{cond-true}
-use Rattle.shm_graph.specs.declared.memo.Memo.{Memo}
-use Rattle.shm_graph.specs.declared.spot.Spot.TheVariants.{Home, Root}
-use Rattle.shm_graph.specs.Asks.{Trail}
-use Rattle.shm_graph.specs.Core.{core}
-use Rattle.shm_graph.specs.Events.{Event}
-use Rattle.shm_graph.specs.Held.{is_loose}
-use Rattle.shm_graph.specs.Idle.{IsIdle}
-use Rattle.shm_graph.specs.MemoAfterRead.{home_read, is_held}
+use Rattle.std.specs.Prelude.{Ok, Err, IfOk, IfErr}
+use Rattle.shm_graph.specs.{declared.{memo.Memo.Memo, spot.Spot.TheVariants.{Home, Root}}, Asks.Trail, Core.core}
+use Rattle.shm_graph.specs.{Events.Event, Held.is_loose, Idle.IsIdle, MemoAfterRead.{home_read, is_held}}
 use Rattle.shm_graph.specs.Views.{own_word}
-use Rattle.shm_graph.proofs.Spots.Spotting.{same_spot_self}
-use Rattle.shm_graph.proofs.StepKinds.Loads.{choice}
-use Rattle.shm_count.specs.Roots.{AreRootsReached, root_word}
-use Rattle.shm_count.specs.Slots.{Filled, Untouched}
-use Rattle.shm_count.proofs.RootSpots.{roots_reached}
-use Rattle.shm_count.proofs.Waiting.{loose_after}
-use Rattle.shm_ref.specs.declared.answer.HomeFault.{HomeFault}
-use Rattle.shm_ref.specs.declared.answer.HomeFault.TheVariants.{CountFull, EraSpent, HomeSet}
-use Rattle.shm_ref.specs.declared.set_home.HomeState.{HomeState}
-use Rattle.shm_ref.specs.RootTasks.{home_rests}
-use Rattle.shm_ref.specs.SetHome.{HomeLeaves}
+use Rattle.shm_graph.proofs.{Spots.Spotting.same_spot_self, StepKinds.Loads.choice}
+use Rattle.shm_count.specs.{Roots.{AreRootsReached, root_word}, Slots.{Filled, Untouched}}
+use Rattle.shm_count.proofs.{RootSpots.roots_reached, Waiting.loose_after}
+use Rattle.shm_ref.specs.declared.answer.HomeFault.{HomeFault, TheVariants.{CountFull, EraSpent, HomeSet}}
+use Rattle.shm_ref.specs.{declared.set_home.HomeState.HomeState, RootTasks.home_rests, SetHome.HomeLeaves}
 
 -- what is left of the memo, whatever is answered; the home is h
 pub record HomeLasts (c h : ℕ) (m r : Memo) : Type 0 where

@@ -1,22 +1,11 @@
 -- what stays where a latch is taken or given back
 use Rattle.std.proofs.Common.{◌≡◌, ℕ, ◌+◌, refl, ap, ◌∙◌, List, Result}
 use Rattle.std.specs.Prelude.{Ok, Err, None, Some, IfOk, IfErr}
-use Rattle.shm_graph.specs.declared.ask.Me.{Me}
-use Rattle.shm_graph.specs.declared.memo.Memo.{Memo}
-use Rattle.shm_graph.specs.declared.spot.Spot.TheVariants.{Root}
-use Rattle.shm_graph.specs.Asks.{Trail}
-use Rattle.shm_graph.specs.Events.{Event}
-use Rattle.shm_graph.specs.Held.{is_loose}
-use Rattle.shm_graph.specs.Idle.{IsIdle}
-use Rattle.shm_graph.specs.Reach.{is_reached, unlatched}
-use Rattle.shm_graph.specs.Views.{own_word}
-use Rattle.shm_count.specs.Roots.{AreRootsReached, root_word}
-use Rattle.shm_count.specs.Waiting.{LeavesWaiting}
-use Rattle.shm_count.proofs.RootSpots.{roots_reached}
-use Rattle.shm_count.proofs.Waiting.{waits_by}
-use Rattle.shm_ref.specs.declared.answer.Busy.{Busy}
-use Rattle.shm_ref.specs.declared.hold.HoldState.{HoldState}
-use Rattle.shm_ref.specs.Hold.{HoldLeaves, wants}
+use Rattle.shm_graph.specs.{declared.{ask.Me.Me, memo.Memo.Memo, spot.Spot.TheVariants.Root}, Asks.Trail, Events.Event}
+use Rattle.shm_graph.specs.{Held.is_loose, Idle.IsIdle, Reach.{is_reached, unlatched}, Views.own_word}
+use Rattle.shm_count.specs.{Roots.{AreRootsReached, root_word}, Waiting.LeavesWaiting}
+use Rattle.shm_count.proofs.{RootSpots.roots_reached, Waiting.waits_by}
+use Rattle.shm_ref.specs.{declared.{answer.Busy.Busy, hold.HoldState.HoldState}, Hold.{HoldLeaves, wants}}
 use Rattle.shm_ref.specs.Release.{Released}
 
 -- ---- a latch is asked for

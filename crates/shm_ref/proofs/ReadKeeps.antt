@@ -1,26 +1,15 @@
 -- what stays where homes, reference words and plain words are read
 use Rattle.std.proofs.Common.{◌≡◌, ◌≢◌, ℕ, ◌==◌, refl, ap, ◌∙◌, true, List, [], ◌∷◌, ◌++◌, Result}
 use Rattle.std.specs.Prelude.{Ok, Err, Some, IfOk, IfErr}
-use Rattle.shm_graph.specs.declared.memo.Memo.{Memo}
-use Rattle.shm_graph.specs.declared.spot.Spot.TheVariants.{Body, Home}
-use Rattle.shm_graph.specs.Asks.{Trail}
-use Rattle.shm_graph.specs.Events.{Event}
-use Rattle.shm_graph.specs.Held.{is_loose}
-use Rattle.shm_graph.specs.Idle.{IsIdle, hold_word}
-use Rattle.shm_graph.specs.Reach.{is_reached, learnt}
+use Rattle.shm_graph.specs.{declared.{memo.Memo.Memo, spot.Spot.TheVariants.{Body, Home}}, Asks.Trail, Events.Event}
+use Rattle.shm_graph.specs.{Held.is_loose, Idle.{IsIdle, hold_word}, Reach.{is_reached, learnt}}
 use Rattle.shm_graph.specs.MemoAfterRead.{values_read}
 use Rattle.shm_graph.proofs.StepKinds.Loads.{choice}
-use Rattle.shm_ref.specs.declared.answer.LookFault.{LookFault}
-use Rattle.shm_ref.specs.declared.answer.LookFault.TheVariants.{NoSuchRef, NotHeld}
-use Rattle.shm_ref.specs.declared.answer.NoSuchWord.{NoSuchWord}
-use Rattle.shm_ref.specs.declared.answer.NotHeld.{NotHeld as Unheld}
-use Rattle.shm_ref.specs.declared.home_of.HomeOfState.{HomeOfState}
-use Rattle.shm_ref.specs.declared.look.LookState.{LookState}
-use Rattle.shm_ref.specs.declared.read.ReadState.{ReadState}
-use Rattle.shm_ref.specs.HomeOf.{HomeLeaves}
-use Rattle.shm_ref.specs.Look.{LookLeaves}
-use Rattle.shm_ref.specs.OnlyRead.{home_reads, look_reads, read_reads, still_reached}
-use Rattle.shm_ref.specs.Read.{ReadLeaves}
+use Rattle.shm_ref.specs.declared.answer.LookFault.{LookFault, TheVariants.{NoSuchRef, NotHeld}}
+use Rattle.shm_ref.specs.declared.answer.{NoSuchWord.NoSuchWord, NotHeld.NotHeld as Unheld}
+use Rattle.shm_ref.specs.declared.{home_of.HomeOfState.HomeOfState, look.LookState.LookState, read.ReadState.ReadState}
+use Rattle.shm_ref.specs.{HomeOf.HomeLeaves, Look.LookLeaves}
+use Rattle.shm_ref.specs.{OnlyRead.{home_reads, look_reads, read_reads, still_reached}, Read.ReadLeaves}
 use Rattle.shm_ref.specs.ReadParts.{tagged}
 
 -- ---- a home

@@ -1,25 +1,14 @@
 -- what refused drops of roots leave
 use Rattle.std.proofs.Common.{◌≡◌, ◌≢◌, ℕ, ◌+◌, ◌*◌, ◌<◌, refl, sym, ap, ◌∙◌, subst, arith, false, List, [], ◌∷◌, length, inl, inr}
+use Rattle.std.proofs.lemmas.Bool.{ne_eqb, Decides.nat_tests}
 use Rattle.std.specs.Prelude.{◌==◌, ◌⊎◌, nat_lt}
-use Rattle.std.proofs.lemmas.Bool.{ne_eqb}
-use Rattle.std.proofs.lemmas.Bool.Decides.{nat_tests}
-use Rattle.shm_graph.specs.declared.ask.Me.{Me}
-use Rattle.shm_graph.specs.declared.memo.Memo.{Memo}
-use Rattle.shm_graph.specs.declared.spot.Spot.TheVariants.{Era, Root}
-use Rattle.shm_graph.specs.Asks.{IsWithin, Trail}
-use Rattle.shm_graph.specs.Bounds.{redo_steps, tear_steps}
+use Rattle.shm_graph.specs.declared.{ask.Me.Me, memo.Memo.Memo, spot.Spot.TheVariants.{Era, Root}}
+use Rattle.shm_graph.specs.{Asks.{IsWithin, Trail}, Bounds.{redo_steps, tear_steps}, Events.Event, Views.own_word}
 use Rattle.shm_graph.specs.Events as event
-use Rattle.shm_graph.specs.Events.{Event}
-use Rattle.shm_graph.specs.Views.{own_word}
 use Rattle.shm_calls.specs.CallTells.{within_more}
-use Rattle.shm_count.specs.Roots.{root_word}
-use Rattle.shm_count.specs.Slots.{Untouched}
-use Rattle.shm_count.specs.Tear.Events.{Visit, Walks, frees}
-use Rattle.shm_ref.specs.Costs.{drops_more, tear_sum}
-use Rattle.shm_ref.specs.DropRoot.{DropSpent}
-use Rattle.shm_ref.specs.DropRoot.DropSpent.{AtStep, AtTear}
-use Rattle.shm_ref.specs.DropRoots.{RefusedAt}
-use Rattle.shm_ref.specs.Leaving.{frees-append, left_empty, left_root, root_took}
+use Rattle.shm_count.specs.{Roots.root_word, Slots.Untouched, Tear.Events.{Visit, Walks, frees}}
+use Rattle.shm_ref.specs.{Costs.{drops_more, tear_sum}, DropRoot.{DropSpent, DropSpent.{AtStep, AtTear}}}
+use Rattle.shm_ref.specs.{DropRoots.RefusedAt, Leaving.{frees-append, left_empty, left_root, root_took}}
 
 -- ---- one root
 

@@ -1,28 +1,14 @@
 -- what stays where a block is shared, or a root dropped
-use Rattle.std.proofs.Common.{◌≡◌, ◌≢◌, ℕ, ◌<◌, ◌==◌, Bool, not, sym, ap, ◌∙◌, List, Result}
+use Rattle.std.proofs.{Common.{◌≡◌, ◌≢◌, ℕ, ◌<◌, ◌==◌, Bool, not, sym, ap, ◌∙◌, List, Result}, lemmas.Bool.ne_eqb}
 use Rattle.std.specs.Prelude.{Ok, Err, IfOk, slice_index}
-use Rattle.std.proofs.lemmas.Bool.{ne_eqb}
-use Rattle.shm_graph.specs.declared.ask.Me.{Me}
-use Rattle.shm_graph.specs.declared.memo.Memo.{Memo}
-use Rattle.shm_graph.specs.declared.spot.Spot.TheVariants.{Root}
-use Rattle.shm_graph.specs.Asks.{Trail}
-use Rattle.shm_graph.specs.Events.{Event}
-use Rattle.shm_graph.specs.Held.{is_loose}
-use Rattle.shm_graph.specs.Idle.{IsIdle}
-use Rattle.shm_count.specs.declared.answer.EraSpent.{EraSpent as Spent}
-use Rattle.shm_count.specs.declared.answer.ShareFault.{ShareFault}
+use Rattle.shm_graph.specs.{declared.{ask.Me.Me, memo.Memo.Memo, spot.Spot.TheVariants.Root}, Asks.Trail, Events.Event}
+use Rattle.shm_graph.specs.{Held.is_loose, Idle.IsIdle}
+use Rattle.shm_count.specs.declared.answer.{EraSpent.EraSpent as Spent, ShareFault.ShareFault}
 use Rattle.shm_count.specs.declared.answer.ShareFault.TheVariants.{EraSpent, RootsFull, CountFull}
-use Rattle.shm_count.specs.Roots.{AreRootsReached, root_word}
-use Rattle.shm_count.specs.ShareTask.{share_rests}
-use Rattle.shm_count.specs.UpRoot.{UpRootLeaves}
-use Rattle.shm_count.specs.UpRoot.AsPart.{rooted_root}
-use Rattle.shm_count.specs.Waiting.{LeavesQueues}
-use Rattle.shm_count.proofs.RootSpots.{roots_reached}
-use Rattle.shm_count.proofs.Waiting.{loose_after, own_queues, same_queues}
-use Rattle.shm_ref.specs.declared.drop_root.DropState.{DropState}
-use Rattle.shm_ref.specs.DropRoot.{DropLeaves}
-use Rattle.shm_ref.specs.Leaving.{left_root}
-use Rattle.shm_ref.specs.Lefts.{Left}
+use Rattle.shm_count.specs.{Roots.{AreRootsReached, root_word}, ShareTask.share_rests, UpRoot.UpRootLeaves}
+use Rattle.shm_count.specs.{UpRoot.AsPart.rooted_root, Waiting.LeavesQueues}
+use Rattle.shm_count.proofs.{RootSpots.roots_reached, Waiting.{loose_after, own_queues, same_queues}}
+use Rattle.shm_ref.specs.{declared.drop_root.DropState.DropState, DropRoot.DropLeaves, Leaving.left_root, Lefts.Left}
 use Rattle.shm_ref.specs.RootTasks.{drop_left}
 
 -- ---- a share

@@ -1,26 +1,13 @@
 -- what a count step at an own root says of the roots of its identity, and what stays
 use Rattle.std.proofs.Common.{◌≡◌, ◌≢◌, ℕ, Bool, true, false, cond, eqb, ◌&&◌, is_ok, refl, sym, ap, ◌∙◌, subst, List, [], ◌∷◌, ◌++◌, Result}
-use Rattle.std.specs.Prelude.{if◌then◌else◌, Ok, Err, IfErr, IfOk, slice_index}
-use Rattle.std.specs.List.{Contains}
-use Rattle.std.proofs.lemmas.Bool.{cond-false, cond-true, eq-eqb, ne_eqb}
-use Rattle.std.proofs.lemmas.List.Elements.{Contains-push}
-use Rattle.shm_graph.specs.declared.ask.Me.{Me}
-use Rattle.shm_graph.specs.declared.memo.Memo.{Memo}
-use Rattle.shm_graph.specs.declared.spot.Spot.{Spot}
-use Rattle.shm_graph.specs.declared.spot.Spot.TheVariants.{Root}
-use Rattle.shm_graph.specs.Events.{Event}
-use Rattle.shm_graph.specs.Held.{is_loose}
-use Rattle.shm_graph.specs.Idle.{IsIdle}
-use Rattle.shm_count.specs.declared.answer.UpFault.{UpFault}
-use Rattle.shm_count.specs.declared.point.Aim.{Aim}
-use Rattle.shm_count.specs.declared.point.Aim.TheVariants.{Up, Down, Change}
-use Rattle.shm_count.specs.Idles.{step_idle}
-use Rattle.shm_count.specs.Roots.{AreRootsReached, root_word}
-use Rattle.shm_count.specs.Slots.{Lost, StepDid}
-use Rattle.shm_count.specs.Step.Control.{value_after}
-use Rattle.shm_count.specs.Waiting.{LeavesQueues}
-use Rattle.shm_count.proofs.RootSpots.{roots_reached}
-use Rattle.shm_count.proofs.Waiting.{loose_after, own_queues}
+use Rattle.std.proofs.lemmas.{Bool.{cond-false, cond-true, eq-eqb, ne_eqb}, List.Elements.Contains-push}
+use Rattle.std.specs.{Prelude.{if◌then◌else◌, Ok, Err, IfErr, IfOk, slice_index}, List.Contains}
+use Rattle.shm_graph.specs.{declared.{ask.Me.Me, memo.Memo.Memo, spot.Spot.{Spot, TheVariants.Root}}, Events.Event}
+use Rattle.shm_graph.specs.{Held.is_loose, Idle.IsIdle}
+use Rattle.shm_count.specs.declared.{answer.UpFault.UpFault, point.Aim.{Aim, TheVariants.{Up, Down, Change}}}
+use Rattle.shm_count.specs.{Idles.step_idle, Roots.{AreRootsReached, root_word}, Slots.{Lost, StepDid}}
+use Rattle.shm_count.specs.{Step.Control.value_after, Waiting.LeavesQueues}
+use Rattle.shm_count.proofs.{RootSpots.roots_reached, Waiting.{loose_after, own_queues}}
 
 -- ---- the roots
 

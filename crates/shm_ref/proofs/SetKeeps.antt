@@ -1,39 +1,21 @@
 -- what stays where a reference word of an own block is set
 use Rattle.std.proofs.Common.{◌≡◌, ℕ, zero, suc, ◌+◌, ◌-◌, ◌^◌, ◌<◌, ◌≤◌, refl, sym, ap, ◌∙◌, subst, arith, true, false, eqb, List, [], ◌∷◌, ◌++◌, append-nil, Result}
-use Rattle.std.specs.Prelude.{Some, Ok, Err, IfOk, IfErr, slice_index}
-use Rattle.std.specs.List.{Contains}
 use Rattle.std.proofs.lemmas.Bool.{eq-eqb, true≢false}
-use Rattle.shm_graph.specs.declared.ask.Me.{Me}
-use Rattle.shm_graph.specs.declared.memo.Look.{Look}
-use Rattle.shm_graph.specs.declared.memo.Memo.{Memo}
-use Rattle.shm_graph.specs.declared.memo.Stored.{Stored}
-use Rattle.shm_graph.specs.declared.spot.Spot.TheVariants.{Body, Root, Tag}
-use Rattle.shm_graph.specs.Asks.{Trail}
-use Rattle.shm_graph.specs.Core.{core}
-use Rattle.shm_graph.specs.Events.{Event}
-use Rattle.shm_graph.specs.Held.{is_loose}
-use Rattle.shm_graph.specs.Idle.{IsIdle, hold_word}
-use Rattle.shm_graph.specs.Reach.{is_named, is_reached, learnt}
+use Rattle.std.specs.{Prelude.{Some, Ok, Err, IfOk, IfErr, slice_index}, List.Contains}
+use Rattle.shm_graph.specs.declared.{ask.Me.Me, memo.{Look.Look, Memo.Memo, Stored.Stored}}
+use Rattle.shm_graph.specs.{declared.spot.Spot.TheVariants.{Body, Root, Tag}, Asks.Trail, Core.core, Events.Event}
+use Rattle.shm_graph.specs.{Held.is_loose, Idle.{IsIdle, hold_word}, Reach.{is_named, is_reached, learnt}}
 use Rattle.shm_graph.specs.MemoAfterRead.{values_read}
 use Rattle.shm_graph.proofs.StepKinds.Loads.{choice}
-use Rattle.shm_count.specs.Roots.{AreRootsReached, root_word}
-use Rattle.shm_count.specs.Slots.{Filled, Took, Untouched}
-use Rattle.shm_count.specs.Step.Control.{last_era}
-use Rattle.shm_count.specs.Tear.Events.{Visit}
-use Rattle.shm_count.specs.Tear.Memos.{Knows}
-use Rattle.shm_count.specs.Waiting.{LeavesQueues}
-use Rattle.shm_count.proofs.RootSpots.{roots_reached}
-use Rattle.shm_count.proofs.Waiting.{loose_after, own_queues, queues_then, same_queues}
-use Rattle.shm_ref.specs.declared.answer.SetFault.{SetFault}
-use Rattle.shm_ref.specs.declared.answer.SetFault.TheVariants as fault
-use Rattle.shm_ref.specs.declared.set_ref.SetState.{SetState}
-use Rattle.shm_ref.specs.ReadParts.{latch_by}
-use Rattle.shm_ref.specs.RootTasks.{set_rests}
-use Rattle.shm_ref.specs.SetRef.{SetDid, SetLeaves, SetSpent, SetStays, aim_of}
-use Rattle.shm_ref.specs.SetRef.SetDid.{Kept, Raised, Taken}
-use Rattle.shm_ref.specs.SetRef.SetSpent.{AtStep, AtTear}
+use Rattle.shm_count.specs.{Roots.{AreRootsReached, root_word}, Slots.{Filled, Took, Untouched}, Step.Control.last_era}
+use Rattle.shm_count.specs.{Tear.{Events.Visit, Memos.Knows}, Waiting.LeavesQueues}
+use Rattle.shm_count.proofs.{RootSpots.roots_reached, Waiting.{loose_after, own_queues, queues_then, same_queues}}
+use Rattle.shm_ref.specs.{declared.{answer.SetFault.SetFault, set_ref.SetState.SetState}, ReadParts.latch_by}
+use Rattle.shm_ref.specs.{RootTasks.set_rests, SetRef.{SetDid, SetLeaves, SetSpent, SetStays, aim_of}}
+use Rattle.shm_ref.specs.SetRef.{SetDid.{Kept, Raised, Taken}, SetSpent.{AtStep, AtTear}}
 use Rattle.shm_ref.specs.SetRef.Memos.{seen_dying, seen_word, tag_reached, tag_seen, word_seen}
 use Rattle.shm_ref.specs.SetRef.Told.{Reaches, SetTold}
+use Rattle.shm_ref.specs.declared.answer.SetFault.TheVariants as fault
 
 -- ---- what stays, whatever is answered
 

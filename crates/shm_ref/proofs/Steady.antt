@@ -1,32 +1,19 @@
 -- a drop of roots leaves the map of the table as it was, at each point on its way
 use Rattle.std.proofs.Common.{true, false, ap, List}
-use Rattle.shm_words.specs.declared.place.Place.TheVariants as place
 use Rattle.shm_words.specs.Layout.{address}
-use Rattle.shm_graph.specs.declared.ask.Ask.TheVariants.{Load as LoadWord}
-use Rattle.shm_graph.specs.declared.spot.Spot.TheVariants.{Root}
-use Rattle.shm_graph.specs.declared.memo.Memo.{Memo}
-use Rattle.shm_graph.specs.Asks.{Trail}
-use Rattle.shm_graph.specs.Events.{Event}
+use Rattle.shm_words.specs.declared.place.Place.TheVariants as place
+use Rattle.shm_graph.specs.declared.{ask.Ask.TheVariants.Load as LoadWord, spot.Spot.TheVariants.Root, memo.Memo.Memo}
+use Rattle.shm_graph.specs.{Asks.Trail, Events.Event}
 use Rattle.shm_steps.specs.WordParts.{OwnLoaded}
-use Rattle.shm_calls.specs.CallsControl.{calls_control}
-use Rattle.shm_calls.specs.CallsPart.{calls_part}
-use Rattle.shm_calls.specs.Either.{or_control, or_part}
+use Rattle.shm_calls.specs.{CallsControl.calls_control, CallsPart.calls_part, Either.{or_control, or_part}}
 use Rattle.shm_calls.specs.Words.{word_control}
-use Rattle.shm_count.specs.CountParts.{tear_part}
-use Rattle.shm_count.specs.Slots.Parts.{down_slot_part}
-use Rattle.shm_count.specs.Steady.{IsSteady, SameTable}
-use Rattle.shm_count.specs.Step.Machines.{down_control}
-use Rattle.shm_count.specs.Tear.Control.{tear_control}
-use Rattle.shm_count.proofs.Steady.{calls_steady, or_steady, table_of, word_steady}
-use Rattle.shm_count.proofs.Steady.Steps.{down_steady, lost_part}
+use Rattle.shm_count.specs.{CountParts.tear_part, Slots.Parts.down_slot_part, Steady.{IsSteady, SameTable}}
+use Rattle.shm_count.specs.{Step.Machines.down_control, Tear.Control.tear_control}
+use Rattle.shm_count.proofs.Steady.{calls_steady, or_steady, table_of, word_steady, Steps.{down_steady, lost_part}}
 use Rattle.shm_count.proofs.Steady.Tears.{tear_steady}
-use Rattle.shm_ref.specs.declared.drop_root.DropPoint.{DropPoint}
-use Rattle.shm_ref.specs.declared.drop_root.DropPoint.TheVariants.{Load, Lower, Tear}
-use Rattle.shm_ref.specs.declared.drop_root.DropState.{DropState}
-use Rattle.shm_ref.specs.DropRoot.Control.{drop_parts, is_load}
-use Rattle.shm_ref.specs.DropRoot.{DropKnows, drop_plan}
-use Rattle.shm_ref.specs.DropRoots.Control.{drop_root}
-use Rattle.shm_ref.specs.DropRoots.{roots_plan}
+use Rattle.shm_ref.specs.declared.drop_root.DropPoint.{DropPoint, TheVariants.{Load, Lower, Tear}}
+use Rattle.shm_ref.specs.{declared.drop_root.DropState.DropState, DropRoot.Control.{drop_parts, is_load}}
+use Rattle.shm_ref.specs.{DropRoot.{DropKnows, drop_plan}, DropRoots.{Control.{drop_root, roots_steered}, roots_plan}}
 use Rattle.shm_ref.specs.RootParts.{load_part}
 
 -- a drop of a root, before each call
@@ -46,5 +33,5 @@ pub drop_steady : IsSteady drop_root (calls_part drop_parts drop_plan)
 drop_steady = calls_steady drop_parts drop_plan (λ m. drop_known m m.point) drop_calls
 
 -- a drop of all roots
-pub roots_steady : IsSteady (calls_control drop_root roots_plan) (calls_part drop_root roots_plan)
+pub roots_steady : IsSteady (calls_control drop_root roots_steered) (calls_part drop_root roots_plan)
 roots_steady = calls_steady drop_root roots_plan (λ m r0 r tr es h. table_of r0 r (ap (λ (x : Memo). x.part) h.gone.left.rest)) (λ m. drop_steady)

@@ -1,21 +1,12 @@
 -- what a count step leaves of a memo it leaves of each memo with the same core
 use Rattle.std.proofs.Common.{◌≡◌, ℕ, ◌+◌, ◌≤◌, sym, ap, ◌∙◌, subst, Bool, false, List, ◌++◌, cond, [], ◌∷◌}
 use Rattle.std.specs.List.{Contains, filter}
-use Rattle.shm_graph.specs.declared.ask.Me.{Me}
-use Rattle.shm_graph.specs.declared.memo.Memo.{Memo}
-use Rattle.shm_graph.specs.declared.memo.Stored.{Stored}
-use Rattle.shm_graph.specs.declared.spot.Spot.TheVariants.{Body, Era, Home, Root}
-use Rattle.shm_graph.specs.Core.{core}
-use Rattle.shm_graph.specs.Reach.{learnt}
-use Rattle.shm_graph.specs.MemoAfterStore.{with_own}
-use Rattle.shm_graph.specs.Views.{own_word}
+use Rattle.shm_graph.specs.declared.{ask.Me.Me, memo.{Memo.Memo, Stored.Stored}}
+use Rattle.shm_graph.specs.{declared.spot.Spot.TheVariants.{Body, Era, Home, Root}, Core.core, Reach.learnt}
+use Rattle.shm_graph.specs.{MemoAfterStore.with_own, Views.own_word}
 use Rattle.shm_steps.specs.Reparting.{sight}
-use Rattle.shm_count.specs.declared.answer.UpFault.{UpFault}
-use Rattle.shm_count.specs.declared.answer.UpFault.TheVariants.{CountFull, EraSpent}
-use Rattle.shm_count.specs.declared.point.Aim.{Aim}
-use Rattle.shm_count.specs.Roots.{rest}
-use Rattle.shm_count.specs.Slots.{Filled, Lost, Sifts, StepCause, Untouched}
-use Rattle.shm_count.specs.Step.Parts.{part_after}
+use Rattle.shm_count.specs.declared.{answer.UpFault.{UpFault, TheVariants.{CountFull, EraSpent}}, point.Aim.Aim}
+use Rattle.shm_count.specs.{Roots.rest, Slots.{Filled, Lost, Sifts, StepCause, Untouched}, Step.Parts.part_after}
 use Rattle.shm_count.specs.Tear.Memos.{is_slot_word}
 
 -- what stays of what a memo knows depends on what it knows, and on its value blocks

@@ -2,17 +2,11 @@
 use Rattle.std.proofs.Common.{◌≡◌, ℕ, ◌+◌, ◌<◌, ◌≤◌, subst, arith, true}
 use Rattle.std.specs.List.{Contains}
 use Rattle.shm_words.specs.Layout.{total_of}
-use Rattle.shm_graph.specs.declared.ask.Me.{Me}
-use Rattle.shm_graph.specs.declared.memo.Memo.{Memo}
-use Rattle.shm_graph.specs.declared.spot.Spot.{Spot}
-use Rattle.shm_graph.specs.Held.{HeldAt}
-use Rattle.shm_graph.specs.Reach.{is_reached}
+use Rattle.shm_graph.specs.{declared.{ask.Me.Me, memo.Memo.Memo, spot.Spot.Spot}, Held.HeldAt, Reach.is_reached}
 use Rattle.shm_graph.specs.Views.{view}
-use Rattle.shm_graph.proofs.States.Holders.{reach_counted}
-use Rattle.shm_graph.proofs.States.Reached.{reached_here}
+use Rattle.shm_graph.proofs.States.{Holders.reach_counted, Reached.reached_here}
 use Rattle.shm_calls.specs.Parts.{IsHeld}
-use Rattle.shm_count.specs.DyingBlocks.{live_room}
-use Rattle.shm_count.specs.Step.Control.{IsInside}
+use Rattle.shm_count.specs.{DyingBlocks.live_room, Step.Control.IsInside}
 
 module _ (me : Me) (l : me.who < me.geometry.clients) where
   -- a block of the pool, and none of the zero-count blocks of the identity

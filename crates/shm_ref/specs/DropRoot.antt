@@ -3,33 +3,18 @@ pub mod Control
 pub mod Laws
 use Rattle.std.specs.Prelude.{◌≡◌, ◌≢◌, ℕ, ◌+◌, ◌^◌, ◌<◌, ◌≤◌, Bool, true, false, not, ◌==◌, Result, Ok, Err, List, [], ◌∷◌, length}
 use Rattle.std.specs.List.{Contains}
-use Rattle.shm_graph.specs.Bounds.{redo_steps, tear_steps}
-use Rattle.shm_words.specs.Layout.{total_of}
-use Rattle.shm_graph.specs.declared.spot.Spot.TheVariants.{Era, Root}
-use Rattle.shm_graph.specs.declared.memo.Memo.{Memo}
-use Rattle.shm_graph.specs.Asks.{Trail, IsWithin}
-use Rattle.shm_graph.specs.Events.{Event}
+use Rattle.shm_graph.specs.{Bounds.{redo_steps, tear_steps}, declared.spot.Spot.TheVariants.{Era, Root}}
+use Rattle.shm_graph.specs.{declared.memo.Memo.Memo, Asks.{Trail, IsWithin}, Events.Event, Views.own_word, Core.core}
 use Rattle.shm_graph.specs.Events as event
-use Rattle.shm_graph.specs.Views.{own_word}
-use Rattle.shm_calls.specs.Either.{or_part}
-use Rattle.shm_calls.specs.Parts.{IsHeld}
-use Rattle.shm_calls.specs.Plans.{Planned}
-use Rattle.shm_count.specs.declared.answer.EraSpent.{EraSpent}
-use Rattle.shm_count.specs.CountParts.{tear_part}
-use Rattle.shm_count.specs.Roots.{root_word}
-use Rattle.shm_count.specs.Slots.{Lost, Took, Untouched}
-use Rattle.shm_count.specs.Slots.Parts.{down_slot_part}
-use Rattle.shm_count.specs.Step.Control.{IsInside}
-use Rattle.shm_graph.specs.Core.{core}
-use Rattle.shm_count.specs.Tear.Events.{Visit, Walks, frees}
-use Rattle.shm_count.specs.Tear.{CanTear}
-use Rattle.shm_ref.specs.declared.drop_root.DropPoint.{DropPoint}
-use Rattle.shm_ref.specs.declared.drop_root.DropPoint.TheVariants.{Load, Lower, Tear}
+use Rattle.shm_words.specs.Layout.{total_of}
+use Rattle.shm_calls.specs.{Either.or_part, Parts.IsHeld, Plans.Planned}
+use Rattle.shm_count.specs.{declared.answer.EraSpent.EraSpent, CountParts.tear_part, Roots.root_word}
+use Rattle.shm_count.specs.{Slots.{Lost, Took, Untouched, Parts.down_slot_part}, Step.Control.IsInside}
+use Rattle.shm_count.specs.Tear.{Events.{Visit, Walks, frees}, CanTear, Memos.Remains}
+use Rattle.shm_ref.specs.declared.drop_root.DropPoint.{DropPoint, TheVariants.{Load, Lower, Tear}}
 use Rattle.shm_ref.specs.declared.drop_root.DropState.{DropState}
-use Rattle.shm_ref.specs.DropRoot.Control.{DropCall, DropAnswer, drop_call_at, drop_after, drop_turns, is_load}
-use Rattle.shm_ref.specs.Lefts.{Left, MayDrop, RootEvents, Stopped}
-use Rattle.shm_ref.specs.RootParts.{load_part}
-use Rattle.shm_count.specs.Tear.Memos.{Remains}
+use Rattle.shm_ref.specs.DropRoot.Control.{DropCall, DropAnswer, is_load, drop_steered}
+use Rattle.shm_ref.specs.{Lefts.{Left, MayDrop, RootEvents, Stopped}, RootParts.load_part}
 
 -- ---- on the way
 
@@ -98,13 +83,7 @@ DropLeaves m r0 r tr es (Err e) = (vs : List Visit) × DropStopped m r0 r tr es 
 abbrev pub drop_plan : Planned DropState DropCall DropAnswer (Result Bool EraSpent)
 drop_plan =
     record {
-      me = λ m. m.me;
-      line = λ m. [];
-      first = λ m. is_load m.point;
-      start = λ m. record m { block = 0; point = Load };
-      call = λ m. drop_call_at m m.point;
-      after = drop_after;
-      turns = drop_turns;
+      steered = drop_steered;
       part = λ m. or_part (load_part m.me m.root (is_load m.point)) (or_part (down_slot_part (Root m.me.who m.root) false) tear_part);
       knows = λ m. DropKnows m m.point;
       leaves = DropLeaves;

@@ -1,24 +1,14 @@
 -- a drop of all roots as a plan: what is known before each root, and what is left
 pub mod Control
 pub mod Laws
-use Rattle.std.specs.Prelude.{◌≡◌, ℕ, ◌+◌, ◌*◌, ◌<◌, ◌≤◌, ◌==◌, nat_lt, Bool, Result, Ok, Err, List, [], ◌++◌, length}
-use Rattle.shm_graph.specs.Bounds.{redo_steps, tear_steps}
-use Rattle.shm_graph.specs.declared.ask.Me.{Me}
-use Rattle.shm_graph.specs.declared.memo.Memo.{Memo}
-use Rattle.shm_graph.specs.Asks.{Trail, IsWithin}
-use Rattle.shm_graph.specs.declared.spot.Spot.TheVariants.{Era}
-use Rattle.shm_graph.specs.Events.{Event}
-use Rattle.shm_graph.specs.Views.{own_word}
-use Rattle.shm_calls.specs.CallsPart.{calls_part}
-use Rattle.shm_calls.specs.Plans.{Planned}
-use Rattle.shm_count.specs.declared.answer.EraSpent.{EraSpent}
-use Rattle.shm_count.specs.Roots.{root_word}
-use Rattle.shm_count.specs.Tear.Events.{Visit, frees}
-use Rattle.shm_ref.specs.declared.drop_roots.RootsState.{RootsState}
-use Rattle.shm_ref.specs.DropRoot.Control.{drop_parts, dropping}
-use Rattle.shm_ref.specs.DropRoot.{DropStopped, drop_plan}
-use Rattle.shm_ref.specs.Lefts.{Left, MayDrop, RootsEvents, Stopped}
-use Rattle.shm_ref.specs.DropRoots.Control.{RootsCall, roots_call, roots_after, roots_turns}
+use Rattle.std.specs.Prelude.{◌≡◌, ℕ, ◌+◌, ◌*◌, ◌<◌, ◌≤◌, nat_lt, Bool, Result, Ok, Err, List, ◌++◌, length}
+use Rattle.shm_graph.specs.{Bounds.{redo_steps, tear_steps}, declared.{ask.Me.Me, memo.Memo.Memo}}
+use Rattle.shm_graph.specs.{declared.spot.Spot.TheVariants.Era, Asks.{Trail, IsWithin}, Events.Event, Views.own_word}
+use Rattle.shm_calls.specs.{CallsPart.calls_part, Plans.Planned}
+use Rattle.shm_count.specs.{declared.answer.EraSpent.EraSpent, Roots.root_word, Tear.Events.{Visit, frees}}
+use Rattle.shm_ref.specs.{declared.drop_roots.RootsState.RootsState, DropRoot.Control.{drop_parts, dropping}}
+use Rattle.shm_ref.specs.{DropRoot.{DropStopped, drop_plan}, Lefts.{Left, MayDrop, RootsEvents, Stopped}}
+use Rattle.shm_ref.specs.DropRoots.Control.{RootsCall, roots_steered}
 
 -- the first n roots are empty, and the zero-count blocks are those before
 pub record AreGone (me : Me) (n : ℕ) (r0 r : Memo) (tr : Trail) (es : List Event) : Type 0 where
@@ -63,13 +53,7 @@ RootsLeaves m r0 r tr es (Err e) = (vs : List Visit) × RootsStopped m r0 r tr e
 abbrev pub roots_plan : Planned RootsState RootsCall (Result Bool EraSpent) (Result (Unit {0}) EraSpent)
 roots_plan =
     record {
-      me = λ m. m.me;
-      line = λ m. [];
-      first = λ m. m.root == 0;
-      start = λ m. record m { root = 0 };
-      call = roots_call;
-      after = roots_after;
-      turns = roots_turns;
+      steered = roots_steered;
       part = λ m. calls_part drop_parts drop_plan;
       knows = RootsKnows;
       leaves = RootsLeaves;

@@ -3,25 +3,13 @@ pub mod Control
 pub mod Laws
 use Rattle.std.specs.Prelude.{◌≡◌, ℕ, ◌+◌, ◌<◌, ◌≤◌, ◌==◌, if◌then◌else◌, None, Some, Result, Ok, Err, List, [], ◌∷◌}
 use Rattle.shm_words.specs.Layout.{GeometryFits}
-use Rattle.shm_graph.specs.declared.ask.Me.{Me}
-use Rattle.shm_graph.specs.declared.spot.Spot.TheVariants.{Hold}
-use Rattle.shm_graph.specs.declared.memo.Memo.{Memo}
-use Rattle.shm_graph.specs.declared.memo.Op.TheVariants.{Nothing}
-use Rattle.shm_graph.specs.Asks.{Trail, pair}
-use Rattle.shm_graph.specs.Events.{Event}
-use Rattle.shm_graph.specs.MemoAfterStore.{with_own}
+use Rattle.shm_graph.specs.declared.{ask.Me.Me, spot.Spot.TheVariants.Hold, memo.{Memo.Memo, Op.TheVariants.Nothing}}
+use Rattle.shm_graph.specs.{Asks.{Trail, pair}, Events.Event, MemoAfterStore.with_own, Core.core}
 use Rattle.shm_steps.specs.Conditions.{IsHere}
-use Rattle.shm_calls.specs.declared.word.Word.{Word}
-use Rattle.shm_calls.specs.Parts.{Part}
-use Rattle.shm_calls.specs.Plans.{Planned}
-use Rattle.shm_calls.specs.Words.{word_part}
-use Rattle.shm_graph.specs.Core.{core}
-use Rattle.shm_ref.specs.declared.hold.HoldPoint.{HoldPoint}
-use Rattle.shm_ref.specs.declared.hold.HoldPoint.TheVariants.{Want, Take, Back}
-use Rattle.shm_ref.specs.declared.hold.HoldState.{HoldState}
-use Rattle.shm_ref.specs.declared.answer.Busy.{Busy}
-use Rattle.shm_ref.specs.AskedParts.{asked_part}
-use Rattle.shm_ref.specs.Hold.Control.{hold_ask, hold_call, hold_after, hold_turns, is_want, taken_trail, busy_trail}
+use Rattle.shm_calls.specs.{declared.word.Word.Word, Parts.Part, Plans.Planned, Words.word_part}
+use Rattle.shm_ref.specs.declared.hold.{HoldPoint.{HoldPoint, TheVariants.{Want, Take, Back}}, HoldState.HoldState}
+use Rattle.shm_ref.specs.{declared.answer.Busy.Busy, AskedParts.asked_part}
+use Rattle.shm_ref.specs.Hold.Control.{hold_ask, is_want, taken_trail, busy_trail, hold_steered}
 
 -- no step is in progress, and no latch is held
 pub record MayTakeLatch (me : Me) (a : ℕ) (r : Memo) : Type 0 where
@@ -77,13 +65,7 @@ hold_part m y = asked_part (word_part (is_want y) m.me (hold_ask m.me m.author y
 abbrev pub hold_plan : Planned HoldState Word ℕ (Result (Unit {0}) Busy)
 hold_plan =
     record {
-      me = λ m. m.me;
-      line = λ m. [];
-      first = λ m. is_want m.point;
-      start = λ m. record m { holder = 0; point = Want };
-      call = λ m. hold_call m m.point;
-      after = λ m. hold_after m m.point;
-      turns = λ m. hold_turns m m.point;
+      steered = hold_steered;
       part = λ m. hold_part m m.point;
       knows = λ m. HoldKnows m m.point;
       leaves = HoldLeaves;

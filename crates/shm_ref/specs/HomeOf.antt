@@ -1,29 +1,15 @@
 -- what the home of an author names, as a plan: its control, what is known before each word step, and what is left
 pub mod Laws
 use Rattle.std.specs.Prelude.{◌≡◌, ◌≢◌, ℕ, ◌+◌, ◌%◌, ◌^◌, ◌<◌, ◌≤◌, Bool, true, false, ◌==◌, if◌then◌else◌, Option, None, Some, Result, Ok, Err, List, [], ◌∷◌, ◌++◌}
-use Rattle.shm_words.specs.declared.place.Place.TheVariants as place
 use Rattle.shm_words.specs.Layout.{GeometryFits, address, total_of, address_limit}
-use Rattle.shm_graph.specs.declared.ask.Ask.{Ask}
-use Rattle.shm_graph.specs.declared.ask.Ask.TheVariants.{Load}
-use Rattle.shm_graph.specs.declared.ask.Me.{Me}
-use Rattle.shm_graph.specs.declared.spot.Spot.TheVariants.{Hold, Home}
-use Rattle.shm_graph.specs.declared.memo.Memo.{Memo}
-use Rattle.shm_graph.specs.Asks.{Trail, pair}
-use Rattle.shm_graph.specs.Core.{core}
-use Rattle.shm_graph.specs.Events.{Event}
-use Rattle.shm_graph.specs.Reach.{is_reached}
+use Rattle.shm_words.specs.declared.place.Place.TheVariants as place
+use Rattle.shm_graph.specs.declared.{ask.{Ask.{Ask, TheVariants.Load}, Me.Me}, spot.Spot.TheVariants.{Hold, Home}}
+use Rattle.shm_graph.specs.{declared.memo.Memo.Memo, Asks.{Trail, pair}, Core.core, Events.Event, Reach.is_reached}
 use Rattle.shm_graph.specs.Views.{own_word}
 use Rattle.shm_steps.specs.WordParts.{HomeLooked, OwnLoaded}
-use Rattle.shm_calls.specs.declared.word.Word.{Word}
-use Rattle.shm_calls.specs.Parts.{Part}
-use Rattle.shm_calls.specs.Plans.{Planned}
-use Rattle.shm_calls.specs.Words.{word_part}
-use Rattle.shm_ref.specs.declared.answer.NotHeld.{NotHeld}
-use Rattle.shm_ref.specs.declared.home_of.HomeOfPoint.{HomeOfPoint}
-use Rattle.shm_ref.specs.declared.home_of.HomeOfPoint.TheVariants.{Whose, Find}
-use Rattle.shm_ref.specs.declared.home_of.HomeOfState.{HomeOfState}
-use Rattle.shm_ref.specs.AskedParts.{asked_part}
-use Rattle.shm_ref.specs.ReadParts.{MayAsk}
+use Rattle.shm_calls.specs.{declared.word.Word.Word, Parts.Part, Plans.Planned, Words.word_part, Steering.Steered}
+use Rattle.shm_ref.specs.declared.{answer.NotHeld.NotHeld, home_of.HomeOfPoint.{HomeOfPoint, TheVariants.{Whose, Find}}}
+use Rattle.shm_ref.specs.{declared.home_of.HomeOfState.HomeOfState, AskedParts.asked_part, ReadParts.MayAsk}
 
 -- ---- the control
 
@@ -108,8 +94,8 @@ HomeOfFound m Find = HomeLooked m.me.who m.author
 abbrev pub home_of_part : HomeOfState → HomeOfPoint → Part Word ℕ
 home_of_part m y = asked_part (word_part (is_whose y) m.me (find_ask m.me m.author y) (HomeOfFound m y))
 
-abbrev pub home_of_plan : Planned HomeOfState Word ℕ (Result ℕ NotHeld)
-home_of_plan =
+abbrev pub home_of_steered : Steered HomeOfState Word ℕ (Result ℕ NotHeld)
+home_of_steered =
     record {
       me = λ m. m.me;
       line = λ m. [];
@@ -118,6 +104,12 @@ home_of_plan =
       call = λ m. home_of_call m m.point;
       after = λ m. home_of_after m m.point;
       turns = λ m. home_of_turns m m.point;
+    }
+
+abbrev pub home_of_plan : Planned HomeOfState Word ℕ (Result ℕ NotHeld)
+home_of_plan =
+    record {
+      steered = home_of_steered;
       part = λ m. home_of_part m m.point;
       knows = λ m. HomeKnows m m.point;
       leaves = HomeLeaves;

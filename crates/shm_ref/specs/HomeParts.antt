@@ -1,27 +1,15 @@
 -- the load of the own home as a part, whether the own latch is held or not
 use Rattle.std.proofs.Common.{◌≡◌, ℕ, ◌<◌, refl, sym, ap, ◌∙◌, Bool, not, eqb, ◌&&◌, false, [], ◌∷◌, ◌++◌}
 use Rattle.std.proofs.lemmas.Bool.{eq-eqb, lt-ltb}
-use Rattle.shm_words.specs.declared.place.Place.TheVariants as place
 use Rattle.shm_words.specs.Layout.{address}
-use Rattle.shm_graph.specs.declared.ask.Ask.TheVariants.{Load}
-use Rattle.shm_graph.specs.declared.ask.Me.{Me}
-use Rattle.shm_graph.specs.declared.memo.Memo.{Memo}
-use Rattle.shm_graph.specs.declared.memo.Step.{Step}
-use Rattle.shm_graph.specs.declared.spot.Spot.TheVariants.{Home}
-use Rattle.shm_graph.specs.Changes.{called}
-use Rattle.shm_graph.specs.Core.{core}
-use Rattle.shm_graph.specs.Laws.{framed}
-use Rattle.shm_graph.specs.MemoAfterRead.{home_read, is_held}
-use Rattle.shm_graph.specs.Spots.{spot_at}
-use Rattle.shm_graph.specs.Views.{own_word}
+use Rattle.shm_words.specs.declared.place.Place.TheVariants as place
+use Rattle.shm_graph.specs.declared.{ask.{Ask.TheVariants.Load, Me.Me}, memo.{Memo.Memo, Step.Step}}
+use Rattle.shm_graph.specs.{declared.spot.Spot.TheVariants.Home, Changes.called, Core.core, Laws.framed}
+use Rattle.shm_graph.specs.{MemoAfterRead.{home_read, is_held}, Spots.spot_at, Views.own_word}
 use Rattle.shm_graph.proofs.Spots.SpotPlaces.{spot-place}
-use Rattle.shm_calls.specs.declared.word.Word.{Word}
-use Rattle.shm_calls.specs.Parts.{Part}
-use Rattle.shm_calls.specs.Words.{word_part}
-use Rattle.shm_calls.specs.WordSteps.{load_at}
+use Rattle.shm_calls.specs.{declared.word.Word.Word, Parts.Part, Words.word_part, WordSteps.load_at}
 use Rattle.shm_steps.specs.WordParts.{Leaves, nothing_read, own_at}
-use Rattle.shm_steps.proofs.Cores.{core_cond}
-use Rattle.shm_steps.proofs.Words.Own.{at_step}
+use Rattle.shm_steps.proofs.{Cores.core_cond, Words.Own.at_step}
 
 -- the address of the own home
 abbrev pub home_address : Me → ℕ

@@ -2,36 +2,20 @@
 use Rattle.std.proofs.Common.{◌≡◌, ℕ, ◌+◌, ◌<◌, true, List, [], refl, sym, ap, ◌∙◌, subst, None, Some}
 use Rattle.std.proofs.lemmas.Bool.{cond-true}
 use Rattle.std.specs.Prelude.{Result, Ok, Err}
-use Rattle.shm_graph.specs.declared.ask.Me.{Me}
-use Rattle.shm_graph.specs.declared.memo.Memo.{Memo}
-use Rattle.shm_graph.specs.declared.spot.Spot.TheVariants.{Hold}
-use Rattle.shm_graph.specs.Asks.{Trail}
-use Rattle.shm_graph.specs.Events.{Event}
-use Rattle.shm_graph.specs.Idle.{IsIdle, hold_word}
-use Rattle.shm_graph.specs.Operations.{IsReady}
-use Rattle.shm_graph.specs.Reach.{is_reached, unlatched}
-use Rattle.shm_graph.proofs.Idles.{idle_core}
-use Rattle.shm_graph.proofs.Spots.Spotting.{same_spot_self}
-use Rattle.shm_calls.specs.Tasks.{IsNew, TaskLaws}
-use Rattle.shm_calls.specs.Words.{word_control}
+use Rattle.shm_graph.specs.{declared.{ask.Me.Me, memo.Memo.Memo, spot.Spot.TheVariants.Hold}, Asks.Trail, Events.Event}
+use Rattle.shm_graph.specs.{Idle.{IsIdle, hold_word}, Operations.IsReady, Reach.{is_reached, unlatched}}
+use Rattle.shm_graph.proofs.{Idles.idle_core, Spots.Spotting.same_spot_self}
+use Rattle.shm_calls.specs.{Tasks.{IsNew, TaskLaws}, Words.word_control}
 use Rattle.shm_count.specs.Idles.{is_here}
-use Rattle.shm_ref.specs.declared.answer.Busy.{Busy}
-use Rattle.shm_ref.specs.declared.hold.HoldState.{HoldState}
-use Rattle.shm_ref.specs.declared.home_of.HomeOfState.{HomeOfState}
-use Rattle.shm_ref.specs.declared.look.LookState.{LookState}
-use Rattle.shm_ref.specs.declared.read.ReadState.{ReadState}
-use Rattle.shm_ref.specs.declared.release.ReleaseState.{ReleaseState}
-use Rattle.shm_ref.specs.declared.root_of.NamingState.{NamingState}
-use Rattle.shm_ref.specs.Hold.Control.{holding}
-use Rattle.shm_ref.specs.Hold.{HoldKnows, HoldLeaves, hold_plan, wants}
-use Rattle.shm_ref.specs.HomeOf.{HomeKnows, finding, home_of_plan}
-use Rattle.shm_ref.specs.Lefts.{MayDrop}
+use Rattle.shm_ref.specs.declared.{answer.Busy.Busy, hold.HoldState.HoldState, home_of.HomeOfState.HomeOfState}
+use Rattle.shm_ref.specs.declared.{look.LookState.LookState, read.ReadState.ReadState}
+use Rattle.shm_ref.specs.declared.{release.ReleaseState.ReleaseState, root_of.NamingState.NamingState}
+use Rattle.shm_ref.specs.Hold.{Control.holding, HoldKnows, HoldLeaves, hold_plan, wants}
+use Rattle.shm_ref.specs.{HomeOf.{HomeKnows, finding, home_of_plan}, Lefts.MayDrop}
 use Rattle.shm_ref.specs.Look.{LookKnows, look_plan, looking}
 use Rattle.shm_ref.specs.OnlyRead.{home_reads, look_reads, read_reads, still_idle}
-use Rattle.shm_ref.specs.Read.{ReadKnows, read_plan, reading}
-use Rattle.shm_ref.specs.ReadParts.{MayAsk, MayRead, reached_room}
-use Rattle.shm_ref.specs.Release.{ReleaseKnows, release_plan, releasing}
-use Rattle.shm_ref.specs.RootOf.{naming_plan}
+use Rattle.shm_ref.specs.{Read.{ReadKnows, read_plan, reading}, ReadParts.{MayAsk, MayRead, reached_room}}
+use Rattle.shm_ref.specs.{Release.{ReleaseKnows, release_plan, releasing}, RootOf.naming_plan}
 
 -- ---- what being between two calls gives
 

@@ -1,35 +1,17 @@
 -- how memos come to leave roots: by what leaves the core, and by a step down at a root, with or without a tear-down after it
 use Rattle.std.proofs.Common.{◌≡◌, ◌≢◌, ℕ, zero, suc, ◌+◌, refl, sym, ap, ◌∙◌, subst, arith, Bool, true, false, cond, eqb, ◌&&◌, List, [], ◌∷◌, ◌++◌, inl, inr}
-use Rattle.std.specs.Prelude.{◌==◌, ◌||◌, ◌⊎◌}
-use Rattle.std.specs.List.{Contains, filter}
 use Rattle.std.proofs.lemmas.Bool.{and_from, cases_Bool, eq-eqb, false≢true}
-use Rattle.shm_graph.specs.declared.ask.Me.{Me}
-use Rattle.shm_graph.specs.declared.spot.Spot.{Spot}
-use Rattle.shm_graph.specs.declared.spot.Spot.TheVariants.{Era, Home, Root}
-use Rattle.shm_graph.specs.declared.memo.Memo.{Memo}
-use Rattle.shm_graph.specs.declared.memo.Op.TheVariants.{Nothing}
-use Rattle.shm_graph.specs.Events.{Event}
+use Rattle.std.specs.{Prelude.{◌==◌, ◌||◌, ◌⊎◌}, List.{Contains, filter}}
+use Rattle.shm_graph.specs.declared.{ask.Me.Me, spot.Spot.{Spot, TheVariants.{Era, Home, Root}}, memo.Memo.Memo}
+use Rattle.shm_graph.specs.declared.{memo.{Op.TheVariants.Nothing, Stored.Stored}, table.Part.Part}
+use Rattle.shm_graph.specs.{declared.table.Part.TheVariants.{Loose, Table}, Events.Event, Asks.Trail, Chains.part_set}
+use Rattle.shm_graph.specs.{Ops.{cover, Cover.On}, Spots.same_spot, MemoAfterStore.not_block, Views.own_word, Core.core}
 use Rattle.shm_graph.specs.Events as event
-use Rattle.shm_graph.specs.declared.table.Part.{Part}
-use Rattle.shm_graph.specs.declared.table.Part.TheVariants.{Loose, Table}
-use Rattle.shm_graph.specs.Asks.{Trail}
-use Rattle.shm_graph.specs.Chains.{part_set}
-use Rattle.shm_graph.specs.Ops.{cover}
-use Rattle.shm_graph.specs.Ops.Cover.{On}
-use Rattle.shm_graph.specs.Spots.{same_spot}
-use Rattle.shm_graph.specs.MemoAfterStore.{not_block}
 use Rattle.shm_graph.proofs.Spots.Spotting.{same_spot_self}
-use Rattle.shm_graph.specs.Views.{own_word}
-use Rattle.shm_count.specs.Lowering.{StoppedAt, without_new}
-use Rattle.shm_count.specs.Roots.{rest, root_word}
-use Rattle.shm_count.specs.Slots.{Took, Untouched}
-use Rattle.shm_graph.specs.Core.{core}
-use Rattle.shm_count.specs.Tear.Events.{Visit, Walks, frees}
+use Rattle.shm_count.specs.{Lowering.{StoppedAt, without_new}, Roots.{rest, root_word}, Slots.{Took, Untouched}}
+use Rattle.shm_count.specs.Tear.{Events.{Visit, Walks, frees}, TornPartly, is_outside, Memos.{Remains, is_slot_word}}
 use Rattle.shm_steps.proofs.Cores.{here_same}
-use Rattle.shm_count.specs.Tear.{TornPartly, is_outside}
-use Rattle.shm_count.specs.Tear.Memos.{Remains, is_slot_word}
 use Rattle.shm_ref.specs.Lefts.{is_root_of, Left, MayDrop, RootEvents}
-use Rattle.shm_graph.specs.declared.memo.Stored.{Stored}
 
 -- ---- lists
 

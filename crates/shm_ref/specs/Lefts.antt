@@ -1,19 +1,11 @@
 -- what is left of a memo once roots of its identity came to be empty
 use Rattle.std.specs.Prelude.{◌≡◌, ℕ, zero, suc, ◌<◌, ◌≤◌, ◌⊎◌, Bool, true, false, ◌&&◌, ◌==◌, List, [], ◌∷◌, ◌++◌}
 use Rattle.shm_words.specs.Layout.{GeometryFits}
-use Rattle.shm_graph.specs.declared.ask.Me.{Me}
-use Rattle.shm_graph.specs.declared.spot.Spot.{Spot}
-use Rattle.shm_graph.specs.declared.spot.Spot.TheVariants.{Era, Root}
-use Rattle.shm_graph.specs.declared.memo.Memo.{Memo}
-use Rattle.shm_graph.specs.declared.memo.Op.TheVariants.{Nothing}
-use Rattle.shm_graph.specs.Events.{Event}
+use Rattle.shm_graph.specs.declared.{ask.Me.Me, spot.Spot.{Spot, TheVariants.{Era, Root}}, memo.Memo.Memo}
+use Rattle.shm_graph.specs.{declared.memo.Op.TheVariants.Nothing, Events.Event, Views.own_word}
 use Rattle.shm_graph.specs.Events as event
-use Rattle.shm_graph.specs.Views.{own_word}
 use Rattle.shm_steps.specs.Conditions.{IsHere}
-use Rattle.shm_count.specs.Lowering.{StoppedAt}
-use Rattle.shm_count.specs.Roots.{rest, root_word}
-use Rattle.shm_count.specs.Tear.Events.{Visit, Walks}
-use Rattle.shm_count.specs.Tear.Memos.{is_lasting}
+use Rattle.shm_count.specs.{Lowering.StoppedAt, Roots.{rest, root_word}, Tear.{Events.{Visit, Walks}, Memos.is_lasting}}
 
 -- a root of c among those that may come to be empty
 abbrev pub is_root_of : ℕ → (ℕ → Bool) → Spot → Bool

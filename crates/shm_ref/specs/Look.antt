@@ -1,32 +1,17 @@
 -- a reference word of a block as a plan: its control, what is known before each word step, and what is left
 pub mod Laws
 use Rattle.std.specs.Prelude.{◌≡◌, ◌≢◌, ℕ, ◌+◌, ◌%◌, ◌<◌, ◌≤◌, ◌==◌, nat_lt, Bool, true, false, if◌then◌else◌, Option, None, Some, Result, Ok, Err, List, [], ◌∷◌}
+use Rattle.shm_words.specs.{Layout.{GeometryFits, address, total_of, address_limit}, Tags.{tag_author, tag_refs}}
 use Rattle.shm_words.specs.declared.place.Place.TheVariants as place
-use Rattle.shm_words.specs.Layout.{GeometryFits, address, total_of, address_limit}
-use Rattle.shm_words.specs.Tags.{tag_author, tag_refs}
-use Rattle.shm_graph.specs.declared.ask.Ask.{Ask}
-use Rattle.shm_graph.specs.declared.ask.Ask.TheVariants.{Load}
-use Rattle.shm_graph.specs.declared.ask.Me.{Me}
-use Rattle.shm_graph.specs.declared.spot.Spot.TheVariants.{Body, Hold, Tag}
-use Rattle.shm_graph.specs.declared.memo.Memo.{Memo}
-use Rattle.shm_graph.specs.Asks.{Trail, pair}
-use Rattle.shm_graph.specs.Core.{core}
-use Rattle.shm_graph.specs.Events.{Event}
-use Rattle.shm_graph.specs.Reach.{is_reached}
-use Rattle.shm_graph.specs.MemoAfterRead.{reference_read}
-use Rattle.shm_graph.specs.Views.{own_word}
+use Rattle.shm_graph.specs.declared.{ask.{Ask.{Ask, TheVariants.Load}, Me.Me}, spot.Spot.TheVariants.{Body, Hold, Tag}}
+use Rattle.shm_graph.specs.{declared.memo.Memo.Memo, Asks.{Trail, pair}, Core.core, Events.Event, Reach.is_reached}
+use Rattle.shm_graph.specs.{MemoAfterRead.reference_read, Views.own_word}
 use Rattle.shm_steps.specs.WordParts.{OwnLoaded, ReferenceLoaded, WordLoaded, as_known}
-use Rattle.shm_calls.specs.declared.word.Word.{Word}
-use Rattle.shm_calls.specs.Parts.{Part}
-use Rattle.shm_calls.specs.Plans.{Planned}
-use Rattle.shm_calls.specs.Words.{word_part}
+use Rattle.shm_calls.specs.{declared.word.Word.Word, Parts.Part, Plans.Planned, Words.word_part, Steering.Steered}
 use Rattle.shm_count.specs.Tear.Control.{tag_read}
-use Rattle.shm_ref.specs.declared.answer.LookFault.{LookFault}
-use Rattle.shm_ref.specs.declared.answer.LookFault.TheVariants.{NoSuchRef, NotHeld}
-use Rattle.shm_ref.specs.declared.look.LookPoint.{LookPoint}
-use Rattle.shm_ref.specs.declared.look.LookPoint.TheVariants.{Shape, Whose, Reference}
-use Rattle.shm_ref.specs.declared.look.LookState.{LookState}
-use Rattle.shm_ref.specs.AskedParts.{asked_part}
+use Rattle.shm_ref.specs.declared.answer.LookFault.{LookFault, TheVariants.{NoSuchRef, NotHeld}}
+use Rattle.shm_ref.specs.declared.look.LookPoint.{LookPoint, TheVariants.{Shape, Whose, Reference}}
+use Rattle.shm_ref.specs.{declared.look.LookState.LookState, AskedParts.asked_part}
 use Rattle.shm_ref.specs.ReadParts.{IsTag, MayAsk, MayRead, tagged}
 
 -- ---- the control
@@ -144,8 +129,8 @@ LookFound m Reference = ReferenceLoaded m.block m.index
 abbrev pub look_part : LookState → LookPoint → Part Word ℕ
 look_part m y = asked_part (word_part (is_shape y) m.me (look_ask m.me m.block m.index y) (LookFound m y))
 
-abbrev pub look_plan : Planned LookState Word ℕ (Result ℕ LookFault)
-look_plan =
+abbrev pub look_steered : Steered LookState Word ℕ (Result ℕ LookFault)
+look_steered =
     record {
       me = λ m. m.me;
       line = λ m. [];
@@ -154,6 +139,12 @@ look_plan =
       call = λ m. look_call m m.point;
       after = λ m. look_after m m.point;
       turns = λ m. look_turns m m.point;
+    }
+
+abbrev pub look_plan : Planned LookState Word ℕ (Result ℕ LookFault)
+look_plan =
+    record {
+      steered = look_steered;
       part = λ m. look_part m m.point;
       knows = λ m. LookKnows m m.point;
       leaves = LookLeaves;

@@ -1,41 +1,19 @@
 -- what homes, reference words and plain words that were read leave of a memo: reading may go on
 use Rattle.std.proofs.Common.{◌≡◌, ℕ, refl, sym, ap, ◌∙◌, Bool, true, false, eqb, ◌||◌, ◌+◌, append-nil, List, [], ◌∷◌, ◌++◌, map}
-use Rattle.std.specs.Prelude.{if◌then◌else◌, ◌==◌, Result, Ok, Err}
-use Rattle.std.specs.List.{filter, list_any}
-use Rattle.std.proofs.Math.Bool.{or_assoc}
-use Rattle.std.proofs.lemmas.Bool.{or_left}
-use Rattle.std.proofs.lemmas.List.{map-append}
-use Rattle.std.proofs.lemmas.List.Folds.{list_any-append}
-use Rattle.shm_graph.specs.declared.ask.Me.{Me}
-use Rattle.shm_words.specs.Tags.{tag_refs}
-use Rattle.shm_graph.specs.declared.spot.Spot.{Spot}
-use Rattle.shm_graph.specs.declared.spot.Spot.TheVariants.{Body, Hold, Home, Root, Tag}
-use Rattle.shm_graph.specs.declared.memo.Look.{Look}
-use Rattle.shm_graph.specs.declared.memo.Memo.{Memo}
-use Rattle.shm_graph.specs.declared.memo.Op.{Op}
-use Rattle.shm_graph.specs.declared.memo.Stored.{Stored}
-use Rattle.shm_graph.specs.Asks.{Trail}
-use Rattle.shm_graph.specs.Core.{core}
-use Rattle.shm_graph.specs.Events.{Event}
-use Rattle.shm_graph.specs.Idle.{IsIdle, hold_word}
-use Rattle.shm_graph.specs.Ops.{cover, cover_of}
-use Rattle.shm_graph.specs.Reach.{is_named, is_reached, learnt, named_blocks, shown}
-use Rattle.shm_graph.specs.MemoAfterRead.{values_read}
+use Rattle.std.proofs.{Math.Bool.or_assoc, lemmas.{Bool.or_left, List.{map-append, Folds.list_any-append}}}
+use Rattle.std.specs.{Prelude.{if◌then◌else◌, ◌==◌, Result, Ok, Err}, List.{filter, list_any}}
+use Rattle.shm_graph.specs.declared.{ask.Me.Me, spot.Spot.{Spot, TheVariants.{Body, Hold, Home, Root, Tag}}}
+use Rattle.shm_graph.specs.{declared.memo.{Look.Look, Memo.Memo, Op.Op, Stored.Stored}, Asks.Trail, Core.core}
+use Rattle.shm_graph.specs.{Events.Event, Idle.{IsIdle, hold_word}, Ops.{cover, cover_of}}
+use Rattle.shm_graph.specs.{Reach.{is_named, is_reached, learnt, named_blocks, shown}, MemoAfterRead.values_read}
 use Rattle.shm_graph.specs.Views.{own_word}
+use Rattle.shm_words.specs.Tags.{tag_refs}
 use Rattle.shm_steps.proofs.Cores.{here_same}
-use Rattle.shm_count.specs.Retaining.{named_same, slots_learnt}
-use Rattle.shm_count.specs.Tear.Memos.{is_slot_word}
-use Rattle.shm_ref.specs.declared.answer.LookFault.{LookFault}
-use Rattle.shm_ref.specs.declared.answer.LookFault.TheVariants.{NoSuchRef, NotHeld}
-use Rattle.shm_ref.specs.declared.answer.NoSuchWord.{NoSuchWord}
-use Rattle.shm_ref.specs.declared.answer.NotHeld.{NotHeld as Unheld}
-use Rattle.shm_ref.specs.declared.home_of.HomeOfState.{HomeOfState}
-use Rattle.shm_ref.specs.declared.look.LookState.{LookState}
-use Rattle.shm_ref.specs.declared.read.ReadState.{ReadState}
-use Rattle.shm_ref.specs.HomeOf.{HomeLeaves}
-use Rattle.shm_ref.specs.Lefts.{MayDrop}
-use Rattle.shm_ref.specs.Look.{LookLeaves}
-use Rattle.shm_ref.specs.Read.{ReadLeaves}
+use Rattle.shm_count.specs.{Retaining.{named_same, slots_learnt}, Tear.Memos.is_slot_word}
+use Rattle.shm_ref.specs.declared.answer.LookFault.{LookFault, TheVariants.{NoSuchRef, NotHeld}}
+use Rattle.shm_ref.specs.declared.answer.{NoSuchWord.NoSuchWord, NotHeld.NotHeld as Unheld}
+use Rattle.shm_ref.specs.declared.{home_of.HomeOfState.HomeOfState, look.LookState.LookState, read.ReadState.ReadState}
+use Rattle.shm_ref.specs.{HomeOf.HomeLeaves, Lefts.MayDrop, Look.LookLeaves, Read.ReadLeaves}
 use Rattle.shm_ref.specs.ReadParts.{MayAsk, tagged}
 
 -- only words were read: the status, the own words, the step in progress, the block that is prepared, the latch and the known head slots are what they were, and the looks have grown

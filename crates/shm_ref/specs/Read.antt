@@ -1,29 +1,14 @@
 -- a plain word of a block as a plan: its control, what is known before each word step, and what is left
 pub mod Laws
 use Rattle.std.specs.Prelude.{◌≡◌, ℕ, ◌+◌, ◌<◌, ◌≤◌, nat_lt, Bool, true, false, if◌then◌else◌, Option, None, Some, Result, Ok, Err, List, [], ◌∷◌}
-use Rattle.shm_words.specs.Layout.{GeometryFits, address_limit}
-use Rattle.shm_words.specs.Tags.{tag_plain, tag_refs}
-use Rattle.shm_graph.specs.declared.ask.Ask.{Ask}
-use Rattle.shm_graph.specs.declared.ask.Ask.TheVariants.{Load}
-use Rattle.shm_graph.specs.declared.ask.Me.{Me}
-use Rattle.shm_graph.specs.declared.spot.Spot.TheVariants.{Body, Tag}
-use Rattle.shm_graph.specs.declared.memo.Memo.{Memo}
-use Rattle.shm_graph.specs.Asks.{Trail, pair}
-use Rattle.shm_graph.specs.Core.{core}
-use Rattle.shm_graph.specs.Events.{Event}
-use Rattle.shm_graph.specs.Reach.{learnt}
+use Rattle.shm_words.specs.{Layout.{GeometryFits, address_limit}, Tags.{tag_plain, tag_refs}}
+use Rattle.shm_graph.specs.declared.{ask.{Ask.{Ask, TheVariants.Load}, Me.Me}, spot.Spot.TheVariants.{Body, Tag}}
+use Rattle.shm_graph.specs.{declared.memo.Memo.Memo, Asks.{Trail, pair}, Core.core, Events.Event, Reach.learnt}
 use Rattle.shm_steps.specs.WordParts.{WordLoaded, as_known}
-use Rattle.shm_calls.specs.declared.word.Word.{Word}
-use Rattle.shm_calls.specs.Parts.{Part}
-use Rattle.shm_calls.specs.Plans.{Planned}
-use Rattle.shm_calls.specs.Words.{word_part}
+use Rattle.shm_calls.specs.{declared.word.Word.Word, Parts.Part, Plans.Planned, Words.word_part, Steering.Steered}
 use Rattle.shm_count.specs.Tear.Control.{tag_read}
-use Rattle.shm_ref.specs.declared.answer.NoSuchWord.{NoSuchWord}
-use Rattle.shm_ref.specs.declared.read.ReadPoint.{ReadPoint}
-use Rattle.shm_ref.specs.declared.read.ReadPoint.TheVariants.{Shape, Plain}
-use Rattle.shm_ref.specs.declared.read.ReadState.{ReadState}
-use Rattle.shm_ref.specs.AskedParts.{asked_part}
-use Rattle.shm_ref.specs.ReadParts.{IsTag, MayRead, tagged}
+use Rattle.shm_ref.specs.declared.{answer.NoSuchWord.NoSuchWord, read.ReadPoint.{ReadPoint, TheVariants.{Shape, Plain}}}
+use Rattle.shm_ref.specs.{declared.read.ReadState.ReadState, AskedParts.asked_part, ReadParts.{IsTag, MayRead, tagged}}
 
 -- ---- the control
 
@@ -109,8 +94,8 @@ ReadFound m Plain = WordLoaded (Body m.block (m.refs + m.index))
 abbrev pub read_part : ReadState → ReadPoint → Part Word ℕ
 read_part m y = asked_part (word_part (is_shape y) m.me (read_ask m.block (m.refs + m.index) y) (ReadFound m y))
 
-abbrev pub read_plan : Planned ReadState Word ℕ (Result ℕ NoSuchWord)
-read_plan =
+abbrev pub read_steered : Steered ReadState Word ℕ (Result ℕ NoSuchWord)
+read_steered =
     record {
       me = λ m. m.me;
       line = λ m. [];
@@ -119,6 +104,12 @@ read_plan =
       call = λ m. read_call m m.point;
       after = λ m. read_after m m.point;
       turns = λ m. read_turns m m.point;
+    }
+
+abbrev pub read_plan : Planned ReadState Word ℕ (Result ℕ NoSuchWord)
+read_plan =
+    record {
+      steered = read_steered;
       part = λ m. read_part m m.point;
       knows = λ m. ReadKnows m m.point;
       leaves = ReadLeaves;

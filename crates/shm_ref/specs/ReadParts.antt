@@ -1,35 +1,19 @@
 -- reading under a latch and in reach: when it may begin, and what a tag that was read tells
 use Rattle.std.proofs.Common.{◌≡◌, ◌≢◌, ℕ, ◌+◌, ◌<◌, ◌≤◌, ◌%◌, refl, sym, ap, ◌∙◌, subst, arith, true, false, eqb, ◌||◌, inl, inr, List, [], ◌∷◌, ◌++◌, map, Option, None, Some}
+use Rattle.std.proofs.lemmas.{Bool.{cases_eq, cond-true, eq-eqb, or_left, or_right}, List.Folds.list_any-append}
 use Rattle.std.specs.List.{Contains, filter, list_any}
-use Rattle.std.proofs.lemmas.Bool.{cases_eq, cond-true, eq-eqb, or_left, or_right}
-use Rattle.std.proofs.lemmas.List.Folds.{list_any-append}
 use Rattle.shm_words.specs.Layout.{GeometryFits, total_of, address_limit}
 use Rattle.shm_words.specs.Tags.{tag_author, tag_link, tag_of, tag_plain, tag_refs}
-use Rattle.shm_words.proofs.Placing.{total_small}
-use Rattle.shm_words.proofs.Words.{tag_from_fields}
-use Rattle.shm_graph.specs.declared.ask.Me.{Me}
-use Rattle.shm_graph.specs.declared.spot.Spot.{Spot}
-use Rattle.shm_graph.specs.declared.spot.Spot.TheVariants.{Hold, Tag}
-use Rattle.shm_graph.specs.declared.memo.Look.{Look}
-use Rattle.shm_graph.specs.declared.memo.Memo.{Memo}
-use Rattle.shm_graph.specs.declared.memo.Stored.{Stored}
-use Rattle.shm_graph.specs.Core.{core}
-use Rattle.shm_graph.specs.Idle.{hold_word}
-use Rattle.shm_graph.specs.Reach.{is_reached, known_at, learnt, named_blocks, not_at}
-use Rattle.shm_graph.specs.Spots.{same_spot}
-use Rattle.shm_graph.specs.Telling.{claims}
+use Rattle.shm_words.proofs.{Placing.total_small, Words.tag_from_fields}
+use Rattle.shm_graph.specs.declared.{ask.Me.Me, spot.Spot.{Spot, TheVariants.{Hold, Tag}}, memo.{Look.Look, Memo.Memo}}
+use Rattle.shm_graph.specs.{declared.memo.Stored.Stored, Core.core, Idle.hold_word}
+use Rattle.shm_graph.specs.{Reach.{is_reached, known_at, learnt, named_blocks, not_at}, Spots.same_spot, Telling.claims}
 use Rattle.shm_graph.specs.Views.{own_word, view}
-use Rattle.shm_graph.proofs.States.Holders.{reach_counted}
-use Rattle.shm_graph.proofs.States.Reached.{reached_here}
-use Rattle.shm_graph.proofs.Spots.Spotting.{same_spot_self}
+use Rattle.shm_graph.proofs.{States.{Holders.reach_counted, Reached.reached_here}, Spots.Spotting.same_spot_self}
 use Rattle.shm_calls.specs.Parts.{IsHeld}
-use Rattle.shm_count.specs.DyingBlocks.{live_room}
-use Rattle.shm_count.specs.Retaining.{named_same, slots_learnt}
+use Rattle.shm_count.specs.{DyingBlocks.live_room, Retaining.{named_same, slots_learnt}}
 use Rattle.shm_count.specs.Tear.Control.{or_empty, tag_read}
-use Rattle.shm_steps.proofs.BeginWords.{known_here}
-use Rattle.shm_steps.proofs.Covering.{tag_told}
-use Rattle.shm_steps.proofs.Reaching.{look_reached}
-use Rattle.shm_steps.proofs.Words.Blocks.{told_inside}
+use Rattle.shm_steps.proofs.{BeginWords.known_here, Covering.tag_told, Reaching.look_reached, Words.Blocks.told_inside}
 use Rattle.shm_ref.specs.Lefts.{MayDrop}
 
 -- ---- when reading may begin

@@ -1,27 +1,15 @@
 -- giving back a latch as a plan: its control, what is known before each word step, and what is left
 pub mod Laws
 use Rattle.std.specs.Prelude.{◌≡◌, ℕ, ◌+◌, ◌-◌, ◌%◌, ◌<◌, Bool, true, false, Option, None, Some, List, [], ◌∷◌}
-use Rattle.shm_words.specs.declared.place.Place.TheVariants as place
 use Rattle.shm_words.specs.Layout.{GeometryFits, address}
-use Rattle.shm_graph.specs.declared.ask.Ask.{Ask}
+use Rattle.shm_words.specs.declared.place.Place.TheVariants as place
+use Rattle.shm_graph.specs.declared.{ask.{Ask.Ask, Me.Me}, memo.{Memo.Memo, Op.TheVariants.Nothing}}
+use Rattle.shm_graph.specs.{Asks.{Trail, pair}, Events.Event, Reach.unlatched, Core.core}
 use Rattle.shm_graph.specs.declared.ask.Ask.TheVariants as ask
-use Rattle.shm_graph.specs.declared.ask.Me.{Me}
-use Rattle.shm_graph.specs.declared.memo.Memo.{Memo}
-use Rattle.shm_graph.specs.declared.memo.Op.TheVariants.{Nothing}
-use Rattle.shm_graph.specs.Asks.{Trail, pair}
-use Rattle.shm_graph.specs.Events.{Event}
-use Rattle.shm_graph.specs.Reach.{unlatched}
 use Rattle.shm_steps.specs.Conditions.{IsHere}
-use Rattle.shm_calls.specs.declared.word.Word.{Word}
-use Rattle.shm_calls.specs.Parts.{Part}
-use Rattle.shm_calls.specs.Plans.{Planned}
-use Rattle.shm_calls.specs.Words.{word_part}
-use Rattle.shm_graph.specs.Core.{core}
-use Rattle.shm_ref.specs.declared.release.ReleasePoint.{ReleasePoint}
-use Rattle.shm_ref.specs.declared.release.ReleasePoint.TheVariants.{Whose, Give, Back}
-use Rattle.shm_ref.specs.declared.release.ReleaseState.{ReleaseState}
-use Rattle.shm_ref.specs.AskedParts.{asked_part}
-use Rattle.shm_ref.specs.Hold.{wants}
+use Rattle.shm_calls.specs.{declared.word.Word.Word, Parts.Part, Plans.Planned, Words.word_part, Steering.Steered}
+use Rattle.shm_ref.specs.declared.release.ReleasePoint.{ReleasePoint, TheVariants.{Whose, Give, Back}}
+use Rattle.shm_ref.specs.{declared.release.ReleaseState.ReleaseState, AskedParts.asked_part, Hold.wants}
 
 -- ---- the control
 
@@ -112,8 +100,8 @@ ReleaseFound m Back r n x = (core x ≡ core (wants m.me.who 0 r)) × (n ≡ 0)
 abbrev pub release_part : ReleaseState → ReleasePoint → Part Word ℕ
 release_part m y = asked_part (word_part (is_whose y) m.me (release_ask m.me m.author y) (ReleaseFound m y))
 
-abbrev pub release_plan : Planned ReleaseState Word ℕ (Unit {0})
-release_plan =
+abbrev pub release_steered : Steered ReleaseState Word ℕ (Unit {0})
+release_steered =
     record {
       me = λ m. m.me;
       line = λ m. [];
@@ -122,6 +110,12 @@ release_plan =
       call = λ m. release_call m m.point;
       after = λ m. release_after m m.point;
       turns = λ m n. release_turns m.point;
+    }
+
+abbrev pub release_plan : Planned ReleaseState Word ℕ (Unit {0})
+release_plan =
+    record {
+      steered = release_steered;
       part = λ m. release_part m m.point;
       knows = λ m. ReleaseKnows m m.point;
       leaves = λ m r0 r tr es done. Released m.me r0 r tr es;

@@ -1,21 +1,13 @@
 -- what a root names, as a plan of one word step
 pub mod Laws
 use Rattle.std.specs.Prelude.{◌≡◌, ℕ, ◌%◌, ◌^◌, ◌<◌, true, false, Some, List, [], ◌∷◌}
-use Rattle.shm_words.specs.declared.place.Place.TheVariants as place
 use Rattle.shm_words.specs.Layout.{GeometryFits, address, address_limit}
-use Rattle.shm_graph.specs.declared.ask.Ask.{Ask}
-use Rattle.shm_graph.specs.declared.ask.Ask.TheVariants.{Load}
-use Rattle.shm_graph.specs.declared.ask.Me.{Me}
-use Rattle.shm_graph.specs.declared.memo.Memo.{Memo}
-use Rattle.shm_graph.specs.Asks.{Trail, pair}
-use Rattle.shm_graph.specs.Events.{Event}
-use Rattle.shm_calls.specs.declared.word.Word.{Word}
-use Rattle.shm_calls.specs.Plans.{Planned}
+use Rattle.shm_words.specs.declared.place.Place.TheVariants as place
+use Rattle.shm_graph.specs.{declared.{ask.{Ask.{Ask, TheVariants.Load}, Me.Me}, memo.Memo.Memo}, Asks.{Trail, pair}}
+use Rattle.shm_graph.specs.{Events.Event, Core.core}
+use Rattle.shm_calls.specs.{declared.word.Word.Word, Plans.Planned, Steering.Steered}
 use Rattle.shm_count.specs.Roots.{root_word}
-use Rattle.shm_graph.specs.Core.{core}
-use Rattle.shm_ref.specs.declared.root_of.NamingState.{NamingState}
-use Rattle.shm_ref.specs.AskedParts.{asked_part}
-use Rattle.shm_ref.specs.Lefts.{MayDrop}
+use Rattle.shm_ref.specs.{declared.root_of.NamingState.NamingState, AskedParts.asked_part, Lefts.MayDrop}
 use Rattle.shm_ref.specs.RootParts.{load_part}
 
 -- before its word step
@@ -46,8 +38,8 @@ pub record Named (me : Me) (k : ℕ) (r0 r : Memo) (tr : Trail) (es : List Event
   pub none : es ≡ []
   pub trail : tr ≡ pair (naming_ask me k) b ∷ []
 
-abbrev pub naming_plan : Planned NamingState Word ℕ ℕ
-naming_plan =
+abbrev pub naming_steered : Steered NamingState Word ℕ ℕ
+naming_steered =
     record {
       me = λ m. m.me;
       line = λ m. [];
@@ -56,6 +48,12 @@ naming_plan =
       call = λ m. record { me = m.me; ask = naming_ask m.me m.root; over = false };
       after = λ m n. m;
       turns = λ m n. Some (n % address_limit);
+    }
+
+abbrev pub naming_plan : Planned NamingState Word ℕ ℕ
+naming_plan =
+    record {
+      steered = naming_steered;
       part = λ m. asked_part (load_part m.me m.root true);
       knows = λ m. IsNaming m.me m.root;
       leaves = λ m. Named m.me m.root;

@@ -1,28 +1,17 @@
 -- the load of an own root as a part, the block that a root names, and the step down at it
-use Rattle.std.proofs.Common.{◌≡◌, ◌≢◌, ℕ, ◌+◌, ◌^◌, ◌<◌, refl, sym, arith, Bool, false}
-use Rattle.std.proofs.lemmas.Bool.{true≢false}
-use Rattle.shm_words.specs.declared.place.Place.TheVariants as place
+use Rattle.std.proofs.{Common.{◌≡◌, ◌≢◌, ℕ, ◌+◌, ◌^◌, ◌<◌, refl, sym, arith, Bool, false}, lemmas.Bool.true≢false}
 use Rattle.shm_words.specs.Layout.{address}
+use Rattle.shm_words.specs.declared.place.Place.TheVariants as place
+use Rattle.shm_graph.specs.declared.{ask.Me.Me, spot.Spot.TheVariants.{Root, Era}, memo.Memo.Memo}
+use Rattle.shm_graph.specs.{declared.memo.Op.TheVariants.Nothing, Views.own_word}
 use Rattle.shm_graph.specs.declared.ask.Ask.TheVariants as ask
-use Rattle.shm_graph.specs.declared.ask.Me.{Me}
-use Rattle.shm_graph.specs.declared.spot.Spot.TheVariants.{Root, Era}
-use Rattle.shm_graph.specs.declared.memo.Memo.{Memo}
-use Rattle.shm_graph.specs.declared.memo.Op.TheVariants.{Nothing}
-use Rattle.shm_graph.specs.Views.{own_word}
-use Rattle.shm_calls.specs.declared.word.Word.{Word}
-use Rattle.shm_calls.specs.Parts.{IsHeld, Part}
-use Rattle.shm_calls.specs.Words.{word_part}
+use Rattle.shm_calls.specs.{declared.word.Word.Word, Parts.{IsHeld, Part}, Words.word_part}
 use Rattle.shm_steps.specs.WordParts.{OwnLoaded}
-use Rattle.shm_steps.proofs.Reaching.{root_reached}
-use Rattle.shm_steps.proofs.Words.Own.{root_load}
-use Rattle.shm_count.specs.declared.point.Aim.TheVariants.{Down}
-use Rattle.shm_count.specs.Roots.{root_step, root_word}
-use Rattle.shm_count.specs.Slots.{MayStepAt}
-use Rattle.shm_count.specs.Step.Control.{IsInside}
-use Rattle.shm_count.specs.Step.{CanStep}
+use Rattle.shm_steps.proofs.{Reaching.root_reached, Words.Own.root_load}
+use Rattle.shm_count.specs.{declared.point.Aim.TheVariants.Down, Roots.{root_step, root_word}, Slots.MayStepAt}
+use Rattle.shm_count.specs.Step.{Control.IsInside, CanStep}
 use Rattle.shm_count.proofs.RootSpots.{fits_root, root_can}
-use Rattle.shm_ref.specs.CountedBlocks.{IsCounted, reached_counted}
-use Rattle.shm_ref.specs.Lefts.{MayDrop}
+use Rattle.shm_ref.specs.{CountedBlocks.{IsCounted, reached_counted}, Lefts.MayDrop}
 
 -- ---- the load
 

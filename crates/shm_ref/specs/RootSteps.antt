@@ -1,31 +1,18 @@
 -- count steps at an own root as plans of one call: what they are, and when they may begin
 pub mod Laws
 use Rattle.std.specs.Prelude.{◌≡◌, ◌≢◌, ℕ, ◌<◌, Bool, true, false, List, Result}
-use Rattle.shm_words.specs.declared.place.Place.TheVariants as place
 use Rattle.shm_words.specs.Layout.{GeometryFits, address, address_limit}
-use Rattle.shm_graph.specs.declared.ask.Me.{Me}
-use Rattle.shm_graph.specs.declared.memo.Memo.{Memo}
-use Rattle.shm_graph.specs.declared.spot.Spot.TheVariants.{Root}
-use Rattle.shm_graph.specs.Agents.{recovers}
-use Rattle.shm_graph.specs.Asks.{Trail}
-use Rattle.shm_graph.specs.Events.{Event}
-use Rattle.shm_graph.specs.Reach.{is_reached}
-use Rattle.shm_calls.specs.Parts.{Part}
-use Rattle.shm_calls.specs.Plans.{Planned}
-use Rattle.shm_count.specs.declared.answer.EraSpent.{EraSpent}
-use Rattle.shm_count.specs.declared.answer.UpFault.{UpFault}
-use Rattle.shm_count.specs.declared.point.Aim.{Aim}
-use Rattle.shm_count.specs.declared.point.Aim.TheVariants.{Up, Down, Change}
-use Rattle.shm_count.specs.declared.point.StepPoint.TheVariants.{Era}
-use Rattle.shm_count.specs.declared.point.StepState.{StepState}
-use Rattle.shm_count.specs.Roots.{root_word}
-use Rattle.shm_count.specs.Slots.Parts.{change_slot_part, down_slot_part, up_slot_part}
-use Rattle.shm_count.specs.Slots.{StepLeft}
+use Rattle.shm_words.specs.declared.place.Place.TheVariants as place
+use Rattle.shm_graph.specs.{declared.{ask.Me.Me, memo.Memo.Memo, spot.Spot.TheVariants.Root}, Agents.recovers}
+use Rattle.shm_graph.specs.{Asks.Trail, Events.Event, Reach.is_reached}
+use Rattle.shm_calls.specs.{Parts.Part, Plans.Planned, Steering.Steered}
+use Rattle.shm_count.specs.declared.{answer.{EraSpent.EraSpent, UpFault.UpFault}, point.Aim.Aim}
+use Rattle.shm_count.specs.declared.point.{Aim.TheVariants.{Up, Down, Change}, StepPoint.TheVariants.Era}
+use Rattle.shm_count.specs.{declared.point.StepState.StepState, Roots.root_word}
+use Rattle.shm_count.specs.Slots.{Parts.{change_slot_part, down_slot_part, up_slot_part}, StepLeft}
 use Rattle.shm_count.specs.Step.Machines.{down_told, up_told}
-use Rattle.shm_ref.specs.declared.root_steps.ChangingState.{ChangingState}
-use Rattle.shm_ref.specs.declared.root_steps.LoweringState.{LoweringState}
-use Rattle.shm_ref.specs.declared.root_steps.RaisingState.{RaisingState}
-use Rattle.shm_ref.specs.Single.{single_plan}
+use Rattle.shm_ref.specs.declared.root_steps.{ChangingState.ChangingState, LoweringState.LoweringState}
+use Rattle.shm_ref.specs.{declared.root_steps.RaisingState.RaisingState, Single.{single_plan, single_steered}}
 
 -- the step with an aim at root k, before its first word step
 abbrev pub step_at : Me → ℕ → Aim → StepState
@@ -62,6 +49,9 @@ raise_part m = up_slot_part (Root m.me.who m.root) false
 abbrev pub RaiseLeaves : RaisingState → Memo → Memo → Trail → List Event → Result (Unit {0}) UpFault → Type 0
 RaiseLeaves m r0 r tr es a = StepLeft m.me (Up m.block) (Root m.me.who m.root) false r0 r tr es (up_told a)
 
+abbrev pub raising_steered : Steered RaisingState StepState (Result (Unit {0}) UpFault) (Result (Unit {0}) UpFault)
+raising_steered = single_steered raise_me raise_call
+
 abbrev pub raising_plan : Planned RaisingState StepState (Result (Unit {0}) UpFault) (Result (Unit {0}) UpFault)
 raising_plan = single_plan raise_me raise_call raise_part
 
@@ -95,6 +85,9 @@ lower_part m = down_slot_part (Root m.me.who m.root) false
 -- the step at the root leaves what its answer says
 abbrev pub LowerLeaves : LoweringState → Memo → Memo → Trail → List Event → Result Bool EraSpent → Type 0
 LowerLeaves m r0 r tr es a = StepLeft m.me (Down m.block) (Root m.me.who m.root) false r0 r tr es (down_told a)
+
+abbrev pub lowering_steered : Steered LoweringState StepState (Result Bool EraSpent) (Result Bool EraSpent)
+lowering_steered = single_steered lower_me lower_call
 
 abbrev pub lowering_plan : Planned LoweringState StepState (Result Bool EraSpent) (Result Bool EraSpent)
 lowering_plan = single_plan lower_me lower_call lower_part
@@ -130,6 +123,9 @@ change_part m = change_slot_part (Root m.me.who m.root) false
 -- the step at the root leaves what its answer says
 abbrev pub ChangeLeaves : ChangingState → Memo → Memo → Trail → List Event → Result Bool UpFault → Type 0
 ChangeLeaves m = StepLeft m.me (Change m.before m.after) (Root m.me.who m.root) false
+
+abbrev pub changing_steered : Steered ChangingState StepState (Result Bool UpFault) (Result Bool UpFault)
+changing_steered = single_steered change_me change_call
 
 abbrev pub changing_plan : Planned ChangingState StepState (Result Bool UpFault) (Result Bool UpFault)
 changing_plan = single_plan change_me change_call change_part

@@ -1,46 +1,25 @@
 -- roots, the home and reference words as operations: when they may begin between two calls
 use Rattle.std.proofs.Common.{◌≡◌, ◌≢◌, ℕ, ◌<◌, Bool, true, false, ◌==◌, nat_lt, List, [], refl, sym, ap, ◌∙◌, subst}
 use Rattle.std.specs.Prelude.{Result, Ok, Err, if◌then◌else◌, ◌∷◌, ◌++◌, ◌&&◌, not}
-use Rattle.shm_graph.specs.declared.memo.Memo.{Memo}
-use Rattle.shm_graph.specs.declared.spot.Spot.TheVariants.{Body, Hold, Home}
-use Rattle.shm_graph.specs.Agents.{recovers}
-use Rattle.shm_graph.specs.Asks.{Trail}
-use Rattle.shm_graph.specs.Core.{core}
-use Rattle.shm_graph.specs.Events.{Event}
-use Rattle.shm_graph.specs.Held.{is_loose}
-use Rattle.shm_graph.specs.Idle.{IsIdle, hold_word}
-use Rattle.shm_graph.specs.Reach.{is_reached, learnt}
-use Rattle.shm_graph.specs.MemoAfterRead.{home_read, is_held, values_read}
-use Rattle.shm_graph.specs.Views.{own_word}
+use Rattle.shm_graph.specs.{declared.{memo.Memo.Memo, spot.Spot.TheVariants.{Body, Hold, Home}}, Agents.recovers}
+use Rattle.shm_graph.specs.{Asks.Trail, Core.core, Events.Event, Held.is_loose, Idle.{IsIdle, hold_word}}
+use Rattle.shm_graph.specs.{Reach.{is_reached, learnt}, MemoAfterRead.{home_read, is_held, values_read}, Views.own_word}
 use Rattle.shm_graph.proofs.Idles.{idle_core}
 use Rattle.shm_calls.specs.Tasks.{IsNew, TaskLaws}
-use Rattle.shm_count.specs.declared.answer.EraSpent.{EraSpent}
-use Rattle.shm_count.specs.declared.point.Aim.TheVariants.{Up}
-use Rattle.shm_count.specs.Step.{KeepsPart}
-use Rattle.shm_count.specs.UpRoot.Laws.{reach_inside}
-use Rattle.shm_count.specs.Idles.{filled_idle, took_idle, untouched_idle, is_here}
-use Rattle.shm_ref.specs.declared.answer.HomeFault.{HomeFault}
-use Rattle.shm_ref.specs.declared.answer.HomeFault.TheVariants as home
-use Rattle.shm_ref.specs.declared.answer.SetFault.{SetFault}
-use Rattle.shm_ref.specs.declared.answer.SetFault.TheVariants as set
-use Rattle.shm_ref.specs.declared.drop_root.DropState.{DropState}
-use Rattle.shm_ref.specs.declared.drop_roots.RootsState.{RootsState}
-use Rattle.shm_ref.specs.declared.set_home.HomeState.{HomeState}
-use Rattle.shm_ref.specs.declared.set_ref.SetState.{SetState}
-use Rattle.shm_ref.specs.DropRoot.Control.{drop_parts, dropping}
-use Rattle.shm_ref.specs.DropRoot.{DropKnows, DropLeaves, drop_plan}
-use Rattle.shm_ref.specs.DropRoots.Control.{drop_root, dropping_roots}
-use Rattle.shm_ref.specs.DropRoots.Laws.{roots_begin}
-use Rattle.shm_ref.specs.DropRoots.{RootsKnows, RootsLeaves, roots_plan}
-use Rattle.shm_ref.specs.LatchTasks.{may_drop}
-use Rattle.shm_ref.specs.Lefts.{Left}
-use Rattle.shm_ref.specs.ReadParts.{latch_by, reached_room}
+use Rattle.shm_count.specs.{declared.{answer.EraSpent.EraSpent, point.Aim.TheVariants.Up}, Step.KeepsPart}
+use Rattle.shm_count.specs.{UpRoot.Laws.reach_inside, Idles.{filled_idle, took_idle, untouched_idle, is_here}}
+use Rattle.shm_ref.specs.declared.{answer.{HomeFault.HomeFault, SetFault.SetFault}, drop_root.DropState.DropState}
+use Rattle.shm_ref.specs.declared.{drop_roots.RootsState.RootsState, set_home.HomeState.HomeState}
+use Rattle.shm_ref.specs.{declared.set_ref.SetState.SetState, DropRoot.Control.{drop_parts, dropping}}
+use Rattle.shm_ref.specs.{DropRoot.{DropKnows, DropLeaves, drop_plan}, DropRoots.Control.{drop_root, dropping_roots}}
+use Rattle.shm_ref.specs.{DropRoots.{Laws.roots_begin, RootsKnows, RootsLeaves, roots_plan}, LatchTasks.may_drop}
+use Rattle.shm_ref.specs.{Lefts.Left, ReadParts.{latch_by, reached_room}}
 use Rattle.shm_ref.specs.SetHome.{HomeKnows, HomeLeaves, HomeStays, home_parts, home_plan, homing}
-use Rattle.shm_ref.specs.SetRef.Control.{set_parts, setting}
-use Rattle.shm_ref.specs.SetRef.Memos.{tag_seen, word_seen}
+use Rattle.shm_ref.specs.SetRef.{Control.{set_parts, setting}, Memos.{tag_seen, word_seen}}
 use Rattle.shm_ref.specs.SetRef.{SetDid, SetKnows, SetLeaves, SetSpent, SetStays, set_plan}
-use Rattle.shm_ref.specs.SetRef.SetDid.{Kept, Raised, Taken}
-use Rattle.shm_ref.specs.SetRef.SetSpent.{AtStep, AtTear}
+use Rattle.shm_ref.specs.SetRef.{SetDid.{Kept, Raised, Taken}, SetSpent.{AtStep, AtTear}}
+use Rattle.shm_ref.specs.declared.answer.HomeFault.TheVariants as home
+use Rattle.shm_ref.specs.declared.answer.SetFault.TheVariants as set
 
 -- ---- roots
 

@@ -2,44 +2,24 @@
 pub mod Laws
 use Rattle.std.specs.Prelude.{◌≡◌, ◌≢◌, ℕ, ◌+◌, ◌%◌, ◌^◌, ◌<◌, Bool, true, false, ◌==◌, if◌then◌else◌, Option, None, Some, Result, Ok, Err, List, [], ◌∷◌}
 use Rattle.shm_words.specs.Layout.{GeometryFits, address_limit}
+use Rattle.shm_graph.specs.declared.{ask.Me.Me, memo.{Memo.Memo, Op.TheVariants.Nothing}}
+use Rattle.shm_graph.specs.{declared.spot.Spot.TheVariants.{Era, Home}, Agents.recovers, Asks.{Trail, IsWithin}}
+use Rattle.shm_graph.specs.{Bounds.up_steps, Core.core, Events.Event, Laws.Control, Reach.is_reached}
+use Rattle.shm_graph.specs.{MemoAfterRead.home_read, Views.own_word}
 use Rattle.shm_graph.specs.declared.ask.Ask.TheVariants as ask
-use Rattle.shm_graph.specs.declared.ask.Me.{Me}
-use Rattle.shm_graph.specs.declared.memo.Memo.{Memo}
-use Rattle.shm_graph.specs.declared.memo.Op.TheVariants.{Nothing}
-use Rattle.shm_graph.specs.declared.spot.Spot.TheVariants.{Era, Home}
-use Rattle.shm_graph.specs.Agents.{recovers}
-use Rattle.shm_graph.specs.Asks.{Trail, IsWithin}
-use Rattle.shm_graph.specs.Bounds.{up_steps}
-use Rattle.shm_graph.specs.Core.{core}
-use Rattle.shm_graph.specs.Events.{Event}
 use Rattle.shm_graph.specs.Events as event
-use Rattle.shm_graph.specs.Laws.{Control}
-use Rattle.shm_graph.specs.Reach.{is_reached}
-use Rattle.shm_graph.specs.MemoAfterRead.{home_read}
-use Rattle.shm_graph.specs.Views.{own_word}
-use Rattle.shm_calls.specs.declared.or.Or.{Or}
-use Rattle.shm_calls.specs.declared.or.Or.TheVariants.{First, Second}
-use Rattle.shm_calls.specs.declared.word.Word.{Word}
-use Rattle.shm_calls.specs.Either.{or_control, or_part}
-use Rattle.shm_calls.specs.Plans.{Planned}
-use Rattle.shm_calls.specs.Words.{word_control}
+use Rattle.shm_calls.specs.declared.{or.Or.{Or, TheVariants.{First, Second}}, word.Word.Word}
+use Rattle.shm_calls.specs.{Either.{or_control, or_part}, Plans.Planned, Words.word_control, Steering.Steered}
 use Rattle.shm_steps.specs.Conditions.{IsHere}
-use Rattle.shm_count.specs.declared.answer.UpFault.{UpFault}
-use Rattle.shm_count.specs.declared.answer.UpFault.TheVariants.{EraSpent, CountFull}
-use Rattle.shm_count.specs.declared.point.Aim.TheVariants.{Up}
+use Rattle.shm_count.specs.declared.answer.UpFault.{UpFault, TheVariants.{EraSpent, CountFull}}
+use Rattle.shm_count.specs.declared.point.{Aim.TheVariants.Up, StepState.StepState}
+use Rattle.shm_count.specs.{Slots.{Filled, StepCause, Untouched, Parts.up_slot_part}, Step.Control.IsInside}
+use Rattle.shm_count.specs.Step.{KeepsPart, Machines.up_control}
 use Rattle.shm_count.specs.declared.point.StepPoint.TheVariants as point
-use Rattle.shm_count.specs.declared.point.StepState.{StepState}
-use Rattle.shm_count.specs.Slots.{Filled, StepCause, Untouched}
-use Rattle.shm_count.specs.Slots.Parts.{up_slot_part}
-use Rattle.shm_count.specs.Step.Control.{IsInside}
-use Rattle.shm_count.specs.Step.{KeepsPart}
-use Rattle.shm_count.specs.Step.Machines.{up_control}
-use Rattle.shm_ref.specs.declared.answer.HomeFault.{HomeFault}
-use Rattle.shm_ref.specs.declared.answer.HomeFault.TheVariants as fault
-use Rattle.shm_ref.specs.declared.set_home.HomePoint.{HomePoint}
-use Rattle.shm_ref.specs.declared.set_home.HomePoint.TheVariants.{Load, Raise}
-use Rattle.shm_ref.specs.declared.set_home.HomeState.{HomeState}
+use Rattle.shm_ref.specs.declared.{answer.HomeFault.HomeFault, set_home.HomePoint.HomePoint}
+use Rattle.shm_ref.specs.declared.set_home.{HomePoint.TheVariants.{Load, Raise}, HomeState.HomeState}
 use Rattle.shm_ref.specs.HomeParts.{home_address, home_part}
+use Rattle.shm_ref.specs.declared.answer.HomeFault.TheVariants as fault
 
 -- ---- the control
 
@@ -140,8 +120,8 @@ HomeLeaves m r0 r tr es (Err f) = HomeRefused m.me m.block r0 r tr es f
 
 -- ---- the plan
 
-abbrev pub home_plan : Planned HomeState HomeCall HomeAnswer (Result (Unit {0}) HomeFault)
-home_plan =
+abbrev pub home_steered : Steered HomeState HomeCall HomeAnswer (Result (Unit {0}) HomeFault)
+home_steered =
     record {
       me = λ m. m.me;
       line = λ m. [];
@@ -150,6 +130,12 @@ home_plan =
       call = λ m. home_call_at m m.point;
       after = home_after;
       turns = home_turns;
+    }
+
+abbrev pub home_plan : Planned HomeState HomeCall HomeAnswer (Result (Unit {0}) HomeFault)
+home_plan =
+    record {
+      steered = home_steered;
       part = λ m. or_part (home_part m.me (is_load m.point)) (up_slot_part (Home m.me.who) false);
       knows = λ m. HomeKnows m m.point;
       leaves = HomeLeaves;

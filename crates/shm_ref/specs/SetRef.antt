@@ -6,45 +6,26 @@ pub mod Laws
 pub mod Told
 use Rattle.std.specs.Prelude.{◌≡◌, ◌≢◌, ℕ, zero, suc, ◌+◌, ◌^◌, ◌<◌, ◌≤◌, true, false, ◌⊎◌, Some, Result, Ok, Err, List, [], ◌∷◌, ◌++◌, length, Bool}
 use Rattle.std.specs.List.{Contains}
-use Rattle.shm_words.specs.Layout.{GeometryFits, total_of}
-use Rattle.shm_words.specs.Tags.{tag_author, tag_refs}
-use Rattle.shm_graph.specs.declared.ask.Me.{Me}
-use Rattle.shm_graph.specs.declared.memo.Memo.{Memo}
-use Rattle.shm_graph.specs.declared.memo.Op.TheVariants.{Nothing}
-use Rattle.shm_graph.specs.declared.spot.Spot.{Spot}
+use Rattle.shm_words.specs.{Layout.{GeometryFits, total_of}, Tags.{tag_author, tag_refs}}
+use Rattle.shm_graph.specs.declared.{ask.Me.Me, memo.{Memo.Memo, Op.TheVariants.Nothing}, spot.Spot.Spot}
+use Rattle.shm_graph.specs.{Agents.recovers, Asks.{Trail, IsWithin}, Bounds.{change_steps, tear_steps}, Core.core}
+use Rattle.shm_graph.specs.{Events.Event, Held.is_loose, Reach.is_reached, Views.own_word}
 use Rattle.shm_graph.specs.declared.spot.Spot.TheVariants as spot
-use Rattle.shm_graph.specs.Agents.{recovers}
-use Rattle.shm_graph.specs.Asks.{Trail, IsWithin}
-use Rattle.shm_graph.specs.Bounds.{change_steps, tear_steps}
-use Rattle.shm_graph.specs.Core.{core}
-use Rattle.shm_graph.specs.Events.{Event}
 use Rattle.shm_graph.specs.Events as event
-use Rattle.shm_graph.specs.Held.{is_loose}
-use Rattle.shm_graph.specs.Reach.{is_reached}
-use Rattle.shm_graph.specs.Views.{own_word}
-use Rattle.shm_calls.specs.declared.word.Word.{Word}
-use Rattle.shm_calls.specs.Either.{or_part}
-use Rattle.shm_calls.specs.Parts.{IsHeld, Part}
-use Rattle.shm_calls.specs.Plans.{Planned}
+use Rattle.shm_calls.specs.{declared.word.Word.Word, Either.or_part, Parts.{IsHeld, Part}, Plans.Planned}
 use Rattle.shm_calls.specs.Words.{word_part}
-use Rattle.shm_steps.specs.Conditions.{IsHere}
-use Rattle.shm_steps.specs.WordParts.{OwnLoaded, ReferenceLoaded, WordLoaded, as_known}
-use Rattle.shm_count.specs.declared.answer.UpFault.TheVariants.{EraSpent}
-use Rattle.shm_count.specs.declared.point.Aim.{Aim}
-use Rattle.shm_count.specs.declared.point.Aim.TheVariants as aims
-use Rattle.shm_count.specs.CountParts.{tear_part}
-use Rattle.shm_count.specs.Lowering.{StoppedAt}
-use Rattle.shm_count.specs.Slots.{Filled, Lost, StepCause, Took, Untouched}
-use Rattle.shm_count.specs.Slots.Parts.{change_slot_part, down_slot_part, up_slot_part}
-use Rattle.shm_count.specs.Step.Control.{IsInside}
+use Rattle.shm_steps.specs.{Conditions.IsHere, WordParts.{OwnLoaded, ReferenceLoaded, WordLoaded, as_known}}
+use Rattle.shm_count.specs.{declared.{answer.UpFault.TheVariants.EraSpent, point.Aim.Aim}, CountParts.tear_part}
+use Rattle.shm_count.specs.{Lowering.StoppedAt, Slots.{Filled, Lost, StepCause, Took, Untouched}}
+use Rattle.shm_count.specs.{Slots.Parts.{change_slot_part, down_slot_part, up_slot_part}, Step.Control.IsInside}
 use Rattle.shm_count.specs.Tear.Events.{Visit, Walks, frees}
-use Rattle.shm_ref.specs.declared.answer.SetFault.{SetFault}
-use Rattle.shm_ref.specs.declared.answer.SetFault.TheVariants as fault
-use Rattle.shm_ref.specs.declared.set_ref.SetPoint.{SetPoint}
+use Rattle.shm_count.specs.declared.point.Aim.TheVariants as aims
+use Rattle.shm_ref.specs.declared.{answer.SetFault.SetFault, set_ref.SetPoint.SetPoint}
 use Rattle.shm_ref.specs.declared.set_ref.SetPoint.TheVariants.{Tag, Held, Look, Raise, Lower, Change, Tear}
 use Rattle.shm_ref.specs.declared.set_ref.SetState.{SetState}
-use Rattle.shm_ref.specs.SetRef.Control.{SetCall, SetAnswer, is_tag, set_after, set_ask, set_call_at, set_turns}
+use Rattle.shm_ref.specs.SetRef.Control.{SetCall, SetAnswer, is_tag, set_ask, set_steered}
 use Rattle.shm_ref.specs.SetRef.Memos.{tag_seen, word_seen}
+use Rattle.shm_ref.specs.declared.answer.SetFault.TheVariants as fault
 
 -- ---- when it may begin
 
@@ -207,13 +188,7 @@ set_word_part m y = word_part (is_tag y) m.me (set_ask m y) (set_found m y)
 abbrev pub set_plan : Planned SetState SetCall SetAnswer (Result (Unit {0}) SetFault)
 set_plan =
     record {
-      me = λ m. m.me;
-      line = λ m. [];
-      first = λ m. is_tag m.point;
-      start = λ m. record m { before = 0; point = Tag };
-      call = λ m. set_call_at m m.point;
-      after = set_after;
-      turns = set_turns;
+      steered = set_steered;
       part = λ m. let p = spot.Body m.block m.word in or_part (set_word_part m m.point) (or_part (or_part (up_slot_part p false) (down_slot_part p false)) (or_part (change_slot_part p false) tear_part));
       knows = λ m. SetKnows m m.point;
       leaves = SetLeaves;

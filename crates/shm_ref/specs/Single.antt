@@ -1,16 +1,23 @@
 -- plans of one call, which answer what it answers
 use Rattle.std.proofs.Common.{◌≡◌, true, false, List, [], ◌++◌, refl, sym, subst}
 use Rattle.std.specs.Prelude.{Some}
-use Rattle.shm_graph.specs.declared.ask.Me.{Me}
-use Rattle.shm_graph.specs.declared.memo.Memo.{Memo}
-use Rattle.shm_graph.specs.Asks.{Trail}
-use Rattle.shm_graph.specs.Events.{Event}
-use Rattle.shm_graph.specs.Idle.{IsIdle}
-use Rattle.shm_graph.specs.Laws.{Control}
+use Rattle.shm_graph.specs.{declared.{ask.Me.Me, memo.Memo.Memo}, Asks.Trail, Events.Event, Idle.IsIdle, Laws.Control}
 use Rattle.shm_graph.specs.Operations.{IsReady}
-use Rattle.shm_calls.specs.Parts.{Part, PartLaws}
-use Rattle.shm_calls.specs.Plans.{PlanLaws, Planned}
-use Rattle.shm_calls.specs.Tasks.{TaskLaws}
+use Rattle.shm_calls.specs.{Parts.{Part, PartLaws}, Plans.{PlanLaws, Planned}, Tasks.TaskLaws, Steering.Steered}
+
+module _ {P C A : Type 0} (me : P → Me) (call : P → C) where
+  -- what it does
+  abbrev pub single_steered : Steered P C A A
+  single_steered =
+      record {
+        me = me;
+        line = λ p. [];
+        first = λ p. true;
+        start = λ p. p;
+        call = call;
+        after = λ p a. p;
+        turns = λ p a. Some a;
+      }
 
 module _ {P C A : Type 0} (me : P → Me) (call : P → C) (part : P → Part C A) where
   -- nothing was done yet, and the memo shows what the call needs
@@ -20,13 +27,7 @@ module _ {P C A : Type 0} (me : P → Me) (call : P → C) (part : P → Part C 
   abbrev pub single_plan : Planned P C A A
   single_plan =
       record {
-        me = me;
-        line = λ p. [];
-        first = λ p. true;
-        start = λ p. p;
-        call = call;
-        after = λ p a. p;
-        turns = λ p a. Some a;
+        steered = single_steered me call;
         part = part;
         knows = SingleKnows;
         leaves = λ p. (part p).leaves (call p);

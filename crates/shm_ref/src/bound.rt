@@ -1,37 +1,19 @@
 //! How many word steps machines over latches and roots make.
 
 ghost use Rattle.std.specs.Prelude.{◌≡◌, ℕ, ◌+◌, ◌*◌, Bool, Result, Ok, Err, List, length};
-ghost use Rattle.shm_graph.specs.declared.ask.Me.{Me as AMe};
-ghost use Rattle.shm_graph.specs.declared.memo.Memo.{Memo as AMemo};
-ghost use Rattle.shm_graph.specs.Asks.{Trail, IsWithin};
-ghost use Rattle.shm_graph.specs.Bounds.{redo_steps, tear_steps, up_steps, change_steps};
-ghost use Rattle.shm_count.specs.declared.answer.EraSpent.{EraSpent as ASpent};
-ghost use Rattle.shm_count.specs.declared.answer.ShareFault.{ShareFault as AShareFault};
+ghost use Rattle.shm_graph.specs.{declared.{ask.Me.Me as AMe, memo.Memo.Memo as AMemo}, Asks.{Trail, IsWithin}};
+ghost use Rattle.shm_graph.specs.{Bounds.{redo_steps, tear_steps, up_steps, change_steps}, Events.Event as AnEvent};
+ghost use Rattle.shm_count.specs.declared.answer.{EraSpent.EraSpent as ASpent, ShareFault.ShareFault as AShareFault};
+ghost use Rattle.shm_count.specs.{Tear.Events.{Visit, frees}, UpRoot.UpRootLeaves};
 ghost use Rattle.shm_count.specs.declared.answer.ShareFault.TheVariants as share;
-ghost use Rattle.shm_count.specs.Tear.Events.{Visit, frees};
-ghost use Rattle.shm_ref.specs.declared.answer.Busy.{Busy as ABusy};
-ghost use Rattle.shm_ref.specs.declared.answer.LookFault.TheVariants.{NoSuchRef, NotHeld};
-ghost use Rattle.shm_ref.specs.declared.answer.NoSuchWord.{NoSuchWord as ANoSuchWord};
-ghost use Rattle.shm_ref.specs.declared.answer.NotHeld.{NotHeld as ANotHeld};
-ghost use Rattle.shm_ref.specs.Lefts.{Stopped};
-ghost use Rattle.shm_ref.specs.declared.answer.HomeFault.{HomeFault as AHomeFault};
-ghost use Rattle.shm_ref.specs.SetHome.{HomeLeaves, homing};
-ghost use Rattle.shm_ref.specs.declared.answer.SetFault.{SetFault as ASetFault};
-ghost use Rattle.shm_ref.specs.SetRef.Control.{setting};
-ghost use Rattle.shm_ref.specs.SetRef.{SetLeaves, SetStays};
-ghost use Rattle.shm_graph.specs.Events.{Event as AnEvent};
-ghost use Rattle.shm_ref.specs.DropRoot.{DropLeaves};
-ghost use Rattle.shm_ref.specs.DropRoot.Control.{dropping};
-ghost use Rattle.shm_ref.specs.DropRoots.{RootsLeaves};
-ghost use Rattle.shm_ref.specs.DropRoots.Control.{dropping_roots};
-ghost use Rattle.shm_ref.specs.Hold.{HoldLeaves};
-ghost use Rattle.shm_ref.specs.Hold.Control.{holding};
-ghost use Rattle.shm_ref.specs.Release.{Released};
-ghost use Rattle.shm_ref.specs.RootOf.{Named};
-ghost use Rattle.shm_count.specs.UpRoot.{UpRootLeaves};
-ghost use Rattle.shm_ref.specs.HomeOf.{HomeLeaves as HomeOfLeaves, finding};
-ghost use Rattle.shm_ref.specs.Look.{LookLeaves, looking};
-ghost use Rattle.shm_ref.specs.Read.{ReadLeaves, reading};
+ghost use Rattle.shm_ref.specs.declared.answer.{Busy.Busy as ABusy, LookFault.TheVariants.{NoSuchRef, NotHeld}};
+ghost use Rattle.shm_ref.specs.declared.answer.{NoSuchWord.NoSuchWord as ANoSuchWord, NotHeld.NotHeld as ANotHeld};
+ghost use Rattle.shm_ref.specs.declared.answer.{HomeFault.HomeFault as AHomeFault, SetFault.SetFault as ASetFault};
+ghost use Rattle.shm_ref.specs.{Lefts.Stopped, SetHome.{HomeLeaves, homing}, SetRef.Control.setting};
+ghost use Rattle.shm_ref.specs.{SetRef.{SetLeaves, SetStays}, DropRoot.{DropLeaves, Control.dropping}};
+ghost use Rattle.shm_ref.specs.{DropRoots.{RootsLeaves, Control.dropping_roots}, Hold.{HoldLeaves, Control.holding}};
+ghost use Rattle.shm_ref.specs.{Release.Released, RootOf.Named, HomeOf.{HomeLeaves as HomeOfLeaves, finding}};
+ghost use Rattle.shm_ref.specs.{Look.{LookLeaves, looking}, Read.{ReadLeaves, reading}};
 
 /// A drop of a root took at most 9 word steps and 164 for each block that it freed or left on the way, in format 2 10 and 180, and three
 /// more for each exchange that failed.

@@ -2,9 +2,7 @@
 
 ghost use Rattle.std.specs.Prelude.{◌≡◌, ◌<◌};
 ghost use Rattle.shm_words.specs.Layout.{GeometryFits};
-ghost use Rattle.shm_ref.specs.DropRoots.Control.{dropping_roots};
-ghost use Rattle.shm_ref.specs.DropRoots.{roots_plan};
-ghost use Rattle.shm_ref.specs.DropRoots.Laws.{roots_laws};
+ghost use Rattle.shm_ref.specs.DropRoots.{Control.dropping_roots, roots_plan, Laws.roots_laws};
 ghost use Rattle.shm_ref.specs.RootTasks.{RootsMay, roots_task};
 
 use crate::drop_root::DropRoot;

@@ -2,10 +2,7 @@
 
 ghost use Rattle.std.specs.Prelude.{◌≡◌, ◌<◌};
 ghost use Rattle.shm_words.specs.Layout.{GeometryFits};
-ghost use Rattle.shm_ref.specs.Hold.Control.{holding};
-ghost use Rattle.shm_ref.specs.Hold.{hold_plan};
-ghost use Rattle.shm_ref.specs.Hold.Laws.{hold_laws};
-ghost use Rattle.shm_ref.specs.LatchTasks.{HoldMay, hold_task};
+ghost use Rattle.shm_ref.specs.{Hold.{Control.holding, hold_plan, Laws.hold_laws}, LatchTasks.{HoldMay, hold_task}};
 
 use crate::answer::Busy;
 use shm_calls::{Plan, Task, Word};

@@ -2,44 +2,22 @@
 
 ghost use Rattle.std.specs.Prelude.{◌≡◌, ◌≢◌, ◌==◌, ℕ, ◌<◌, Bool, true, not, None, Some, Result, IfOk, IfErr, List, []};
 ghost use Rattle.std.specs.List.{Contains};
-ghost use Rattle.shm_graph.specs.declared.ask.Me.{Me as AMe};
-ghost use Rattle.shm_graph.specs.declared.memo.Memo.{Memo as AMemo};
-ghost use Rattle.shm_graph.specs.declared.spot.Spot.TheVariants.{Body, Home};
-ghost use Rattle.shm_graph.specs.Asks.{Trail};
-ghost use Rattle.shm_graph.specs.Core.{core};
-ghost use Rattle.shm_graph.specs.Events.{Event as AnEvent};
-ghost use Rattle.shm_graph.specs.Held.{is_loose};
-ghost use Rattle.shm_graph.specs.Idle.{IsIdle};
-ghost use Rattle.shm_graph.specs.Reach.{is_named, is_reached};
+ghost use Rattle.shm_graph.specs.declared.{ask.Me.Me as AMe, memo.Memo.Memo as AMemo};
+ghost use Rattle.shm_graph.specs.{declared.spot.Spot.TheVariants.{Body, Home}, Asks.Trail, Core.core};
+ghost use Rattle.shm_graph.specs.{Events.Event as AnEvent, Held.is_loose, Idle.IsIdle, Reach.{is_named, is_reached}};
 ghost use Rattle.shm_graph.specs.Views.{own_word};
-ghost use Rattle.shm_count.specs.declared.answer.EraSpent.{EraSpent as ASpent};
-ghost use Rattle.shm_count.specs.declared.answer.ShareFault.{ShareFault as AShareFault};
-ghost use Rattle.shm_count.specs.declared.answer.UpFault.{UpFault as AnUpFault};
-ghost use Rattle.shm_count.specs.Roots.{AreRootsReached, root_word};
-ghost use Rattle.shm_count.specs.Tear.Memos.{Knows};
-ghost use Rattle.shm_count.specs.UpRoot.{UpRootLeaves};
-ghost use Rattle.shm_count.specs.Waiting.{LeavesQueues, LeavesWaiting};
-ghost use Rattle.shm_ref.specs.declared.answer.Busy.{Busy as ABusy};
-ghost use Rattle.shm_ref.specs.declared.answer.HomeFault.{HomeFault as AHomeFault};
+ghost use Rattle.shm_count.specs.declared.answer.{EraSpent.EraSpent as ASpent, ShareFault.ShareFault as AShareFault};
+ghost use Rattle.shm_count.specs.{declared.answer.UpFault.UpFault as AnUpFault, Roots.{AreRootsReached, root_word}};
+ghost use Rattle.shm_count.specs.{Tear.Memos.Knows, UpRoot.UpRootLeaves, Waiting.{LeavesQueues, LeavesWaiting}};
+ghost use Rattle.shm_ref.specs.declared.answer.{Busy.Busy as ABusy, HomeFault.HomeFault as AHomeFault};
 ghost use Rattle.shm_ref.specs.declared.answer.LookFault.{LookFault as ALookFault};
-ghost use Rattle.shm_ref.specs.declared.answer.NoSuchWord.{NoSuchWord as ANoSuchWord};
-ghost use Rattle.shm_ref.specs.declared.answer.NotHeld.{NotHeld as ANotHeld};
-ghost use Rattle.shm_ref.specs.declared.answer.SetFault.{SetFault as ASetFault};
-ghost use Rattle.shm_ref.specs.DropRoot.Control.{dropping};
-ghost use Rattle.shm_ref.specs.DropRoot.{DropLeaves};
-ghost use Rattle.shm_ref.specs.Hold.Control.{holding};
-ghost use Rattle.shm_ref.specs.Hold.{HoldLeaves};
-ghost use Rattle.shm_ref.specs.HomeOf.{HomeLeaves as HomeOfLeaves, finding};
-ghost use Rattle.shm_ref.specs.Look.{LookLeaves, looking};
-ghost use Rattle.shm_ref.specs.OnlyRead.{OnlyRead};
-ghost use Rattle.shm_ref.specs.Read.{ReadLeaves, reading};
-ghost use Rattle.shm_ref.specs.Release.{Released};
-ghost use Rattle.shm_ref.specs.RootOf.{Named};
+ghost use Rattle.shm_ref.specs.declared.answer.{NoSuchWord.NoSuchWord as ANoSuchWord, NotHeld.NotHeld as ANotHeld};
+ghost use Rattle.shm_ref.specs.{declared.answer.SetFault.SetFault as ASetFault, DropRoot.Control.dropping};
+ghost use Rattle.shm_ref.specs.{DropRoot.DropLeaves, Hold.{Control.holding, HoldLeaves}};
+ghost use Rattle.shm_ref.specs.{HomeOf.{HomeLeaves as HomeOfLeaves, finding}, Look.{LookLeaves, looking}};
+ghost use Rattle.shm_ref.specs.{OnlyRead.OnlyRead, Read.{ReadLeaves, reading}, Release.Released, RootOf.Named};
 ghost use Rattle.shm_ref.specs.RootSteps.{ChangeLeaves, LowerLeaves, RaiseLeaves, changing, lowering, raising};
-ghost use Rattle.shm_ref.specs.SetHome.{HomeLeaves, homing};
-ghost use Rattle.shm_ref.specs.SetRef.Control.{setting};
-ghost use Rattle.shm_ref.specs.SetRef.Told.{SetTold};
-ghost use Rattle.shm_ref.specs.SetRef.{SetLeaves};
+ghost use Rattle.shm_ref.specs.{SetHome.{HomeLeaves, homing}, SetRef.{Control.setting, Told.SetTold, SetLeaves}};
 
 /// A latch that was asked for is held where that was done, and none is where it was refused, if none was. Its roots, what is in reach, the
 /// zero-count blocks and what waits in queues are what they were.

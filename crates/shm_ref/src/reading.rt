@@ -2,20 +2,13 @@
 
 ghost use Rattle.std.specs.Prelude.{◌≡◌, ℕ, ◌+◌, ◌<◌, ◌≤◌, true, Result, List};
 ghost use Rattle.shm_words.specs.Layout.{total_of};
-ghost use Rattle.shm_graph.specs.declared.ask.Me.{Me as AMe};
-ghost use Rattle.shm_graph.specs.declared.memo.Memo.{Memo as AMemo};
-ghost use Rattle.shm_graph.specs.Reach.{is_reached};
-ghost use Rattle.shm_calls.specs.Parts.{IsHeld};
-ghost use Rattle.shm_graph.specs.Asks.{Trail};
-ghost use Rattle.shm_ref.specs.declared.answer.LookFault.{LookFault as ALookFault};
-ghost use Rattle.shm_ref.specs.declared.answer.NoSuchWord.{NoSuchWord as ANoSuchWord};
-ghost use Rattle.shm_ref.specs.declared.answer.NotHeld.{NotHeld as ANotHeld};
-ghost use Rattle.shm_ref.specs.HomeOf.{finding, HomeLeaves as HomeOfLeaves};
-ghost use Rattle.shm_ref.specs.Look.{LookLeaves, looking};
-ghost use Rattle.shm_ref.specs.OnlyRead.{OnlyRead};
-ghost use Rattle.shm_ref.specs.Read.{ReadLeaves, reading};
-ghost use Rattle.shm_ref.specs.ReadParts.{MayAsk, MayRead};
+ghost use Rattle.shm_graph.specs.{declared.{ask.Me.Me as AMe, memo.Memo.Memo as AMemo}, Reach.is_reached, Asks.Trail};
 ghost use Rattle.shm_graph.specs.Events.{Event as AnEvent};
+ghost use Rattle.shm_calls.specs.Parts.{IsHeld};
+ghost use Rattle.shm_ref.specs.declared.answer.LookFault.{LookFault as ALookFault};
+ghost use Rattle.shm_ref.specs.declared.answer.{NoSuchWord.NoSuchWord as ANoSuchWord, NotHeld.NotHeld as ANotHeld};
+ghost use Rattle.shm_ref.specs.{HomeOf.{finding, HomeLeaves as HomeOfLeaves}, Look.{LookLeaves, looking}};
+ghost use Rattle.shm_ref.specs.{OnlyRead.OnlyRead, Read.{ReadLeaves, reading}, ReadParts.{MayAsk, MayRead}};
 
 /// In a state that holds a block in reach lies in the pool, so that its words may be read.
 pub fn reach_lies()

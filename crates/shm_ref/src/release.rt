@@ -2,8 +2,7 @@
 
 ghost use Rattle.std.specs.Prelude.{◌≡◌, ◌<◌};
 ghost use Rattle.shm_words.specs.Layout.{GeometryFits};
-ghost use Rattle.shm_ref.specs.Release.{releasing, release_plan};
-ghost use Rattle.shm_ref.specs.Release.Laws.{release_laws};
+ghost use Rattle.shm_ref.specs.Release.{releasing, release_plan, Laws.release_laws};
 ghost use Rattle.shm_ref.specs.LatchTasks.{ReleaseMay, release_task};
 
 use shm_calls::{Plan, Task, Word};

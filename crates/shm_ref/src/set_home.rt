@@ -2,9 +2,7 @@
 
 ghost use Rattle.std.specs.Prelude.{◌≡◌, ◌<◌, ◌^◌};
 ghost use Rattle.shm_words.specs.Layout.{GeometryFits, address_limit};
-ghost use Rattle.shm_ref.specs.SetHome.{homing, home_plan};
-ghost use Rattle.shm_ref.specs.SetHome.Laws.{home_laws};
-ghost use Rattle.shm_ref.specs.RootTasks.{HomeMay, home_task};
+ghost use Rattle.shm_ref.specs.{SetHome.{homing, home_plan, Laws.home_laws}, RootTasks.{HomeMay, home_task}};
 
 use crate::answer::HomeFault;
 use shm_calls::{Or, Plan, Task, Word};

@@ -2,11 +2,8 @@
 
 ghost use Rattle.std.specs.Prelude.{◌≡◌, ◌<◌, ◌≤◌, ◌^◌, ◌+◌};
 ghost use Rattle.shm_words.specs.Layout.{GeometryFits, total_of, address_limit};
+ghost use Rattle.shm_ref.specs.{SetRef.{Control.setting, set_plan, Laws.set_laws}, RootTasks.{SetMay, set_task}};
 ghost use Rattle.shm_ref.specs.SetRef.Control as control;
-ghost use Rattle.shm_ref.specs.SetRef.Control.{setting};
-ghost use Rattle.shm_ref.specs.SetRef.{set_plan};
-ghost use Rattle.shm_ref.specs.SetRef.Laws.{set_laws};
-ghost use Rattle.shm_ref.specs.RootTasks.{SetMay, set_task};
 
 use crate::answer::SetFault;
 use crate::tagged::{author_in, refs_in};

@@ -1,26 +1,17 @@
 -- what a turn of a client adds to its entries: one at most
 use Rattle.std.proofs.Common.{◌≡◌, ℕ, zero, suc, ◌+◌, ◌<◌, ◌≤◌, Bool, true, false, cond, List, [], ◌∷◌, ◌++◌, length, refl, sym, ap, ◌∙◌, subst, arith, inl, inr}
+use Rattle.std.proofs.lemmas.{Bool.true≢false, List.{get_or-set_same, length-append, length-set}}
 use Rattle.std.specs.Prelude.{◌⊎◌, Some, slice_set}
-use Rattle.std.proofs.lemmas.Bool.{true≢false}
-use Rattle.std.proofs.lemmas.List.{get_or-set_same, length-append, length-set}
-use Rattle.shm_graph.specs.declared.ask.Me.{Me}
-use Rattle.shm_graph.specs.declared.memo.Agent.{Agent}
-use Rattle.shm_graph.specs.declared.memo.Step.{Step}
-use Rattle.shm_graph.specs.declared.run.Account.{Account}
-use Rattle.shm_graph.specs.declared.run.Start.{Start}
+use Rattle.shm_graph.specs.declared.{ask.Me.Me, memo.{Agent.Agent, Step.Step}, run.{Account.Account, Start.Start}}
 use Rattle.shm_graph.specs.Agents.{acts, acts_by, fallen, last_agent, with_last}
 use Rattle.shm_graph.specs.Runs.{account_after, account_at, account_died, account_entered, accounts_after, begun_by, changed, fell_by}
-use Rattle.shm_plain.specs.Pools.{IsRun, Pool, memo_of, readied, turn_on}
-use Rattle.shm_plain.specs.Tracks.{kind_next}
-use Rattle.shm_script.specs.declared.log.Entry.{Entry}
-use Rattle.shm_script.specs.Values.{Scripted, Traced}
+use Rattle.shm_plain.specs.{Pools.{IsRun, Pool, memo_of, readied, turn_on}, Tracks.kind_next}
+use Rattle.shm_script.specs.{declared.log.Entry.Entry, Values.{Scripted, Traced}}
 use Rattle.shm_agents.specs.declared.agents.Standing.TheVariants.{AtWork}
-use Rattle.shm_agents.specs.Agents.{IsFresh, IsPlaying, Playing, is_client}
-use Rattle.shm_agents.specs.Turns.{begun_last}
+use Rattle.shm_agents.specs.{Agents.{IsFresh, IsPlaying, Playing, is_client}, Turns.begun_last}
 use Rattle.shm_agents.specs.Work.{Work, work_control}
 use Rattle.shm_agents.proofs.Standing.{client_stage, playing_begun}
-use Rattle.shm_replay.specs.Seats.{IsSeat}
-use Rattle.shm_replay.specs.Turns.{worked}
+use Rattle.shm_replay.specs.{Seats.IsSeat, Turns.worked}
 use Rattle.shm_replay.proofs.Seating.{client_here}
 
 -- ---- the account of an identity after its turn

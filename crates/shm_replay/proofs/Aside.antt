@@ -1,20 +1,14 @@
 -- an identity while another one makes turns, and the line of a dead agent when the next one begins
 use Rattle.std.proofs.Common.{◌≡◌, ◌≢◌, ℕ, ◌<◌, Bool, true, false, cond, List, [], ◌∷◌, ◌++◌, length, append_assoc, sym, ap, ◌∙◌, subst, arith}
-use Rattle.std.specs.Prelude.{slice_set}
 use Rattle.std.proofs.lemmas.List.{get_or-set_other, get_or-set_same, length-set}
+use Rattle.std.specs.Prelude.{slice_set}
 use Rattle.shm_words.specs.declared.geometry.Geometry.{Geometry}
-use Rattle.shm_graph.specs.declared.memo.Step.{Step}
-use Rattle.shm_graph.specs.declared.run.Account.{Account}
-use Rattle.shm_graph.specs.declared.run.Move.{Move}
-use Rattle.shm_graph.specs.declared.run.Move.TheVariants.{Word, Dies, Begins}
-use Rattle.shm_graph.specs.declared.run.Start.{Start}
-use Rattle.shm_graph.specs.Agents.{acts}
-use Rattle.shm_graph.specs.Asks.{Trail}
+use Rattle.shm_graph.specs.declared.{memo.Step.Step, run.{Account.Account, Move.Move}}
+use Rattle.shm_graph.specs.{declared.run.{Move.TheVariants.{Word, Dies, Begins}, Start.Start}, Agents.acts, Asks.Trail}
 use Rattle.shm_graph.specs.Laws.{Control, step_of}
 use Rattle.shm_graph.specs.Runs.{Leads, State, account_after, account_at, account_entered, first_state, moved, told_left}
 use Rattle.shm_graph.specs.Tells.{machine_steps}
-use Rattle.shm_plain.specs.Calls.{AreOf, Ran, state_of, words}
-use Rattle.shm_plain.specs.Pools.{IsRun, Pool, memo_of, readied}
+use Rattle.shm_plain.specs.{Calls.{AreOf, Ran, state_of, words}, Pools.{IsRun, Pool, memo_of, readied}}
 use Rattle.shm_plain.specs.Tracks.{kind_next}
 use Rattle.shm_replay.specs.Closings.{HasTold}
 use Rattle.shm_replay.proofs.Telling.{Grows, grows_then, leads_grows, leads_on, left_first}

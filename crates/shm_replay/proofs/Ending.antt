@@ -1,35 +1,22 @@
 -- how the agents of a script stand where none of them has anything left to do
 use Rattle.std.proofs.Common.{◌≡◌, ◌≢◌, ℕ, ◌+◌, ◌^◌, ◌≤◌, true, false, List, [], ◌∷◌, length, refl, sym, ap, ◌∙◌, subst, arith, inl, inr}
+use Rattle.std.proofs.lemmas.{Bool.true≢false, List.{length-map, take_all, Sums.{sum_by-cons, sum_by-take-le}}}
 use Rattle.std.specs.Prelude.{◌⊎◌, Option, Some, None, slice_get, slice_index, sum}
-use Rattle.std.proofs.lemmas.Bool.{true≢false}
-use Rattle.std.proofs.lemmas.List.{length-map, take_all}
-use Rattle.std.proofs.lemmas.List.Sums.{sum_by-cons, sum_by-take-le}
-use Rattle.shm_graph.specs.declared.memo.Agent.{Agent}
-use Rattle.shm_graph.specs.declared.memo.Fate.TheVariants as fate
-use Rattle.shm_graph.specs.declared.memo.Kind.TheVariants.{Recoverer}
-use Rattle.shm_graph.specs.declared.run.Account.{Account}
-use Rattle.shm_graph.specs.declared.run.LoggedLine.{LoggedLine}
-use Rattle.shm_graph.specs.declared.run.Start.{Start}
-use Rattle.shm_graph.specs.Agents.{acts_by, last_agent, steps_made, steps_of}
-use Rattle.shm_graph.specs.Held.{is_loose}
+use Rattle.shm_graph.specs.declared.{memo.{Agent.Agent, Kind.TheVariants.Recoverer}, run.Account.Account}
+use Rattle.shm_graph.specs.declared.run.{LoggedLine.LoggedLine, Start.Start}
+use Rattle.shm_graph.specs.{Agents.{acts_by, last_agent, steps_made, steps_of}, Held.is_loose}
 use Rattle.shm_graph.specs.Runs.{account_at, fell_by, first_account, told_left}
+use Rattle.shm_graph.specs.declared.memo.Fate.TheVariants as fate
 use Rattle.shm_graph.proofs.Memos.MemoSteps.{last-append}
 use Rattle.shm_plain.specs.Pools.{Pool, memo_of}
-use Rattle.shm_script.specs.declared.log.End.{End}
-use Rattle.shm_script.specs.declared.log.Entry.{Entry}
-use Rattle.shm_script.specs.declared.line.Line.{Line}
-use Rattle.shm_script.specs.Ranges.{ScriptFits}
+use Rattle.shm_script.specs.{declared.{log.{End.End, Entry.Entry}, line.Line.Line}, Ranges.ScriptFits}
 use Rattle.shm_script.specs.Values.{Scripted, Traced}
-use Rattle.shm_agents.specs.declared.agents.Standing.{Standing}
-use Rattle.shm_agents.specs.declared.agents.Standing.TheVariants.{AtWork, Dead}
+use Rattle.shm_agents.specs.declared.agents.Standing.{Standing, TheVariants.{AtWork, Dead}}
 use Rattle.shm_agents.specs.Agents.{Fallen, Fresh, HasParted, IsFallen, IsFold, IsMended, IsSettled, Mended, Mending, Parted, Playing, Plays, Stage, end_or, is_at_work, logged}
-use Rattle.shm_agents.specs.Logs.{AreUnspent, HasEnd, IsLogOf, steps_first}
-use Rattle.shm_agents.specs.Turns.{lives_of}
+use Rattle.shm_agents.specs.{Logs.{AreUnspent, HasEnd, IsLogOf, steps_first}, Turns.lives_of}
 pub use Rattle.shm_agents.proofs.Over.{IsOver, is_over, over_fold, over_log, over_table, over_unspent}
 use Rattle.shm_agents.proofs.Mending.{few_lives}
-use Rattle.shm_replay.specs.Closings.{MayVisit, is_dead, is_standing_dead}
-use Rattle.shm_replay.specs.Seats.{IsSeat, Seat}
-use Rattle.shm_replay.specs.Turns.{is_busy}
+use Rattle.shm_replay.specs.{Closings.{MayVisit, is_dead, is_standing_dead}, Seats.{IsSeat, Seat}, Turns.is_busy}
 use Rattle.shm_replay.proofs.Seating.{seat_busy}
 
 -- ---- what the closing asks

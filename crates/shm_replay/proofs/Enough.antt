@@ -1,30 +1,16 @@
 -- the calls of a closing: 2^34 word steps are enough for each, in format 2 2^38, since nobody else steps
 use Rattle.std.proofs.Common.{◌≡◌, ℕ, ◌+◌, ◌<◌, ◌≤◌, ◌^◌, Bool, true, length, refl, arith}
 use Rattle.shm_words.specs.Layout.{GeometryFits}
-use Rattle.shm_graph.specs.declared.ask.Me.{Me}
-use Rattle.shm_graph.specs.declared.memo.Memo.{Memo}
-use Rattle.shm_graph.specs.Asks.{Trail}
-use Rattle.shm_graph.specs.Laws.{Control}
-use Rattle.shm_graph.specs.Whole.{fits_now}
-use Rattle.shm_calls.specs.CallsControl.{calls_control, calls_of}
-use Rattle.shm_calls.specs.CallsFit.{CallsFits}
-use Rattle.shm_plain.specs.Calls.{Ran, Took}
-use Rattle.shm_plain.specs.Pools.{IsOf, IsRun, MayStep, Pool, memo_of, readied}
-use Rattle.shm_queue.specs.Drain.Control.{drain_parts, draining}
-use Rattle.shm_queue.specs.Drain.{drain_plan}
-use Rattle.shm_queue.specs.Drain.Laws.{drain_laws}
+use Rattle.shm_graph.specs.{declared.{ask.Me.Me, memo.Memo.Memo}, Asks.Trail, Laws.Control, Whole.fits_now}
+use Rattle.shm_calls.specs.{CallsControl.{calls_control, calls_of}, CallsFit.CallsFits}
+use Rattle.shm_plain.specs.{Calls.{Ran, Took}, Pools.{IsOf, IsRun, MayStep, Pool, memo_of, readied}}
+use Rattle.shm_queue.specs.Drain.{Control.{drain_parts, draining, drain_steered}, drain_plan, Laws.drain_laws}
 use Rattle.shm_queue.specs.Take.Laws.{take_laws}
-use Rattle.shm_recover.specs.Join.{JoinFits, JoinGives, join_control, join_fresh}
-use Rattle.shm_recover.specs.Join.AsPart.{join_does}
-use Rattle.shm_recover.specs.Join.Keeps.{join_laws}
-use Rattle.shm_recover.specs.Leave.Control.{leave_parts, leaving}
-use Rattle.shm_recover.specs.Leave.{leave_plan}
-use Rattle.shm_recover.specs.Leave.Laws.{leave_laws}
-use Rattle.shm_recover.specs.Recover.Control.{recover_parts, recovering}
-use Rattle.shm_recover.specs.Recover.{recover_plan}
+use Rattle.shm_recover.specs.Join.{JoinFits, JoinGives, join_control, join_fresh, AsPart.join_does, Keeps.join_laws}
+use Rattle.shm_recover.specs.Leave.{Control.{leave_parts, leaving, leave_steered}, leave_plan, Laws.leave_laws}
+use Rattle.shm_recover.specs.Recover.{Control.{recover_parts, recovering, recover_steered}, recover_plan}
 use Rattle.shm_recover.proofs.JoinPart.{join_tells}
-use Rattle.shm_alone.specs.GiveEnds.{none_over}
-use Rattle.shm_alone.specs.JoinEnds.{join_alone, join_left, join_ends}
+use Rattle.shm_alone.specs.{GiveEnds.none_over, JoinEnds.{join_alone, join_left, join_ends}}
 use Rattle.shm_alone.specs.LeaveEnds.{leave_alone, leave_few, leave_left, leave_ends}
 use Rattle.shm_alone.specs.QueuesEnd.{drain_alone, drain_left, drain_saved, drain_ends, drain_begin, drain_ready}
 use Rattle.shm_alone.specs.RecoverEnds.{recover_alone, recover_few, recover_left, recover_ends}
@@ -36,18 +22,18 @@ pub join_lasts : (me : Me) → Lasts join_control JoinFits (join_fresh me)
 join_lasts me = lasts join_control JoinFits JoinGives join_laws join_does join_tells join_alone join_left none_over join_ends (join_fresh me) (λ w. tt) (λ f. left_few me.geometry.wide (join_left (join_fresh me)) (omega arith)) refl
 
 -- a drain
-pub drain_lasts : (me : Me) → Lasts (calls_control drain_parts drain_plan) (CallsFits drain_parts drain_plan) (calls_of drain_plan (draining me))
-drain_lasts me = calls_last drain_parts drain_plan (drain_laws take_laws) drain_alone drain_left drain_saved drain_ends (draining me) (drain_ready me) (λ f. left_few me.geometry.wide (drain_left (calls_of drain_plan (draining me))) (small f)) refl
+pub drain_lasts : (me : Me) → Lasts (calls_control drain_parts drain_steered) (CallsFits drain_parts drain_plan) (calls_of drain_steered (draining me))
+drain_lasts me = calls_last drain_parts drain_plan (drain_laws take_laws) drain_alone drain_left drain_saved drain_ends (draining me) (drain_ready me) (λ f. left_few me.geometry.wide (drain_left (calls_of drain_steered (draining me))) (small f)) refl
   where
-    small : GeometryFits me.geometry → drain_left (calls_of drain_plan (draining me)) ≤ 2 ^ 30
+    small : GeometryFits me.geometry → drain_left (calls_of drain_steered (draining me)) ≤ 2 ^ 30
     small f = let clients = f.clients in let e = drain_begin me in omega arith
 
 -- a leaving
-pub leave_lasts : (me : Me) → Lasts (calls_control leave_parts leave_plan) (CallsFits leave_parts leave_plan) (calls_of leave_plan (leaving me))
-leave_lasts me = calls_last leave_parts leave_plan leave_laws leave_alone leave_left none_over leave_ends (leaving me) (λ w. (((tt, tt), tt), tt)) (λ f. left_few me.geometry.wide (leave_left (calls_of leave_plan (leaving me))) (leave_few me f)) refl
+pub leave_lasts : (me : Me) → Lasts (calls_control leave_parts leave_steered) (CallsFits leave_parts leave_plan) (calls_of leave_steered (leaving me))
+leave_lasts me = calls_last leave_parts leave_plan leave_laws leave_alone leave_left none_over leave_ends (leaving me) (λ w. (((tt, tt), tt), tt)) (λ f. left_few me.geometry.wide (leave_left (calls_of leave_steered (leaving me))) (leave_few me f)) refl
 
 -- a recovery
-pub recover_lasts : (me : Me) → Lasts (calls_control recover_parts recover_plan) (CallsFits recover_parts recover_plan) (calls_of recover_plan (recovering me))
+pub recover_lasts : (me : Me) → Lasts (calls_control recover_parts recover_steered) (CallsFits recover_parts recover_plan) (calls_of recover_steered (recovering me))
 recover_lasts me = calls_last recover_parts recover_plan recoveries recover_alone recover_left none_over recover_ends (recovering me) (λ w. ((tt, tt), tt)) (recover_few me) refl
 
 -- a call that nobody else steps beside has answered, and at most 2^38 word steps of its life went

@@ -1,23 +1,16 @@
 -- the first agent of an identity and the pieces of work that it began, once it has died or ended: later turns leave them
 use Rattle.std.proofs.Common.{◌≡◌, ℕ, zero, suc, ◌+◌, ◌<◌, Bool, true, false, cond, List, [], ◌∷◌, ◌++◌, length, refl, sym, ap, ◌∙◌, subst, arith, inl, inr}
-use Rattle.std.specs.Prelude.{slice_set}
 use Rattle.std.proofs.lemmas.Bool.{cases_eq, cases_lt, true≢false}
 use Rattle.std.proofs.lemmas.List.{get_or-set_other, get_or-set_same, length-append, set_past}
+use Rattle.std.specs.Prelude.{slice_set}
 use Rattle.shm_words.specs.declared.geometry.Geometry.{Geometry}
-use Rattle.shm_graph.specs.declared.memo.Agent.{Agent}
-use Rattle.shm_graph.specs.declared.memo.Fate.TheVariants.{Acts}
-use Rattle.shm_graph.specs.declared.memo.Kind.{Kind}
-use Rattle.shm_graph.specs.declared.memo.Step.{Step}
-use Rattle.shm_graph.specs.declared.run.Account.{Account}
-use Rattle.shm_graph.specs.declared.run.Move.{Move}
-use Rattle.shm_graph.specs.declared.run.Move.TheVariants.{Word, Dies, Begins}
-use Rattle.shm_graph.specs.declared.run.Start.{Start}
+use Rattle.shm_graph.specs.declared.memo.{Agent.Agent, Fate.TheVariants.Acts, Kind.Kind, Step.Step}
+use Rattle.shm_graph.specs.declared.run.{Account.Account, Move.{Move, TheVariants.{Word, Dies, Begins}}, Start.Start}
 use Rattle.shm_graph.specs.Agents.{acts, acts_by, ended, fallen, is_acting, last_agent, stepped, with_last}
 use Rattle.shm_graph.specs.Changes.{asked_spot}
 use Rattle.shm_graph.specs.Runs.{IsMove, Leads, State, account_after, account_at, account_died, account_entered, accounts_from, begun_by, first_state, moved}
 use Rattle.shm_graph.proofs.Memos.MemoSteps.{agents_after, ends_agent}
-use Rattle.shm_plain.specs.Calls.{state_of}
-use Rattle.shm_plain.specs.Pools.{IsRun, Pool}
+use Rattle.shm_plain.specs.{Calls.state_of, Pools.{IsRun, Pool}}
 
 -- ---- lists
 

@@ -1,18 +1,12 @@
 -- scripts by identity, and the logs of their clients
 use Rattle.std.proofs.Common.{◌≡◌, ◌≢◌, ℕ, zero, suc, ◌<◌, ◌≤◌, Bool, true, false, eqb, List, [], ◌∷◌, ◌++◌, append_assoc, append-nil, refl, sym, ap, ◌∙◌, subst, arith}
-use Rattle.std.specs.Prelude.{Option, Some, None, slice_get, slice_index_or}
-use Rattle.std.specs.FinMap as finmap
-use Rattle.std.specs.List.{AllByRecursion}
 use Rattle.std.proofs.lemmas.Bool.{cond-false, cond-true, eq-eqb, eqb-true, ne_eqb, true≢false}
-use Rattle.shm_script.specs.Logged.{Logged, fold_of, folded}
-use Rattle.shm_script.specs.Ranges.{ScriptFits}
-use Rattle.shm_script.specs.Values.{Scripted}
+use Rattle.std.specs.{Prelude.{Option, Some, None, slice_get, slice_index_or}, List.AllByRecursion}
+use Rattle.std.specs.FinMap as finmap
+use Rattle.shm_script.specs.{Logged.{Logged, fold_of, folded}, Ranges.ScriptFits, Values.Scripted}
 use Rattle.shm_plain.specs.Pools.{Pool}
-use Rattle.shm_agents.specs.Agents.{Playing, logged}
-use Rattle.shm_agents.specs.Logs.{AreLogs, IsLog}
-use Rattle.shm_agents.specs.Turns.{script_in}
-use Rattle.shm_replay.specs.Gathered.{log_at, logs_by}
-use Rattle.shm_replay.specs.Replays.{fold_in}
+use Rattle.shm_agents.specs.{Agents.{Playing, logged}, Logs.{AreLogs, IsLog}, Turns.script_in}
+use Rattle.shm_replay.specs.{Gathered.{log_at, logs_by}, Replays.fold_in}
 
 -- ---- scripts
 

@@ -1,14 +1,9 @@
 -- turns in a row and one after the other
 use Rattle.std.proofs.Common.{◌≡◌, ℕ, zero, suc, ◌+◌, ◌<◌, ◌≤◌, false, List, [], ◌∷◌, ◌++◌, length, take, replicate, append_assoc, append-nil, refl, sym, ap, ◌∙◌, subst, arith, zero-add, add-zero}
-use Rattle.std.specs.Prelude.{Option, Some, None, slice_index_or}
-use Rattle.std.specs.Option.{is_some}
+use Rattle.std.specs.{Prelude.{Option, Some, None, slice_index_or}, Option.is_some, List.AllByRecursion}
 use Rattle.shm_plain.specs.Pools.{Pool}
-use Rattle.shm_script.specs.declared.line.Item.{Item}
-use Rattle.std.specs.List.{AllByRecursion}
-use Rattle.shm_script.specs.Ranges.{ItemFits}
-use Rattle.shm_script.specs.Values.{Traced}
-use Rattle.shm_agents.specs.Work.{Work}
-use Rattle.shm_agents.specs.Turns.{script_in}
+use Rattle.shm_script.specs.{declared.line.Item.Item, Ranges.ItemFits, Values.Traced}
+use Rattle.shm_agents.specs.{Work.Work, Turns.script_in}
 use Rattle.shm_replay.specs.Orders.{AreOfItems, IsGiven, from_on, rounds_of}
 use Rattle.shm_replay.specs.Turns.{given, in_a_row, is_busy, life_in, next_of, worked}
 

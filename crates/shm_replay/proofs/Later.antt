@@ -1,33 +1,18 @@
 -- the log of a client that has ended or died, as its identity goes on
 use Rattle.std.proofs.Common.{◌≡◌, ℕ, zero, suc, Bool, true, false, List, [], ◌∷◌, ◌++◌, length, refl, sym, ap, ◌∙◌, subst, arith}
 use Rattle.shm_words.specs.declared.geometry.Geometry.{Geometry}
-use Rattle.shm_graph.specs.declared.ask.Me.{Me}
-use Rattle.shm_graph.specs.declared.memo.Agent.{Agent}
-use Rattle.shm_graph.specs.declared.memo.Fate.{Fate}
+use Rattle.shm_graph.specs.declared.{ask.Me.Me, memo.{Agent.Agent, Fate.Fate, Kind.TheVariants.Client}}
+use Rattle.shm_graph.specs.declared.run.{Account.Account, LoggedLine.LoggedLine, Move.Move}
+use Rattle.shm_graph.specs.{Agents.{is_acting, last_agent}, Laws.Control}
+use Rattle.shm_graph.specs.{Runs.{Leads, State, account_at, fell_by, moved}, Tells.machine_steps}
 use Rattle.shm_graph.specs.declared.memo.Fate.TheVariants as fate
-use Rattle.shm_graph.specs.declared.memo.Kind.TheVariants.{Client}
-use Rattle.shm_graph.specs.declared.run.Account.{Account}
-use Rattle.shm_graph.specs.declared.run.LoggedLine.{LoggedLine}
-use Rattle.shm_graph.specs.declared.run.Move.{Move}
-use Rattle.shm_graph.specs.Agents.{is_acting, last_agent}
-use Rattle.shm_graph.specs.Laws.{Control}
-use Rattle.shm_graph.specs.Runs.{Leads, State, account_at, fell_by, moved}
-use Rattle.shm_graph.specs.Tells.{machine_steps}
-use Rattle.shm_plain.specs.Calls.{state_of, words}
-use Rattle.shm_plain.specs.Pools.{IsRun, Pool, memo_of, readied}
-use Rattle.shm_script.specs.declared.log.End.{End}
-use Rattle.shm_script.specs.declared.log.End.TheVariants.{Ended, Died}
-use Rattle.shm_script.specs.declared.log.Entry.{Entry}
-use Rattle.shm_script.specs.declared.line.Line.{Line}
-use Rattle.shm_script.specs.Logged.{Logged}
-use Rattle.shm_script.specs.Values.{Scripted}
-use Rattle.shm_agents.specs.Logs.{BeganWith, HasEnd, IsLogOf, Was, begun_first}
-use Rattle.shm_agents.specs.Logs.Was.{Between, InCommand, InLeaving}
-use Rattle.shm_agents.proofs.Growing.{get_more}
-use Rattle.shm_agents.proofs.Trails.{entries_rest}
+use Rattle.shm_plain.specs.{Calls.{state_of, words}, Pools.{IsRun, Pool, memo_of, readied}}
+use Rattle.shm_script.specs.declared.{log.{End.{End, TheVariants.{Ended, Died}}, Entry.Entry}, line.Line.Line}
+use Rattle.shm_script.specs.{Logged.Logged, Values.Scripted}
+use Rattle.shm_agents.specs.Logs.{BeganWith, HasEnd, IsLogOf, Was, begun_first, Was.{Between, InCommand, InLeaving}}
+use Rattle.shm_agents.proofs.{Growing.get_more, Trails.entries_rest}
 use Rattle.shm_replay.specs.Closings.{AreVisits, IsRecovery, IsVisit, IsWhole}
-use Rattle.shm_replay.proofs.Aside.{leads_between}
-use Rattle.shm_replay.proofs.Firsts.{AreEven, First, first_leads}
+use Rattle.shm_replay.proofs.{Aside.leads_between, Firsts.{AreEven, First, first_leads}}
 use Rattle.shm_replay.proofs.Telling.{Grows, grows_then, ready_grew}
 
 -- ---- turns of a closing

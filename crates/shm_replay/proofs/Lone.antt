@@ -1,23 +1,15 @@
 -- rounds in which the agents of one identity alone have anything to do
 use Rattle.std.proofs.Common.{◌≡◌, ◌≢◌, ℕ, zero, suc, ◌+◌, ◌-◌, ◌<◌, ◌≤◌, false, List, [], ◌∷◌, ◌++◌, length, append_assoc, zero-add, refl, sym, ap, ◌∙◌, arith, inl, inr}
-use Rattle.std.specs.Prelude.{Option, Some, None, slice_index_or}
-use Rattle.std.specs.List.{AllByRecursion}
-use Rattle.std.specs.Option.{is_some}
 use Rattle.std.proofs.lemmas.Bool.{cases_lt}
-use Rattle.shm_graph.specs.declared.run.Start.{Start}
-use Rattle.shm_graph.specs.Runs.{account_at}
+use Rattle.std.specs.{Prelude.{Option, Some, None, slice_index_or}, List.AllByRecursion, Option.is_some}
+use Rattle.shm_graph.specs.{declared.run.Start.Start, Runs.account_at}
 use Rattle.shm_count.specs.Roots.{member}
 use Rattle.shm_plain.specs.Pools.{Pool}
-use Rattle.shm_script.specs.Ranges.{ScriptFits}
-use Rattle.shm_script.specs.Values.{Scripted, Traced}
-use Rattle.shm_agents.specs.Agents.{Playing}
-use Rattle.shm_agents.specs.Turns.{next_by, script_in}
-use Rattle.shm_replay.specs.Orders.{from_on, rounds_of}
-use Rattle.shm_replay.specs.AtWork.{has_work}
-use Rattle.shm_replay.specs.Seats.{AreSeated, Seat}
+use Rattle.shm_script.specs.{Ranges.ScriptFits, Values.{Scripted, Traced}}
+use Rattle.shm_agents.specs.{Agents.Playing, Turns.{next_by, script_in}}
+use Rattle.shm_replay.specs.{Orders.{from_on, rounds_of}, AtWork.has_work, Seats.{AreSeated, Seat}}
 use Rattle.shm_replay.specs.Turns.{given, in_a_row, is_busy, next_work}
-use Rattle.shm_replay.proofs.Gathering.{script_beyond}
-use Rattle.shm_replay.proofs.Giving.{given-append, idle_row}
+use Rattle.shm_replay.proofs.{Gathering.script_beyond, Giving.{given-append, idle_row}}
 use Rattle.shm_replay.proofs.Seating.{no_script_busy, none_busy, seat_busy}
 
 -- what an identity has to do stays where its account does

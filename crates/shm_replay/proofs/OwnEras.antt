@@ -1,11 +1,8 @@
 -- the own era of an identity
 use Rattle.std.proofs.Common.{◌≡◌, ℕ, ◌+◌, ◌-◌, ◌^◌, ◌<◌, ◌≤◌, arith}
-use Rattle.shm_graph.specs.declared.spot.Spot.TheVariants.{Era}
-use Rattle.shm_graph.specs.Agents.{steps_made}
-use Rattle.shm_graph.specs.Views.{own_word}
+use Rattle.shm_graph.specs.{declared.spot.Spot.TheVariants.Era, Agents.steps_made, Views.own_word}
 use Rattle.shm_graph.proofs.Runs.EraRises.{first_was_held, memo_bounds}
-use Rattle.shm_plain.specs.Calls.{state_of}
-use Rattle.shm_plain.specs.Pools.{IsRun, Pool, memo_of}
+use Rattle.shm_plain.specs.{Calls.state_of, Pools.{IsRun, Pool, memo_of}}
 
 -- it is at most the first era and the word steps of its agents
 pub own_most : (p : Pool) → IsRun p → (c : ℕ) → c < p.start.geometry.clients → own_word (memo_of p c).own (Era c c) ≤ p.start.first_era + steps_made (memo_of p c)

@@ -1,35 +1,19 @@
 -- the recovery of an identity whose last agent died, by a recoverer that begins
 use Rattle.std.proofs.Common.{◌≡◌, ℕ, ◌^◌, ◌<◌, ◌≤◌, Bool, false, cond, refl, sym, ap, ◌∙◌, subst, arith, inr, List, Result}
-use Rattle.std.specs.Prelude.{Ok, Err}
-use Rattle.std.specs.Result.{IsOk}
-use Rattle.shm_graph.specs.declared.ask.Me.{Me}
-use Rattle.shm_graph.specs.declared.memo.Kind.{Kind}
-use Rattle.shm_graph.specs.declared.memo.Kind.TheVariants.{Client, Recoverer}
-use Rattle.shm_graph.specs.declared.memo.Memo.{Memo}
-use Rattle.shm_graph.specs.declared.memo.Status.TheVariants.{Gone}
-use Rattle.shm_graph.specs.Agents.{acts, entered, last_agent, steps_made}
-use Rattle.shm_graph.specs.Asks.{Trail}
-use Rattle.shm_graph.specs.Events.{Event}
-use Rattle.shm_graph.specs.Runs.{MayBegin, fell_by}
-use Rattle.shm_graph.specs.Whole.{fits_now}
+use Rattle.std.specs.{Prelude.{Ok, Err}, Result.IsOk}
+use Rattle.shm_graph.specs.declared.{ask.Me.Me, memo.{Kind.{Kind, TheVariants.{Client, Recoverer}}, Memo.Memo}}
+use Rattle.shm_graph.specs.{declared.memo.Status.TheVariants.Gone, Agents.{acts, entered, last_agent, steps_made}}
+use Rattle.shm_graph.specs.{Asks.Trail, Events.Event, Runs.{MayBegin, fell_by}, Whole.fits_now}
 use Rattle.shm_graph.proofs.Memos.MemoSteps.{recovers-entered}
-use Rattle.shm_calls.specs.CallsControl.{calls_control, calls_of}
-use Rattle.shm_calls.specs.CallsFit.{CallsFits}
-use Rattle.shm_calls.specs.CallsKeep.{calls_begin}
+use Rattle.shm_calls.specs.{CallsControl.{calls_control, calls_of}, CallsFit.CallsFits, CallsKeep.calls_begin}
 use Rattle.shm_calls.specs.Plans.{PlanLaws}
-use Rattle.shm_count.specs.declared.answer.EraSpent.{EraSpent}
-use Rattle.shm_count.specs.Roots.{member}
+use Rattle.shm_count.specs.{declared.answer.EraSpent.EraSpent, Roots.member}
 use Rattle.shm_ref.specs.DropRoots.Laws.{roots_laws}
-use Rattle.shm_recover.specs.FinishTakes.Laws.{finish_laws}
-use Rattle.shm_recover.specs.GiveUp.Laws.{give_laws}
-use Rattle.shm_recover.specs.Mend.Laws.{mend_laws}
-use Rattle.shm_recover.specs.Recover.Control.{recover_parts, recovering}
-use Rattle.shm_recover.specs.Recover.Laws.{recover_begin, recover_laws}
-use Rattle.shm_recover.specs.Recover.{RecoverLeaves, recover_plan}
-use Rattle.shm_recover.specs.Scan.Laws.{scan_laws}
-use Rattle.shm_recover.specs.TakeBack.Laws.{back_laws}
-use Rattle.shm_plain.specs.Pools.{IsRun, MayStep, Pool, memo_of, readied}
-use Rattle.shm_plain.specs.Tracks.{kind_next}
+use Rattle.shm_recover.specs.{FinishTakes.Laws.finish_laws, GiveUp.Laws.give_laws, Mend.Laws.mend_laws}
+use Rattle.shm_recover.specs.Recover.Control.{recover_parts, recovering, recover_steered}
+use Rattle.shm_recover.specs.Recover.{Laws.{recover_begin, recover_laws}, RecoverLeaves, recover_plan}
+use Rattle.shm_recover.specs.{Scan.Laws.scan_laws, TakeBack.Laws.back_laws}
+use Rattle.shm_plain.specs.{Pools.{IsRun, MayStep, Pool, memo_of, readied}, Tracks.kind_next}
 use Rattle.shm_plain.proofs.Turning.{ready_memo}
 use Rattle.shm_agents.proofs.Standing.{fell_quiet}
 use Rattle.shm_replay.specs.Closings.{IsDead, IsOut, SameTable}
@@ -65,9 +49,9 @@ module _ (p : Pool) (c : ℕ) (run : IsRun p) (who : c < p.start.geometry.client
       ∙ (ap (λ (z : Bool). cond z m (entered (kind_next m) m)) still ∙ ap (λ (k : Kind). entered k m) kind)
 
   -- the recovery fits it
-  pub revive_fits : fits_now (calls_control recover_parts recover_plan) (CallsFits recover_parts recover_plan) (calls_of recover_plan (recovering me)) r0 (memo_of (readied p c) c)
+  pub revive_fits : fits_now (calls_control recover_parts recover_steered) (CallsFits recover_parts recover_plan) (calls_of recover_steered (recovering me)) r0 (memo_of (readied p c) c)
   revive_fits =
-      subst (λ (z : Memo). fits_now (calls_control recover_parts recover_plan) (CallsFits recover_parts recover_plan) (calls_of recover_plan (recovering me)) r0 z) (sym begun)
+      subst (λ (z : Memo). fits_now (calls_control recover_parts recover_steered) (CallsFits recover_parts recover_plan) (calls_of recover_steered (recovering me)) r0 z) (sym begun)
       (calls_begin recover_parts recover_plan laws (recovering me) r0 refl refl (recover_begin me r0 (record { geometry = run.held.at.fits; who = who; recoverer = recovers-entered Recoverer m })))
 
   -- ---- what it leaves

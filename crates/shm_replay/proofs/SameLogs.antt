@@ -1,25 +1,16 @@
 -- the logs of a pool are determined
 use Rattle.std.proofs.Common.{◌≡◌, ℕ, zero, suc, ◌+◌, ◌<◌, ◌⊎◌, Bool, true, false, List, [], ◌∷◌, ◌++◌, length, map, take, refl, sym, ap, ◌∙◌, subst, arith, inl, inr}
 use Rattle.std.proofs.lemmas.Bool.{false≢true}
-use Rattle.std.specs.Prelude.{Option, Some, None, slice_get, slice_index}
-use Rattle.std.specs.Option.{is_some}
-use Rattle.shm_graph.specs.declared.ask.Me.{Me}
-use Rattle.shm_graph.specs.declared.memo.Agent.{Agent}
-use Rattle.shm_graph.specs.declared.run.LoggedLine.{LoggedLine}
+use Rattle.std.specs.{Prelude.{Option, Some, None, slice_get, slice_index}, Option.is_some}
+use Rattle.shm_graph.specs.declared.{ask.Me.Me, memo.Agent.Agent, run.LoggedLine.LoggedLine}
 use Rattle.shm_graph.specs.Runs.{account_at, is_dead}
 use Rattle.shm_count.specs.Roots.{member}
 use Rattle.shm_plain.specs.Pools.{Pool}
-use Rattle.shm_script.specs.declared.line.Line.{Line}
-use Rattle.shm_script.specs.declared.log.Answer.{Answer}
-use Rattle.shm_script.specs.declared.log.End.{End}
-use Rattle.shm_script.specs.declared.log.End.TheVariants.{Ended, Died}
-use Rattle.shm_script.specs.declared.log.Entry.{Entry}
-use Rattle.shm_script.specs.Logged.{Logged}
-use Rattle.shm_script.specs.Values.{Scripted}
+use Rattle.shm_script.specs.declared.{line.Line.Line, log.{Answer.Answer, End.{End, TheVariants.{Ended, Died}}}}
+use Rattle.shm_script.specs.{declared.log.Entry.Entry, Logged.Logged, Values.Scripted}
 use Rattle.shm_table.specs.Command.{command_control, command_of}
 use Rattle.shm_agents.specs.Logs.{AreEntries, AreLogs, HasEnd, IsLogOf, Was, answer_along, begun_first, effect_along, with_effect}
-use Rattle.shm_agents.specs.Logs.Was.{Between, InCommand, InLeaving}
-use Rattle.shm_agents.specs.Turns.{lives_of}
+use Rattle.shm_agents.specs.{Logs.Was.{Between, InCommand, InLeaving}, Turns.lives_of}
 
 -- ---- entries
 

@@ -1,14 +1,10 @@
 -- a replay is determined
 use Rattle.std.proofs.Common.{◌≡◌, List, sym, subst}
 use Rattle.shm_plain.specs.Pools.{Pool, first_pool}
-use Rattle.shm_script.specs.Logged.{Logged}
-use Rattle.shm_script.specs.Values.{Traced}
+use Rattle.shm_script.specs.{Logged.Logged, Values.Traced}
 use Rattle.shm_agents.specs.Logs.{AreLogs}
-use Rattle.shm_replay.specs.Closings.{AreVisits}
-use Rattle.shm_replay.specs.Replays.{IsReplay, start_of}
-use Rattle.shm_replay.proofs.SameLogs.{logs_same}
-use Rattle.shm_replay.proofs.SameRuns.{visits_same}
-use Rattle.shm_replay.proofs.SameTurns.{same_turns}
+use Rattle.shm_replay.specs.{Closings.AreVisits, Replays.{IsReplay, start_of}}
+use Rattle.shm_replay.proofs.{SameLogs.logs_same, SameRuns.visits_same, SameTurns.same_turns}
 
 pub replay_same : (t : Traced) (p q : Pool) (ls ms : List Logged) → IsReplay t p ls → IsReplay t q ms → (p ≡ q) × (ls ≡ ms)
 replay_same t p q ls ms a b =

@@ -1,38 +1,20 @@
 -- where a machine of its own runs to, and the closing of a pool, are determined
 use Rattle.std.proofs.Common.{◌≡◌, ◌≢◌, ℕ, zero, suc, Bool, true, false, List, [], ◌∷◌, ◌++◌, refl, sym, ap, ◌∙◌, subst}
-use Rattle.std.proofs.lemmas.Bool.{false≢true}
-use Rattle.std.proofs.lemmas.List.{get_or-set_same}
+use Rattle.std.proofs.lemmas.{Bool.false≢true, List.get_or-set_same}
 use Rattle.shm_words.specs.declared.geometry.Geometry.{Geometry}
-use Rattle.shm_graph.specs.declared.memo.Step.{Step}
-use Rattle.shm_graph.specs.declared.memo.Seen.{Seen}
-use Rattle.shm_graph.specs.declared.run.Account.{Account}
-use Rattle.shm_graph.specs.declared.run.Move.{Move}
-use Rattle.shm_graph.specs.declared.run.Move.TheVariants.{Word}
-use Rattle.shm_graph.specs.declared.run.Start.{Start}
-use Rattle.shm_graph.specs.Agents.{last_agent}
-use Rattle.shm_graph.specs.Asks.{Trail}
-use Rattle.shm_graph.specs.Changes.{asked_spot}
+use Rattle.shm_graph.specs.declared.{memo.{Step.Step, Seen.Seen}, run.{Account.Account, Move.{Move, TheVariants.Word}}}
+use Rattle.shm_graph.specs.{declared.run.Start.Start, Agents.last_agent, Asks.Trail, Changes.asked_spot}
 use Rattle.shm_graph.specs.Laws.{Control, Steady, is_some, step_of}
 use Rattle.shm_graph.specs.Runs.{Leads, State, account_after, account_at, accounts_after, fell_by, first_state, memos_of, moved}
 use Rattle.shm_graph.specs.Tells.{GoesOn, machine_steps}
-use Rattle.shm_graph.proofs.Memos.MemoSteps.{memo_over}
-use Rattle.shm_graph.proofs.Runs.Going.{acts_within}
-use Rattle.shm_graph.proofs.Runs.Running.{Leads-split}
-use Rattle.shm_calls.specs.CallsControl.{calls_control}
-use Rattle.shm_calls.specs.CallsKeep.{calls_laws}
-use Rattle.shm_queue.specs.Drain.Control.{drain_parts}
-use Rattle.shm_queue.specs.Drain.{drain_plan}
-use Rattle.shm_queue.specs.Drain.Laws.{drain_laws}
+use Rattle.shm_graph.proofs.{Memos.MemoSteps.memo_over, Runs.{Going.acts_within, Running.Leads-split}}
+use Rattle.shm_calls.specs.{CallsControl.calls_control, CallsKeep.calls_laws}
+use Rattle.shm_queue.specs.Drain.{Control.{drain_parts, drain_steered}, drain_plan, Laws.drain_laws}
 use Rattle.shm_queue.specs.Take.Laws.{take_laws}
-use Rattle.shm_recover.specs.Join.{join_control}
-use Rattle.shm_recover.specs.Join.Keeps.{join_laws}
-use Rattle.shm_recover.specs.Leave.Control.{leave_parts}
-use Rattle.shm_recover.specs.Leave.{leave_plan}
-use Rattle.shm_recover.specs.Leave.Laws.{leave_laws}
-use Rattle.shm_recover.specs.Recover.Control.{recover_parts}
+use Rattle.shm_recover.specs.{Join.{join_control, Keeps.join_laws}, Leave.Control.{leave_parts, leave_steered}}
+use Rattle.shm_recover.specs.{Leave.{leave_plan, Laws.leave_laws}, Recover.Control.{recover_parts, recover_steered}}
 use Rattle.shm_recover.specs.Recover.{recover_plan}
-use Rattle.shm_plain.specs.Calls.{state_of, words}
-use Rattle.shm_plain.specs.Pools.{IsRun, Pool, memo_of, pool, readied}
+use Rattle.shm_plain.specs.{Calls.{state_of, words}, Pools.{IsRun, Pool, memo_of, pool, readied}}
 use Rattle.shm_agents.specs.Logs.{answer_along}
 use Rattle.shm_agents.proofs.WorkLaws.{recoveries}
 use Rattle.shm_replay.specs.Closings.{AreVisits, IsRecovery, IsVisit, IsWhole}
@@ -115,14 +97,14 @@ module _ {M A : Type 0} (k : Control M A) where
 
 recovery_same : (b : Bool) (c : ℕ) (p q r : Pool) → IsRecovery b c p q → IsRecovery b c p r → q ≡ r
 recovery_same false c p q r a b = a ∙ sym b
-recovery_same true c p q r a b = whole_same (calls_control recover_parts recover_plan) (calls_laws recover_parts recover_plan recoveries).steady c p _ q r refl a b
+recovery_same true c p q r a b = whole_same (calls_control recover_parts recover_steered) (calls_laws recover_parts recover_plan recoveries).steady c p _ q r refl a b
 
 visit_same : (c : ℕ) (p q r : Pool) → IsVisit c p q → IsVisit c p r → q ≡ r
 visit_same c p q r a b =
     let e : b.recovered ≡ a.recovered = recovery_same (fell_by (last_agent (memo_of p c).agents)) c p b.recovered a.recovered b.recovery a.recovery in
     let f : b.joined ≡ a.joined = whole_same join_control join_laws.steady c a.recovered _ b.joined a.joined refl (subst (λ (x : Pool). IsWhole join_control c x _ b.joined) e b.join) a.join in
-    let h : b.drained ≡ a.drained = whole_same (calls_control drain_parts drain_plan) (calls_laws drain_parts drain_plan (drain_laws take_laws)).steady c a.joined _ b.drained a.drained refl (subst (λ (x : Pool). IsWhole (calls_control drain_parts drain_plan) c x _ b.drained) f b.drain) a.drain in
-    whole_same (calls_control leave_parts leave_plan) (calls_laws leave_parts leave_plan leave_laws).steady c a.drained _ q r refl a.leave (subst (λ (x : Pool). IsWhole (calls_control leave_parts leave_plan) c x _ r) h b.leave)
+    let h : b.drained ≡ a.drained = whole_same (calls_control drain_parts drain_steered) (calls_laws drain_parts drain_plan (drain_laws take_laws)).steady c a.joined _ b.drained a.drained refl (subst (λ (x : Pool). IsWhole (calls_control drain_parts drain_steered) c x _ b.drained) f b.drain) a.drain in
+    whole_same (calls_control leave_parts leave_steered) (calls_laws leave_parts leave_plan leave_laws).steady c a.drained _ q r refl a.leave (subst (λ (x : Pool). IsWhole (calls_control leave_parts leave_steered) c x _ r) h b.leave)
 
 -- The visits lead from a pool to one pool
 pub visits_same : (c n : ℕ) (p q r : Pool) → AreVisits c n p q → AreVisits c n p r → q ≡ r

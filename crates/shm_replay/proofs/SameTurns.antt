@@ -2,8 +2,7 @@
 use Rattle.std.proofs.Common.{◌≡◌, ℕ, zero, suc, ◌+◌, ◌-◌, ◌<◌, ◌≤◌, ◌⊎◌, false, List, [], ◌∷◌, ◌++◌, replicate, append_assoc, refl, sym, ap, ◌∙◌, subst, arith, inl, inr}
 use Rattle.std.proofs.lemmas.Bool.{cases_eq, cases_lt, false≢true}
 use Rattle.shm_plain.specs.Pools.{Pool}
-use Rattle.shm_script.specs.declared.line.Item.{Item}
-use Rattle.shm_script.specs.Values.{Traced}
+use Rattle.shm_script.specs.{declared.line.Item.Item, Values.Traced}
 use Rattle.shm_replay.specs.Orders.{AreOfItems, IsGiven, IsGivenAll, IsUntilAnswered, from_on, rounds_of}
 use Rattle.shm_replay.specs.Turns.{answered, given, in_a_row, is_busy, is_client_busy}
 use Rattle.shm_replay.proofs.Giving.{given-append, idle_row}

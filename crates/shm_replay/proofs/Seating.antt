@@ -1,28 +1,20 @@
 -- what follows of the agents of a trace's scripts, each at its identity
 use Rattle.std.proofs.Common.{◌≡◌, ◌≢◌, ℕ, zero, suc, ◌+◌, ◌<◌, ◌≤◌, Bool, true, false, List, [], ◌∷◌, length, refl, sym, ap, ◌∙◌, subst, arith, inl, inr}
-use Rattle.std.specs.Prelude.{◌==◌, ◌&&◌, ◌⊎◌, Option, Some, None, slice_get, slice_index_or, slice_set}
-use Rattle.std.specs.Option.{is_some}
 use Rattle.std.proofs.lemmas.Bool.{cases_eq, eqb-true, true≢false}
 use Rattle.std.proofs.lemmas.List.{get_or-set_other, get_or-set_same, length-set}
 use Rattle.std.proofs.lemmas.Option.{slice_get_read, slice_get_within}
-use Rattle.shm_graph.specs.declared.ask.Me.{Me}
-use Rattle.shm_graph.specs.declared.run.Account.{Account}
-use Rattle.shm_graph.specs.declared.run.Start.{Start}
-use Rattle.shm_graph.specs.Runs.{account_at, first_account}
+use Rattle.std.specs.Prelude.{◌==◌, ◌&&◌, ◌⊎◌, Option, Some, None, slice_get, slice_index_or, slice_set}
+use Rattle.std.specs.Option.{is_some}
+use Rattle.shm_graph.specs.{declared.{ask.Me.Me, run.{Account.Account, Start.Start}}, Runs.{account_at, first_account}}
 use Rattle.shm_count.specs.Roots.{member}
 use Rattle.shm_plain.specs.Pools.{Pool, IsOf}
 use Rattle.shm_work.specs.Working.{IsWorkOf}
-use Rattle.shm_script.specs.declared.line.Item.{Item}
-use Rattle.shm_script.specs.Values.{Scripted, Traced}
-use Rattle.shm_agents.specs.declared.agents.Standing.{Standing}
-use Rattle.shm_agents.specs.declared.agents.Standing.TheVariants.{AtWork, Gone, Dead}
+use Rattle.shm_script.specs.{declared.line.Item.Item, Values.{Scripted, Traced}}
+use Rattle.shm_agents.specs.declared.agents.Standing.{Standing, TheVariants.{AtWork, Gone, Dead}}
 use Rattle.shm_agents.specs.Agents.{Playing, Stands, is_at_work, is_client}
-use Rattle.shm_agents.specs.Turns.{agent_of, answered_of, next_by, script_in}
-use Rattle.shm_agents.specs.Work.{work_control}
-use Rattle.shm_agents.proofs.Standing.{IsNow, stands_answered, stands_now, stands_still}
-use Rattle.shm_agents.proofs.Turning.{is_of}
-use Rattle.shm_replay.specs.Orders.{IsGiven, IsUntilAnswered}
-use Rattle.shm_replay.specs.Seats.{AreSeated, IsSeat, Seat, turns_in, turns_left}
+use Rattle.shm_agents.specs.{Turns.{agent_of, answered_of, next_by, script_in}, Work.work_control}
+use Rattle.shm_agents.proofs.{Standing.{IsNow, stands_answered, stands_now, stands_still}, Turning.is_of}
+use Rattle.shm_replay.specs.{Orders.{IsGiven, IsUntilAnswered}, Seats.{AreSeated, IsSeat, Seat, turns_in, turns_left}}
 use Rattle.shm_replay.specs.Turns.{answered, in_a_row, is_busy, is_client_busy, life_in, next_of, next_work, worked}
 use Rattle.shm_replay.proofs.Giving.{idle_row}
 

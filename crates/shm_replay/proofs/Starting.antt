@@ -1,21 +1,15 @@
 -- the clients of a trace before their first word steps
 use Rattle.std.proofs.Common.{◌≡◌, ℕ, ◌+◌, ◌^◌, ◌<◌, Bool, true, false, eqb, List, [], ◌∷◌, refl, sym, ap, ◌∙◌, subst, arith}
-use Rattle.std.specs.Prelude.{Some, None, slice_get}
 use Rattle.std.proofs.lemmas.Bool.{cond-false, cond-true, eqb-true}
-use Rattle.shm_graph.specs.declared.ask.Me.{Me}
-use Rattle.shm_graph.specs.declared.run.Start.{Start}
-use Rattle.shm_graph.specs.Runs.{account_at, first_account}
+use Rattle.std.specs.Prelude.{Some, None, slice_get}
+use Rattle.shm_graph.specs.{declared.{ask.Me.Me, run.Start.Start}, Runs.{account_at, first_account}}
 use Rattle.shm_graph.proofs.States.FirstHeld.{at-accounts_from}
 use Rattle.shm_count.specs.Roots.{member}
 use Rattle.shm_plain.specs.Pools.{first_pool}
-use Rattle.shm_script.specs.Ranges.{IsTrace, ScriptFits}
-use Rattle.shm_script.specs.Values.{Scripted, Traced}
-use Rattle.shm_agents.specs.Agents.{Playing, Stands}
-use Rattle.shm_agents.specs.Turns.{script_in}
-use Rattle.shm_replay.specs.Replays.{start_of}
-use Rattle.shm_replay.specs.Seats.{IsSeat, Seat}
-use Rattle.shm_replay.proofs.Gathering.{same_some}
-use Rattle.shm_replay.proofs.WholeRun.{all_at}
+use Rattle.shm_script.specs.{Ranges.{IsTrace, ScriptFits}, Values.{Scripted, Traced}}
+use Rattle.shm_agents.specs.{Agents.{Playing, Stands}, Turns.script_in}
+use Rattle.shm_replay.specs.{Replays.start_of, Seats.{IsSeat, Seat}}
+use Rattle.shm_replay.proofs.{Gathering.same_some, WholeRun.all_at}
 
 pub account_first : (s : Start) (c : ℕ) → c < s.geometry.clients → account_at (first_pool s).accounts c ≡ first_account s c
 account_first s c l = at-accounts_from s 0 s.geometry.clients c _ l ∙ ap (first_account s) (let z : 0 + c ≡ c = omega arith in z)

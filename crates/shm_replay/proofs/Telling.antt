@@ -1,25 +1,15 @@
 -- what was told of an identity is told still, as a pool grows
 use Rattle.std.proofs.Common.{◌≡◌, ℕ, zero, suc, Bool, true, false, cond, List, [], ◌∷◌, ◌++◌, length, append_assoc, append-nil, refl, sym, ap, ◌∙◌, subst, inl, inr}
+use Rattle.std.proofs.lemmas.{Bool.{cases_eq, cases_lt}, List.{get_or-set_other, get_or-set_same, set_past}}
 use Rattle.std.specs.Prelude.{slice_set}
-use Rattle.std.proofs.lemmas.Bool.{cases_eq, cases_lt}
-use Rattle.std.proofs.lemmas.List.{get_or-set_other, get_or-set_same, set_past}
 use Rattle.shm_words.specs.declared.geometry.Geometry.{Geometry}
-use Rattle.shm_graph.specs.declared.memo.Seen.{Seen}
-use Rattle.shm_graph.specs.declared.memo.Step.{Step}
-use Rattle.shm_graph.specs.declared.run.Account.{Account}
-use Rattle.shm_graph.specs.declared.run.LoggedLine.{LoggedLine}
-use Rattle.shm_graph.specs.declared.run.Move.{Move}
-use Rattle.shm_graph.specs.declared.run.Move.TheVariants.{Word, Dies, Begins}
-use Rattle.shm_graph.specs.declared.run.Start.{Start}
-use Rattle.shm_graph.specs.Agents.{acts, last_agent}
-use Rattle.shm_graph.specs.Asks.{call_after}
-use Rattle.shm_graph.specs.Laws.{Control}
+use Rattle.shm_graph.specs.declared.{memo.{Seen.Seen, Step.Step}, run.{Account.Account, LoggedLine.LoggedLine}}
+use Rattle.shm_graph.specs.declared.run.{Move.{Move, TheVariants.{Word, Dies, Begins}}, Start.Start}
+use Rattle.shm_graph.specs.{Agents.{acts, last_agent}, Asks.call_after, Laws.Control}
 use Rattle.shm_graph.specs.Runs.{Leads, State, account_after, account_at, account_died, account_entered, fell_by, first_state, moved, told_by, told_left}
 use Rattle.shm_graph.specs.Tells.{machine_steps}
 use Rattle.shm_graph.proofs.Runs.Lists.{account_part}
-use Rattle.shm_plain.specs.Calls.{state_of, words}
-use Rattle.shm_plain.specs.Pools.{IsRun, Pool, memo_of, readied}
-use Rattle.shm_plain.specs.Tracks.{kind_next}
+use Rattle.shm_plain.specs.{Calls.{state_of, words}, Pools.{IsRun, Pool, memo_of, readied}, Tracks.kind_next}
 use Rattle.shm_replay.specs.Closings.{AreVisits, IsRecovery, IsVisit, IsWhole}
 
 -- the second list is the first with more behind it

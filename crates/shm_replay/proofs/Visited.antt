@@ -1,17 +1,11 @@
 -- one visit, by its parts
 use Rattle.std.proofs.Common.{◌≡◌, ℕ, Bool, true, false, sym, ap, ◌∙◌, subst}
-use Rattle.shm_graph.specs.declared.memo.Memo.{Memo}
-use Rattle.shm_graph.specs.declared.run.Start.{Start}
-use Rattle.shm_graph.specs.Agents.{last_agent}
-use Rattle.shm_graph.specs.Held.{is_loose}
+use Rattle.shm_graph.specs.{declared.{memo.Memo.Memo, run.Start.Start}, Agents.last_agent, Held.is_loose}
 use Rattle.shm_graph.specs.Runs.{account_at, fell_by, told_left}
 use Rattle.shm_calls.specs.CallsControl.{calls_control, calls_of}
 use Rattle.shm_count.specs.Roots.{member}
-use Rattle.shm_queue.specs.Drain.Control.{drain_parts, draining}
-use Rattle.shm_queue.specs.Drain.{drain_plan}
-use Rattle.shm_recover.specs.Join.{join_control, join_fresh}
-use Rattle.shm_recover.specs.Leave.Control.{leave_parts, leaving}
-use Rattle.shm_recover.specs.Leave.{leave_plan}
+use Rattle.shm_queue.specs.Drain.Control.{drain_parts, draining, drain_steered}
+use Rattle.shm_recover.specs.{Join.{join_control, join_fresh}, Leave.Control.{leave_parts, leaving, leave_steered}}
 use Rattle.shm_steps.specs.Reparting.{map_in}
 use Rattle.shm_plain.specs.Pools.{IsRun, Pool, memo_of}
 use Rattle.shm_replay.specs.Closings.{HasTold, IsRecovery, IsVisit, IsWhole, MayVisit, SameTable}
@@ -30,8 +24,8 @@ table_then m r s h g = record { map = λ key. g.map key ∙ h.map key; loose = g
 
 module _ (c : ℕ) (p r j d q : Pool)
     (join : IsWhole join_control c r (join_fresh (member r.start.geometry c)) j)
-    (drain : IsWhole (calls_control drain_parts drain_plan) c j (calls_of drain_plan (draining (member j.start.geometry c))) d)
-    (leave : IsWhole (calls_control leave_parts leave_plan) c d (calls_of leave_plan (leaving (member d.start.geometry c))) q) where
+    (drain : IsWhole (calls_control drain_parts drain_steered) c j (calls_of drain_steered (draining (member j.start.geometry c))) d)
+    (leave : IsWhole (calls_control leave_parts leave_steered) c d (calls_of leave_steered (leaving (member d.start.geometry c))) q) where
   pub visit_of : (dead : Bool) → MayVisit dead (memo_of p c) → IsRecovery dead c p r → r.start ≡ p.start → IsVisit c p q
   visit_of dead may recovery start =
       record {
@@ -40,8 +34,8 @@ module _ (c : ℕ) (p r j d q : Pool)
         drained = d;
         recovery = subst (λ (b : Bool). IsRecovery b c p r) (sym (may_fell dead (memo_of p c) may)) recovery;
         join = subst (λ (s : Start). IsWhole join_control c r (join_fresh (member s.geometry c)) j) start join;
-        drain = subst (λ (s : Start). IsWhole (calls_control drain_parts drain_plan) c j (calls_of drain_plan (draining (member s.geometry c))) d) (join.start ∙ start) drain;
-        leave = subst (λ (s : Start). IsWhole (calls_control leave_parts leave_plan) c d (calls_of leave_plan (leaving (member s.geometry c))) q) (drain.start ∙ (join.start ∙ start)) leave;
+        drain = subst (λ (s : Start). IsWhole (calls_control drain_parts drain_steered) c j (calls_of drain_steered (draining (member s.geometry c))) d) (join.start ∙ start) drain;
+        leave = subst (λ (s : Start). IsWhole (calls_control leave_parts leave_steered) c d (calls_of leave_steered (leaving (member s.geometry c))) q) (drain.start ∙ (join.start ∙ start)) leave;
       }
 
   pub visit_told : IsRun r → HasTold (account_at p.accounts c) (account_at r.accounts c) → HasTold (account_at p.accounts c) (account_at q.accounts c)

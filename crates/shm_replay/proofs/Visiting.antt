@@ -1,34 +1,18 @@
 -- what a join, a drain and a leaving leave of an identity that visits a pool
 use Rattle.std.proofs.Common.{add-zero, zero, suc, ◌≡◌, ℕ, ◌+◌, ◌-◌, ◌^◌, ◌<◌, ◌≤◌, Bool, true, false, cond, [], refl, sym, ap, ◌∙◌, subst, arith, inl, inr, List, Result}
-use Rattle.std.specs.Prelude.{Ok, Err, None, slice_index}
-use Rattle.std.specs.Result.{IsOk}
-use Rattle.shm_graph.specs.declared.ask.Me.{Me}
-use Rattle.shm_graph.specs.declared.memo.Kind.{Kind}
-use Rattle.shm_graph.specs.declared.memo.Memo.{Memo}
-use Rattle.shm_graph.specs.declared.spot.Spot.TheVariants.{Era, Hold}
-use Rattle.shm_graph.specs.Agents.{acts, entered, steps_made}
-use Rattle.shm_graph.specs.Asks.{Trail}
-use Rattle.shm_graph.specs.Events.{Event}
-use Rattle.shm_graph.specs.Idle.{hold_word}
+use Rattle.std.specs.{Prelude.{Ok, Err, None, slice_index}, Result.IsOk}
+use Rattle.shm_graph.specs.declared.{ask.Me.Me, memo.{Kind.Kind, Memo.Memo}, spot.Spot.TheVariants.{Era, Hold}}
+use Rattle.shm_graph.specs.{Agents.{acts, entered, steps_made}, Asks.Trail, Events.Event, Idle.hold_word}
 use Rattle.shm_graph.specs.Views.{own_word}
-use Rattle.shm_calls.specs.CallsControl.{calls_of}
-use Rattle.shm_calls.specs.CallsFit.{CallsFits}
-use Rattle.shm_calls.specs.CallsKeep.{calls_begin}
-use Rattle.shm_count.specs.declared.answer.EraSpent.{EraSpent}
-use Rattle.shm_count.specs.Roots.{member}
+use Rattle.shm_calls.specs.{CallsControl.calls_of, CallsFit.CallsFits, CallsKeep.calls_begin}
+use Rattle.shm_count.specs.{declared.answer.EraSpent.EraSpent, Roots.member}
 use Rattle.shm_count.proofs.RootSpots.{is_here}
-use Rattle.shm_queue.specs.Drain.Control.{drain_parts, draining}
-use Rattle.shm_queue.specs.Drain.Laws.{drain_laws}
-use Rattle.shm_queue.specs.Drain.{DrainLeaves, drain_plan}
-use Rattle.shm_queue.specs.Take.Laws.{take_laws}
-use Rattle.shm_recover.specs.Join.{JoinFits, JoinGives, join_fresh}
-use Rattle.shm_recover.specs.Join.Keeps.{join_begins}
-use Rattle.shm_recover.specs.Leave.Control.{leave_parts, leaving}
-use Rattle.shm_recover.specs.Leave.Gone.{idle_may_leave}
-use Rattle.shm_recover.specs.Leave.Laws.{leave_laws}
+use Rattle.shm_queue.specs.Drain.{Control.{drain_parts, draining, drain_steered}, Laws.drain_laws}
+use Rattle.shm_queue.specs.{Drain.{DrainLeaves, drain_plan}, Take.Laws.take_laws}
+use Rattle.shm_recover.specs.Join.{JoinFits, JoinGives, join_fresh, Keeps.join_begins}
+use Rattle.shm_recover.specs.Leave.{Control.{leave_parts, leaving, leave_steered}, Gone.idle_may_leave, Laws.leave_laws}
 use Rattle.shm_recover.specs.Leave.{LeaveLeaves, leave_plan}
-use Rattle.shm_plain.specs.Pools.{IsRun, Pool, memo_of, readied}
-use Rattle.shm_plain.specs.Tracks.{kind_next}
+use Rattle.shm_plain.specs.{Pools.{IsRun, Pool, memo_of, readied}, Tracks.kind_next}
 use Rattle.shm_plain.proofs.Turning.{ready_memo}
 use Rattle.shm_replay.specs.Closings.{AreVisits, IsIn, IsOut, IsVisit}
 use Rattle.shm_replay.proofs.OwnEras.{never_spent}
@@ -95,12 +79,12 @@ module _ (p : Pool) (c : ℕ) (run : IsRun p) (l : c < p.start.geometry.clients)
   abbrev who : Me
   who = member p.start.geometry c
 
-  pub drain_fits : CallsFits drain_parts drain_plan (calls_of drain_plan (draining who)) here here []
+  pub drain_fits : CallsFits drain_parts drain_plan (calls_of drain_steered (draining who)) here here []
   drain_fits =
       calls_begin drain_parts drain_plan (drain_laws take_laws) (draining who) here refl refl
       (record { geometry = run.held.at.fits; who = l; here = is_here c here h.idle; idle = h.idle.op; none = h.untaken }, refl, refl, refl, refl)
 
-  pub leave_fits : CallsFits leave_parts leave_plan (calls_of leave_plan (leaving who)) here here []
+  pub leave_fits : CallsFits leave_parts leave_plan (calls_of leave_steered (leaving who)) here here []
   leave_fits =
       calls_begin leave_parts leave_plan leave_laws (leaving who) here refl refl
       (idle_may_leave who here (record { geometry = run.held.at.fits; who = l }) h.idle h.latch h.dying h.unsent h.untaken, refl, refl, refl, refl)

@@ -1,40 +1,24 @@
 -- the run of a trace and its closing are a replay
 use Rattle.std.proofs.Common.{◌≡◌, ◌≢◌, ℕ, zero, suc, ◌%◌, ◌<◌, Bool, true, false, eqb, List, [], ◌∷◌, refl, sym, ap, ◌∙◌, subst, arith}
-use Rattle.std.specs.Prelude.{Option, Some, None, slice_get, slice_index, slice_index_or}
-use Rattle.std.specs.FinMap as finmap
-use Rattle.std.specs.Ordering.{nat_cmp}
-use Rattle.std.specs.List.{AllByRecursion}
 use Rattle.std.proofs.lemmas.Bool.{cond-false, cond-true, eq-eqb, ne_eqb, true≢false}
-use Rattle.shm_graph.specs.declared.ask.Me.{Me}
-use Rattle.shm_graph.specs.declared.run.Account.{Account}
-use Rattle.shm_graph.specs.declared.run.Start.{Start}
-use Rattle.shm_graph.specs.declared.table.Part.{Part}
-use Rattle.shm_graph.specs.declared.table.Part.TheVariants.{Loose, Table}
-use Rattle.shm_graph.specs.Held.{PartTie, is_loose}
-use Rattle.shm_graph.specs.Runs.{account_at, first_account, told_left}
-use Rattle.shm_graph.specs.Tables.{Contents, IsPartition, find}
+use Rattle.std.specs.{Prelude.{Option, Some, None, slice_get, slice_index, slice_index_or}, Ordering.nat_cmp}
+use Rattle.std.specs.List.{AllByRecursion}
+use Rattle.std.specs.FinMap as finmap
+use Rattle.shm_graph.specs.declared.{ask.Me.Me, run.{Account.Account, Start.Start}, table.Part.Part}
+use Rattle.shm_graph.specs.{declared.table.Part.TheVariants.{Loose, Table}, Held.{PartTie, is_loose}}
+use Rattle.shm_graph.specs.{Runs.{account_at, first_account, told_left}, Tables.{Contents, IsPartition, find}}
 use Rattle.shm_graph.proofs.States.FirstHeld.{same_everywhere}
 use Rattle.shm_count.specs.Roots.{member}
 use Rattle.shm_steps.specs.Reparting.{chain_in, map_in}
-use Rattle.shm_plain.specs.Closings.{IsClosedRun}
-use Rattle.shm_plain.specs.Pools.{IsRun, Pool, first_pool, memo_of}
+use Rattle.shm_plain.specs.{Closings.IsClosedRun, Pools.{IsRun, Pool, first_pool, memo_of}}
 use Rattle.shm_plain.proofs.StillTable.{still_part}
-use Rattle.shm_script.specs.Logged.{Logged}
-use Rattle.shm_script.specs.Ranges.{AreApart, IsTrace, ScriptFits}
-use Rattle.shm_script.specs.Values.{Scripted, Traced}
-use Rattle.shm_agents.specs.Agents.{Playing, logged}
-use Rattle.shm_agents.specs.Logs.{AreUnspent, IsLog, IsLogOf}
-use Rattle.shm_agents.specs.Turns.{lives_of, script_in}
-use Rattle.shm_replay.specs.Closings.{AreVisits, HasTold, SameTable, is_dead, is_standing_dead}
-use Rattle.shm_replay.specs.Gathered.{logs_by}
-use Rattle.shm_replay.specs.Orders.{IsGivenAll}
-use Rattle.shm_replay.specs.Replays.{IsReplay, fold_in, start_of}
-use Rattle.shm_replay.specs.Seats.{AreSeated, IsSeat, Seat}
+use Rattle.shm_script.specs.{Logged.Logged, Ranges.{AreApart, IsTrace, ScriptFits}, Values.{Scripted, Traced}}
+use Rattle.shm_agents.specs.{Agents.{Playing, logged}, Logs.{AreUnspent, IsLog, IsLogOf}, Turns.{lives_of, script_in}}
+use Rattle.shm_replay.specs.{Closings.{AreVisits, HasTold, SameTable, is_dead, is_standing_dead}, Gathered.logs_by}
+use Rattle.shm_replay.specs.{Orders.IsGivenAll, Replays.{IsReplay, fold_in, start_of}, Seats.{AreSeated, IsSeat, Seat}}
 use Rattle.shm_replay.proofs.Ending.{IsOver, is_over, over_fold, over_log, over_table, over_unspent, seat_rest}
-use Rattle.shm_replay.proofs.Firsts.{even_run}
-use Rattle.shm_replay.proofs.Gathering.{fold_none, fold_some, logs_all, logs_are}
-use Rattle.shm_replay.proofs.Later.{led_stays, log_later, visits_led}
-use Rattle.shm_replay.proofs.Telling.{Grows, visits_grow}
+use Rattle.shm_replay.proofs.{Firsts.even_run, Gathering.{fold_none, fold_some, logs_all, logs_are}}
+use Rattle.shm_replay.proofs.{Later.{led_stays, log_later, visits_led}, Telling.{Grows, visits_grow}}
 
 same_some : {A : Type 0} (a b : A) → ◌≡◌ {A = Option A} (Some a) (Some b) → a ≡ b
 same_some a b e = cc

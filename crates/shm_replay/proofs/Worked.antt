@@ -1,13 +1,10 @@
 -- a turn of agents in a pool in a vector
 use Rattle.std.proofs.Common.{◌≡◌, ◌≢◌, ℕ, zero, suc, ◌<◌, Bool, true, false, cond, refl, ap, ◌∙◌, arith}
-use Rattle.std.specs.Prelude.{Some}
 use Rattle.std.proofs.lemmas.List.{get_or-set_other}
-use Rattle.shm_graph.specs.declared.ask.Me.{Me}
-use Rattle.shm_graph.specs.Agents.{acts}
-use Rattle.shm_graph.specs.Laws.{step_of}
+use Rattle.std.specs.Prelude.{Some}
+use Rattle.shm_graph.specs.{declared.ask.Me.Me, Agents.acts, Laws.step_of}
 use Rattle.shm_graph.specs.Runs.{account_at, account_died, account_entered, changed}
-use Rattle.shm_plain.specs.Pools.{Pool, IsOf, after_fall, memo_of, readied, turn_on, turned}
-use Rattle.shm_plain.specs.Tracks.{kind_next}
+use Rattle.shm_plain.specs.{Pools.{Pool, IsOf, after_fall, memo_of, readied, turn_on, turned}, Tracks.kind_next}
 use Rattle.shm_work.specs.Plain.{IsTurned}
 use Rattle.shm_agents.specs.Work.{Work, work_control}
 use Rattle.shm_replay.specs.Turns.{worked}

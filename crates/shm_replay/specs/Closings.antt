@@ -1,25 +1,14 @@
 -- the closing of a pool after a trace
 use Rattle.std.specs.Prelude.{◌≡◌, ◌≢◌, ℕ, zero, suc, ◌^◌, ◌≤◌, ◌⊎◌, Bool, true, false, Option, None, Some, List, [], ◌++◌, slice_index}
-use Rattle.shm_graph.specs.declared.memo.Memo.{Memo}
-use Rattle.shm_graph.specs.declared.memo.Status.TheVariants.{Gone, New}
-use Rattle.shm_graph.specs.declared.run.Account.{Account}
-use Rattle.shm_graph.specs.declared.run.LoggedLine.{LoggedLine}
-use Rattle.shm_graph.specs.Agents.{acts, last_agent, steps_made}
-use Rattle.shm_graph.specs.Held.{is_loose}
-use Rattle.shm_graph.specs.Idle.{IsIdle}
-use Rattle.shm_graph.specs.Laws.{Control}
-use Rattle.shm_graph.specs.Runs.{fell_by, told_left}
+use Rattle.shm_graph.specs.declared.{memo.{Memo.Memo, Status.TheVariants.{Gone, New}}, run.Account.Account}
+use Rattle.shm_graph.specs.{declared.run.LoggedLine.LoggedLine, Agents.{acts, last_agent, steps_made}, Held.is_loose}
+use Rattle.shm_graph.specs.{Idle.IsIdle, Laws.Control, Runs.{fell_by, told_left}}
 use Rattle.shm_calls.specs.CallsControl.{calls_control, calls_of}
 use Rattle.shm_count.specs.Roots.{member}
-use Rattle.shm_plain.specs.Calls.{Took}
-use Rattle.shm_plain.specs.Pools.{IsRun, Pool, memo_of}
-use Rattle.shm_queue.specs.Drain.Control.{drain_parts, draining}
-use Rattle.shm_queue.specs.Drain.{drain_plan}
-use Rattle.shm_recover.specs.Join.{join_control, join_fresh}
-use Rattle.shm_recover.specs.Leave.Control.{leave_parts, leaving}
-use Rattle.shm_recover.specs.Leave.{leave_plan}
-use Rattle.shm_recover.specs.Recover.Control.{recover_parts, recovering}
-use Rattle.shm_recover.specs.Recover.{recover_plan}
+use Rattle.shm_plain.specs.{Calls.Took, Pools.{IsRun, Pool, memo_of}}
+use Rattle.shm_queue.specs.Drain.Control.{drain_parts, draining, drain_steered}
+use Rattle.shm_recover.specs.{Join.{join_control, join_fresh}, Leave.Control.{leave_parts, leaving, leave_steered}}
+use Rattle.shm_recover.specs.Recover.Control.{recover_parts, recovering, recover_steered}
 use Rattle.shm_steps.specs.Reparting.{map_in}
 pub use Rattle.shm_agents.specs.Agents.{is_standing_dead}
 use Rattle.shm_agents.specs.Agents.{Playing}
@@ -37,7 +26,7 @@ pub record IsWhole {M A : Type 0} (k : Control M A) (c : ℕ) (p : Pool) (m : M)
 -- where the last agent of c died, c is recovered, from p to q
 abbrev pub IsRecovery : Bool → ℕ → Pool → Pool → Type 0
 IsRecovery false c p q = q ≡ p
-IsRecovery true c p q = IsWhole (calls_control recover_parts recover_plan) c p (calls_of recover_plan (recovering (member p.start.geometry c))) q
+IsRecovery true c p q = IsWhole (calls_control recover_parts recover_steered) c p (calls_of recover_steered (recovering (member p.start.geometry c))) q
 
 -- c was recovered where its last agent had died; then it joined, took all that waited for it, and left
 pub record IsVisit (c : ℕ) (p q : Pool) : Type 0 where
@@ -46,8 +35,8 @@ pub record IsVisit (c : ℕ) (p q : Pool) : Type 0 where
   pub drained : Pool
   pub recovery : IsRecovery (fell_by (last_agent (memo_of p c).agents)) c p recovered
   pub join : IsWhole join_control c recovered (join_fresh (member p.start.geometry c)) joined
-  pub drain : IsWhole (calls_control drain_parts drain_plan) c joined (calls_of drain_plan (draining (member p.start.geometry c))) drained
-  pub leave : IsWhole (calls_control leave_parts leave_plan) c drained (calls_of leave_plan (leaving (member p.start.geometry c))) q
+  pub drain : IsWhole (calls_control drain_parts drain_steered) c joined (calls_of drain_steered (draining (member p.start.geometry c))) drained
+  pub leave : IsWhole (calls_control leave_parts leave_steered) c drained (calls_of leave_steered (leaving (member p.start.geometry c))) q
 
 -- the n identities from c on are visited from p to q, one after the other
 abbrev pub AreVisits : ℕ → ℕ → Pool → Pool → Type 0

@@ -1,7 +1,6 @@
 -- the logs of the clients of a trace's scripts
 use Rattle.std.specs.Prelude.{Option, Some, None, List, [], ◌∷◌, ◌++◌, slice_index_or}
-use Rattle.shm_script.specs.Logged.{Logged}
-use Rattle.shm_script.specs.Values.{Scripted}
+use Rattle.shm_script.specs.{Logged.Logged, Values.Scripted}
 use Rattle.shm_agents.specs.Agents.{Playing, logged}
 
 -- the log of a client, where there is one

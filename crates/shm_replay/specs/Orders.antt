@@ -1,8 +1,7 @@
 -- which turns a trace gives: those of its items in order, and then rounds
 use Rattle.std.specs.Prelude.{◌≡◌, ◌≢◌, ℕ, zero, suc, ◌+◌, ◌<◌, ◌≤◌, ◌⊎◌, true, false, List, [], ◌∷◌, ◌++◌, replicate}
 use Rattle.shm_plain.specs.Pools.{Pool}
-use Rattle.shm_script.specs.declared.line.Item.{Item}
-use Rattle.shm_script.specs.Values.{Traced}
+use Rattle.shm_script.specs.{declared.line.Item.Item, Values.Traced}
 use Rattle.shm_replay.specs.Turns.{answered, given, in_a_row, is_busy, is_client_busy}
 
 -- n turns of c in a row from the pool p are those of an item without a number: before each of them the client was at work, and no more of its commands had answered; after them one more had, or the client had ended or died, or they are 100,000

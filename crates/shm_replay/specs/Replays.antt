@@ -1,18 +1,11 @@
 -- the replay of a trace
-use Rattle.std.specs.Prelude.{◌≡◌, ℕ, ◌<◌, ◌==◌, if◌then◌else◌, true, List, [], ◌∷◌}
+use Rattle.std.specs.{Prelude.{◌≡◌, ℕ, ◌<◌, ◌==◌, if◌then◌else◌, true, List, [], ◌∷◌}, List.AllByRecursion}
 use Rattle.std.specs.FinMap as finmap
-use Rattle.std.specs.List.{AllByRecursion}
-use Rattle.shm_graph.specs.declared.run.Start.{Start}
-use Rattle.shm_graph.specs.Spots.{see}
-use Rattle.shm_graph.specs.Tables.{IsTable, map_of}
-use Rattle.shm_graph.specs.declared.table.Entry.{Entry}
-use Rattle.shm_plain.specs.Pools.{Pool, first_pool}
-use Rattle.shm_plain.specs.Closings.{IsClosedRun}
-use Rattle.shm_script.specs.Logged.{Logged, Table, fold_of}
-use Rattle.shm_script.specs.Values.{Traced}
+use Rattle.shm_graph.specs.{declared.{run.Start.Start, table.Entry.Entry}, Spots.see, Tables.{IsTable, map_of}}
+use Rattle.shm_plain.specs.{Pools.{Pool, first_pool}, Closings.IsClosedRun}
+use Rattle.shm_script.specs.{Logged.{Logged, Table, fold_of}, Values.Traced}
 use Rattle.shm_agents.specs.Logs.{AreLogs, AreUnspent}
-use Rattle.shm_replay.specs.Orders.{IsGivenAll}
-use Rattle.shm_replay.specs.Closings.{AreVisits}
+use Rattle.shm_replay.specs.{Orders.IsGivenAll, Closings.AreVisits}
 
 -- the pool of a trace: of its format and its sizes, made for tables, and its first eras are 1
 abbrev pub start_of : Traced → Start

@@ -4,9 +4,7 @@ use Rattle.shm_graph.specs.Runs.{account_at, first_account}
 use Rattle.shm_count.specs.Roots.{member}
 use Rattle.shm_plain.specs.Pools.{Pool}
 use Rattle.shm_script.specs.Values.{Scripted, Traced}
-use Rattle.shm_agents.specs.Agents.{Playing, Stands}
-use Rattle.shm_agents.specs.Turns.{script_in}
-use Rattle.shm_agents.specs.TurnsLeft.{turns_by}
+use Rattle.shm_agents.specs.{Agents.{Playing, Stands}, Turns.script_in, TurnsLeft.turns_by}
 
 -- x are the agents of c, which has a script, and stand in the pool
 pub record IsSeat (t : Traced) (p : Pool) (c : ℕ) (x : Playing) : Type 0 where

@@ -5,8 +5,7 @@ use Rattle.shm_graph.specs.Runs.{account_at}
 use Rattle.shm_count.specs.Roots.{member}
 use Rattle.shm_plain.specs.Pools.{Pool, after_fall, readied, turn_on, turned}
 use Rattle.shm_script.specs.Values.{Scripted, Traced}
-use Rattle.shm_agents.specs.Turns.{agent_of, answered_of, life_of, next_by, script_in}
-use Rattle.shm_agents.specs.Work.{Work, work_control}
+use Rattle.shm_agents.specs.{Turns.{agent_of, answered_of, life_of, next_by, script_in}, Work.{Work, work_control}}
 
 -- what an identity has to do next; none where it has no script, or none of its agents has anything left to do
 abbrev pub next_work : Pool → ℕ → Option Scripted → Option Work

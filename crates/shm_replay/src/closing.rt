@@ -1,24 +1,21 @@
 //! The closing of a pool after a trace.
 
 ghost use Rattle.std.specs.Prelude.{◌≡◌, ◌≢◌, ◌+◌, ◌^◌, ◌<◌, ◌≤◌, ℕ, true, None, length, slice_index_or};
-ghost use Rattle.shm_graph.specs.declared.memo.Status.TheVariants.{Gone};
-ghost use Rattle.shm_graph.specs.Agents.{steps_made};
-ghost use Rattle.shm_graph.specs.Runs.{account_at};
+ghost use Rattle.shm_graph.specs.{declared.memo.Status.TheVariants.Gone, Agents.steps_made, Runs.account_at};
 ghost use Rattle.shm_calls.specs.CallsControl.{calls_control, calls_of};
 ghost use Rattle.shm_count.specs.Roots.{member};
-ghost use Rattle.shm_plain.specs.Calls.{Ran};
-ghost use Rattle.shm_plain.specs.Pools.{IsRun, memo_of};
-ghost use Rattle.shm_queue.specs.Drain.Control.{drain_parts, draining};
-ghost use Rattle.shm_queue.specs.Drain.{drain_plan};
+ghost use Rattle.shm_plain.specs.{Calls.Ran, Pools.{IsRun, memo_of}};
+ghost use Rattle.shm_queue.specs.Drain.Control.{drain_parts, draining, drain_steered};
 ghost use Rattle.shm_recover.specs.Join.{join_control, join_fresh};
-ghost use Rattle.shm_recover.specs.Leave.Control.{leave_parts, leaving};
-ghost use Rattle.shm_recover.specs.Leave.{leave_plan};
+ghost use Rattle.shm_recover.specs.Leave.Control.{leave_parts, leaving, leave_steered};
 ghost use Rattle.shm_replay.specs.Closings.{AreVisits, HasTold, IsDead, IsIn, IsOut, IsRecovery, IsVisit, IsWhole, MayVisit, SameTable, is_dead};
 
-use shm_agents::agents::{Agents, Standing};
+use shm_agents::agents::Standing;
 use shm_calls::Calls;
 use shm_graph::{Life, Me};
 use shm_plain::PlainPool;
+use shm_play::play::Play;
+use shm_play::players::Players;
 use shm_queue::Drain;
 use shm_recover::{Join, Leave, Recover};
 
@@ -71,7 +68,7 @@ fn drain(pool: &mut PlainPool, me: Me, life: &mut Life)
     requires enough { 2 ^ 38 < life.old.left }
     requires era { pool.old.start.first_era ≡ 1 }
     requires few { steps_made (memo_of pool.old me.who) + life.old.left ≤ 2 ^ 43 }
-    ensures whole { IsWhole (calls_control drain_parts drain_plan) me.who pool.old (calls_of drain_plan (draining (member pool.old.start.geometry me.who))) pool.new }
+    ensures whole { IsWhole (calls_control drain_parts drain_steered) me.who pool.old (calls_of drain_steered (draining (member pool.old.start.geometry me.who))) pool.new }
     ensures here { IsIn me.who (memo_of pool.new me.who) }
     ensures part { (memo_of pool.new me.who).part ≡ (memo_of pool.old me.who).part }
     ensures ran { Ran me.who true true pool.old pool.new life.old.left life.new.left }
@@ -92,7 +89,7 @@ fn leave(pool: &mut PlainPool, me: Me, life: &mut Life)
     requires enough { 2 ^ 38 < life.old.left }
     requires era { pool.old.start.first_era ≡ 1 }
     requires few { steps_made (memo_of pool.old me.who) + life.old.left ≤ 2 ^ 43 }
-    ensures whole { IsWhole (calls_control leave_parts leave_plan) me.who pool.old (calls_of leave_plan (leaving (member pool.old.start.geometry me.who))) pool.new }
+    ensures whole { IsWhole (calls_control leave_parts leave_steered) me.who pool.old (calls_of leave_steered (leaving (member pool.old.start.geometry me.who))) pool.new }
     ensures gone { (memo_of pool.new me.who).status ≡ Gone }
     ensures part { (memo_of pool.new me.who).part ≡ (memo_of pool.old me.who).part }
     ensures ran { Ran me.who true true pool.old pool.new life.old.left life.new.left }
@@ -151,7 +148,7 @@ fn visit(pool: &mut PlainPool, me: Me, dead: bool)
 }
 
 /// Whether all agents of the identity died.
-fn is_dead(agents: &Option<Agents>) -> bool
+fn is_dead<A: Play>(agents: &Option<Players<A>>) -> bool
     ensures { result ≡ is_dead agents.now }
 {
     match agents {
@@ -161,7 +158,7 @@ fn is_dead(agents: &Option<Agents>) -> bool
 }
 
 /// Each identity is recovered where its last agent died, joins, takes all that waits for it, and leaves, one after the other.
-pub(crate) fn visit_all(pool: &mut PlainPool, agents: &[Option<Agents>])
+pub(crate) fn visit_all<A: Play>(pool: &mut PlainPool, agents: &[Option<Players<A>>])
     requires era { pool.old.start.first_era ≡ 1 }
     requires many { length agents.now ≡ pool.old.start.geometry.clients }
     requires may { (c : ℕ) → c < pool.old.start.geometry.clients → MayVisit (is_dead (slice_index_or agents.now c None)) (memo_of pool.old c) }

@@ -2,8 +2,7 @@
 
 ghost use Rattle.std.specs.Prelude.{◌≡◌, List};
 ghost use Rattle.shm_plain.specs.Pools.{Pool as APool};
-ghost use Rattle.shm_script.specs.Logged.{Logged as ALogged};
-ghost use Rattle.shm_script.specs.Values.{Traced as ATrace};
+ghost use Rattle.shm_script.specs.{Logged.Logged as ALogged, Values.Traced as ATrace};
 ghost use Rattle.shm_replay.specs.Replays.{IsReplay};
 
 /// A replay is determined: two replays of one trace leave the same closed pool, turn for turn and word for word, and the same logs.

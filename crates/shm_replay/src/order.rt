@@ -3,13 +3,13 @@
 ghost use Rattle.std.specs.Prelude.{◌≡◌, ◌≢◌, ◌+◌, ◌<◌, ◌≤◌, ◌⊎◌, ℕ, false, true, None, Some, List, length, slice_index_or, IfSome, MatchOption};
 ghost use Rattle.shm_graph.specs.Runs.{account_at};
 ghost use Rattle.shm_agents.specs.Agents.{is_client};
-ghost use Rattle.shm_replay.specs.AtWork.{has_work};
-ghost use Rattle.shm_replay.specs.Orders.{AreOfItems, IsGiven, IsUntilAnswered, from_on, rounds_of};
-ghost use Rattle.shm_replay.specs.Seats.{AreSeated, IsSeat, turns_in, turns_left};
-ghost use Rattle.shm_replay.specs.Turns.{given, in_a_row, is_busy};
+ghost use Rattle.shm_replay.specs.{AtWork.has_work, Orders.{AreOfItems, IsGiven, IsUntilAnswered, from_on, rounds_of}};
+ghost use Rattle.shm_replay.specs.{Seats.{AreSeated, IsSeat, turns_in, turns_left}, Turns.{given, in_a_row, is_busy}};
 
-use shm_agents::agents::{Agents, Standing};
+use shm_agents::agents::Standing;
 use shm_plain::PlainPool;
+use shm_play::play::Play;
+use shm_play::players::Players;
 use shm_script::{Item, Trace};
 
 /// How many turns an item without a number of turns gives at most.
@@ -20,7 +20,7 @@ const ROUNDS: u32 = 64;
 
 /// Gives a turn to the agents of an identity: a word step or a death, unless none of them has anything left to do.
 #[inline(always)]
-fn give_turn(agents: &mut Agents, trace: &Trace, pool: &mut PlainPool)
+fn give_turn<A: Play>(agents: &mut Players<A>, trace: &Trace, pool: &mut PlainPool)
     requires seat { IsSeat trace.now pool.old agents.old.me.who agents.old }
     ensures seat { IsSeat trace.now pool.new agents.old.me.who agents.new }
     ensures given { pool.new ≡ in_a_row trace.now pool.old agents.old.me.who 1 }
@@ -39,7 +39,7 @@ fn give_turn(agents: &mut Agents, trace: &Trace, pool: &mut PlainPool)
 }
 
 /// Gives so many turns to the agents of an identity. Those that find nothing left to do change nothing, and are left out.
-fn give_row(agents: &mut Agents, trace: &Trace, pool: &mut PlainPool, turns: u32)
+fn give_row<A: Play>(agents: &mut Players<A>, trace: &Trace, pool: &mut PlainPool, turns: u32)
     requires seat { IsSeat trace.now pool.old agents.old.me.who agents.old }
     ensures seat { IsSeat trace.now pool.new agents.old.me.who agents.new }
     ensures given { pool.new ≡ in_a_row trace.now pool.old agents.old.me.who turns }
@@ -55,7 +55,7 @@ fn give_row(agents: &mut Agents, trace: &Trace, pool: &mut PlainPool, turns: u32
 }
 
 /// Gives turns to a client until one more of its commands has answered, or it has ended or died, and 100,000 at most.
-fn give_until_answered(agents: &mut Agents, trace: &Trace, pool: &mut PlainPool)
+fn give_until_answered<A: Play>(agents: &mut Players<A>, trace: &Trace, pool: &mut PlainPool)
     requires seat { IsSeat trace.now pool.old agents.old.me.who agents.old }
     ensures seat { IsSeat trace.now pool.new agents.old.me.who agents.new }
     ensures given { (n : ℕ) × IsUntilAnswered trace.now pool.old agents.old.me.who n × (pool.new ≡ in_a_row trace.now pool.old agents.old.me.who n) }
@@ -76,7 +76,12 @@ fn give_until_answered(agents: &mut Agents, trace: &Trace, pool: &mut PlainPool)
 }
 
 /// Gives the turns of an item to the agents of its identity, if that has a script.
-fn give_item(agents: &mut [Option<Agents>], trace: &Trace, item: Item, pool: &mut PlainPool)
+fn give_item<A: Play>(
+    agents: &mut [Option<Players<A>>],
+    trace: &Trace,
+    item: Item,
+    pool: &mut PlainPool,
+)
     requires seated { AreSeated trace.now pool.old agents.old }
     requires item { item.client < trace.now.clients }
     ensures seated { AreSeated trace.now pool.new agents.new }
@@ -93,7 +98,11 @@ fn give_item(agents: &mut [Option<Agents>], trace: &Trace, item: Item, pool: &mu
 }
 
 /// Gives the turns of the trace's order, one item after the other.
-pub(crate) fn give_items(agents: &mut [Option<Agents>], trace: &Trace, pool: &mut PlainPool)
+pub(crate) fn give_items<A: Play>(
+    agents: &mut [Option<Players<A>>],
+    trace: &Trace,
+    pool: &mut PlainPool,
+)
     requires seated { AreSeated trace.now pool.old agents.old }
     ensures seated { AreSeated trace.now pool.new agents.new }
     ensures given { (cs : List ℕ) × AreOfItems trace.now pool.old trace.now.order cs × (pool.new ≡ given trace.now pool.old cs) }
@@ -107,7 +116,12 @@ pub(crate) fn give_items(agents: &mut [Option<Agents>], trace: &Trace, pool: &mu
 
 /// Gives a turn to the agents of an identity, if it has a script. It answers whether one of them had anything to do.
 #[inline(always)]
-fn give_one(agents: &mut [Option<Agents>], trace: &Trace, who: u8, pool: &mut PlainPool) -> bool
+fn give_one<A: Play>(
+    agents: &mut [Option<Players<A>>],
+    trace: &Trace,
+    who: u8,
+    pool: &mut PlainPool,
+) -> bool
     requires seated { AreSeated trace.now pool.old agents.old }
     requires who { who < trace.now.clients }
     ensures seated { AreSeated trace.now pool.new agents.new }
@@ -129,7 +143,11 @@ fn give_one(agents: &mut [Option<Agents>], trace: &Trace, who: u8, pool: &mut Pl
 
 /// Gives a turn to the agents of each identity, in order of number. It answers whether one of them had anything to do.
 #[inline(always)]
-fn give_round(agents: &mut [Option<Agents>], trace: &Trace, pool: &mut PlainPool) -> bool
+fn give_round<A: Play>(
+    agents: &mut [Option<Players<A>>],
+    trace: &Trace,
+    pool: &mut PlainPool,
+) -> bool
     requires seated { AreSeated trace.now pool.old agents.old }
     ensures seated { AreSeated trace.now pool.new agents.new }
     ensures given { pool.new ≡ given trace.now pool.old (from_on 0 trace.now.clients) }
@@ -149,7 +167,11 @@ fn give_round(agents: &mut [Option<Agents>], trace: &Trace, pool: &mut PlainPool
 
 /// Gives 64 rounds of turns, or fewer where nobody has anything left to do. It answers whether somebody had in each of them.
 #[inline(always)]
-fn give_some_rounds(agents: &mut [Option<Agents>], trace: &Trace, pool: &mut PlainPool) -> bool
+fn give_some_rounds<A: Play>(
+    agents: &mut [Option<Players<A>>],
+    trace: &Trace,
+    pool: &mut PlainPool,
+) -> bool
     requires seated { AreSeated trace.now pool.old agents.old }
     ensures seated { AreSeated trace.now pool.new agents.new }
     ensures given { (n : ℕ) × (pool.new ≡ given trace.now pool.old (rounds_of trace.now.clients n)) }
@@ -166,7 +188,7 @@ fn give_some_rounds(agents: &mut [Option<Agents>], trace: &Trace, pool: &mut Pla
 }
 
 /// Whether one of the agents of an identity acts, or comes next.
-fn has_work(agents: &Option<Agents>) -> bool
+fn has_work<A: Play>(agents: &Option<Players<A>>) -> bool
     ensures { result ≡ has_work agents.now }
 {
     match agents {
@@ -176,7 +198,7 @@ fn has_work(agents: &Option<Agents>) -> bool
 }
 
 /// The first identity from this one on whose agents have something to do.
-fn first_at_work(agents: &[Option<Agents>], from: usize) -> Option<usize>
+fn first_at_work<A: Play>(agents: &[Option<Players<A>>], from: usize) -> Option<usize>
     ensures { MatchOption result ((c : ℕ) → from ≤ c → has_work (slice_index_or agents.now c None) ≡ false) (λ who. (who < length agents.now) × ((c : ℕ) → from ≤ c → c < who → has_work (slice_index_or agents.now c None) ≡ false)) }
 {
     for who in from..agents.len() {
@@ -188,7 +210,7 @@ fn first_at_work(agents: &[Option<Agents>], from: usize) -> Option<usize>
 }
 
 /// The identity whose agents have something to do, where there is no other one.
-fn lone(agents: &[Option<Agents>]) -> Option<usize>
+fn lone<A: Play>(agents: &[Option<Players<A>>]) -> Option<usize>
     ensures { IfSome result (λ who. (who < length agents.now) × ((c : ℕ) → c ≢ who → has_work (slice_index_or agents.now c None) ≡ false)) }
 {
     let who = first_at_work(agents, 0)?;
@@ -200,7 +222,7 @@ fn lone(agents: &[Option<Agents>]) -> Option<usize>
 
 /// Gives turns to the agents of an identity until they have nothing left to do, where nobody else has: each of them is a round.
 #[inline(never)]
-fn give_rest(agents: &mut Agents, trace: &Trace, pool: &mut PlainPool)
+fn give_rest<A: Play>(agents: &mut Players<A>, trace: &Trace, pool: &mut PlainPool)
     requires seat { IsSeat trace.now pool.old agents.old.me.who agents.old }
     requires who { agents.old.me.who < trace.now.clients }
     requires lone { (d : ℕ) → d ≢ agents.old.me.who → is_busy trace.now pool.old d ≡ false }
@@ -216,7 +238,12 @@ fn give_rest(agents: &mut Agents, trace: &Trace, pool: &mut PlainPool)
 }
 
 /// Gives rounds of turns until no agent has anything left to do, where only those of the identity `who` have.
-fn finish(agents: &mut [Option<Agents>], trace: &Trace, who: usize, pool: &mut PlainPool)
+fn finish<A: Play>(
+    agents: &mut [Option<Players<A>>],
+    trace: &Trace,
+    who: usize,
+    pool: &mut PlainPool,
+)
     requires seated { AreSeated trace.now pool.old agents.old }
     requires who { who < length agents.old }
     requires lone { (c : ℕ) → c ≢ who → has_work (slice_index_or agents.old c None) ≡ false }
@@ -233,7 +260,11 @@ fn finish(agents: &mut [Option<Agents>], trace: &Trace, who: usize, pool: &mut P
 
 /// Gives rounds of turns until no agent has anything left to do. Once only those of one identity have, the others are passed over.
 #[inline(never)]
-pub(crate) fn give_rounds(agents: &mut [Option<Agents>], trace: &Trace, pool: &mut PlainPool)
+pub(crate) fn give_rounds<A: Play>(
+    agents: &mut [Option<Players<A>>],
+    trace: &Trace,
+    pool: &mut PlainPool,
+)
     requires seated { AreSeated trace.now pool.old agents.old }
     ensures seated { AreSeated trace.now pool.new agents.new }
     ensures given { (n : ℕ) × (pool.new ≡ given trace.now pool.old (rounds_of trace.now.clients n)) }

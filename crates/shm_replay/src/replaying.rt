@@ -2,22 +2,20 @@
 
 ghost use Rattle.std.specs.Prelude.{◌≡◌, ℕ, ◌+◌, ◌<◌, ◌≤◌, ◌++◌, true, None, Some, List, [], length, vec_len, vec_capacity, slice_get, slice_index_or, slice_set, IfOk, MatchOption};
 ghost use Rattle.shm_words.specs.Layout.{GeometryFits};
-ghost use Rattle.shm_graph.specs.declared.memo.Status.TheVariants.{Gone};
-ghost use Rattle.shm_graph.specs.Runs.{account_at};
+ghost use Rattle.shm_graph.specs.{declared.memo.Status.TheVariants.Gone, Runs.account_at};
 ghost use Rattle.shm_plain.specs.Pools.{Pool as APool, IsRun, first_pool, memo_of};
 ghost use Rattle.shm_script.specs.Values.{Scripted as AScript};
 ghost use Rattle.shm_agents.specs.Turns.{script_in};
-ghost use Rattle.shm_replay.specs.Closings.{AreVisits, HasTold, SameTable, is_dead};
-ghost use Rattle.shm_replay.specs.Gathered.{log_at, logs_by};
-ghost use Rattle.shm_replay.specs.Orders.{IsGivenAll};
-ghost use Rattle.shm_replay.specs.Replays.{IsReplay, start_of};
-ghost use Rattle.shm_replay.specs.Seats.{AreSeated, Seat};
+ghost use Rattle.shm_replay.specs.{Closings.{AreVisits, HasTold, SameTable, is_dead}, Gathered.{log_at, logs_by}};
+ghost use Rattle.shm_replay.specs.{Orders.IsGivenAll, Replays.{IsReplay, start_of}, Seats.{AreSeated, Seat}};
 
 use crate::closing::visit_all;
 use crate::order::{give_items, give_rounds};
-use shm_agents::agents::Agents;
 use shm_graph::Me;
 use shm_plain::{PlainClosed, PlainPool};
+use shm_play::cast::Cast;
+use shm_play::play::Play;
+use shm_play::players::Players;
 use shm_script::{Log, Script, Trace};
 use shm_words::Geometry;
 use std::alloc::{AllocError, Global};
@@ -55,12 +53,12 @@ fn script_of(scripts: &[Script], who: u8) -> Option<usize>
 }
 
 /// The agents of an identity before their first word step, if the identity has a script.
-pub fn agents_of(
+pub fn agents_of<A: Play>(
     alloc: Global,
     geometry: Geometry,
     trace: &Trace,
     who: u8,
-) -> Result<Option<Agents>, AllocError>
+) -> Result<Option<Players<A>>, AllocError>
     requires geometry { geometry ≡ (start_of trace.now).geometry }
     requires fits { GeometryFits geometry }
     requires who { who < trace.now.clients }
@@ -71,18 +69,18 @@ pub fn agents_of(
     match script_of(scripts, who) {
         None => Ok(None),
         Some(at) => {
-            let agents = Agents::new(alloc, Me::new(geometry, who), at, &scripts[at])?;
+            let agents = Players::new(alloc, Me::new(geometry, who), at, &scripts[at])?;
             Ok(Some(agents))
         }
     }
 }
 
 /// The agents of all identities, by number, before their first word steps.
-fn all_agents(
+fn all_agents<A: Play>(
     alloc: Global,
     geometry: Geometry,
     trace: &Trace,
-) -> Result<Vec<Option<Agents>>, AllocError>
+) -> Result<Vec<Option<Players<A>>>, AllocError>
     requires geometry { geometry ≡ (start_of trace.now).geometry }
     requires fits { GeometryFits geometry }
     ensures { IfOk result (λ v. AreSeated trace.now (first_pool (start_of trace.now)) v.items) }
@@ -96,7 +94,7 @@ fn all_agents(
 }
 
 /// Gives the turns of the trace, and closes the pool.
-fn play(agents: &mut [Option<Agents>], trace: &Trace, pool: &mut PlainPool)
+fn play<A: Play>(agents: &mut [Option<Players<A>>], trace: &Trace, pool: &mut PlainPool)
     requires seated { AreSeated trace.now pool.old agents.old }
     requires start { pool.old.start ≡ start_of trace.now }
     ensures played { (q : APool) × IsGivenAll trace.now pool.old q × AreSeated trace.now q agents.new × AreVisits 0 trace.now.clients q pool.new × IsRun q × ((c : ℕ) → c < trace.now.clients → SameTable (memo_of q c) (memo_of pool.new c)) × ((c : ℕ) → c < trace.now.clients → is_dead (slice_index_or agents.new c None) ≡ true → HasTold (account_at q.accounts c) (account_at pool.new.accounts c)) }
@@ -111,7 +109,7 @@ fn play(agents: &mut [Option<Agents>], trace: &Trace, pool: &mut PlainPool)
 }
 
 /// Takes the log of the client of an identity, if it has one.
-fn take_log(agents: &mut [Option<Agents>], who: u8, logs: &mut Vec<Log>)
+fn take_log<A: Play>(agents: &mut [Option<Players<A>>], who: u8, logs: &mut Vec<Log>)
     requires who { who < length agents.old }
     requires room { vec_len logs.old < vec_capacity logs.old }
     ensures count { vec_len logs.new ≤ vec_len logs.old + 1 }
@@ -126,7 +124,7 @@ fn take_log(agents: &mut [Option<Agents>], who: u8, logs: &mut Vec<Log>)
 }
 
 /// Takes the logs of the scripts' clients, in the order of the scripts.
-pub fn take_logs(agents: &mut [Option<Agents>], trace: &Trace, logs: &mut Vec<Log>)
+pub fn take_logs<A: Play>(agents: &mut [Option<Players<A>>], trace: &Trace, logs: &mut Vec<Log>)
     requires many { length agents.old ≡ trace.now.clients }
     requires empty { logs.old.items ≡ [] }
     requires none { vec_len logs.old ≡ 0 }
@@ -139,6 +137,23 @@ pub fn take_logs(agents: &mut [Option<Agents>], trace: &Trace, logs: &mut Vec<Lo
     }
 }
 
+/// Replays a trace, whatever plays its scripts.
+fn replay_of<A: Play>(alloc: Global, trace: &Trace) -> Result<Replayed, AllocError>
+    ensures { IfOk result (λ r. IsReplay trace.now r.closed r.logs.items) }
+{
+    trace.in_grammar();
+    let geometry = geometry_of(trace);
+    let mut pool = PlainPool::make(alloc, geometry, 1, true)?;
+    let mut agents = all_agents::<A>(alloc, geometry, trace)?;
+    let mut logs = Vec::with_capacity(alloc, trace.scripts.len())?;
+    play(&mut agents, trace, &mut pool);
+    take_logs(&mut agents, trace, &mut logs);
+    Ok(Replayed {
+        closed: pool.close(),
+        logs,
+    })
+}
+
 /// Replays a trace: the turns of its order, rounds until no agent has anything left to do, and the closing. It takes all its memory first.
 ///
 /// # Errors
@@ -147,15 +162,5 @@ pub fn take_logs(agents: &mut [Option<Agents>], trace: &Trace, logs: &mut Vec<Lo
 pub fn replay(alloc: Global, trace: &Trace) -> Result<Replayed, AllocError>
     ensures { IfOk result (λ r. IsReplay trace.now r.closed r.logs.items) }
 {
-    trace.in_grammar();
-    let geometry = geometry_of(trace);
-    let mut pool = PlainPool::make(alloc, geometry, 1, true)?;
-    let mut agents = all_agents(alloc, geometry, trace)?;
-    let mut logs = Vec::with_capacity(alloc, trace.scripts.len())?;
-    play(&mut agents, trace, &mut pool);
-    take_logs(&mut agents, trace, &mut logs);
-    Ok(Replayed {
-        closed: pool.close(),
-        logs,
-    })
+    replay_of::<Cast>(alloc, trace)
 }

@@ -1,25 +1,15 @@
 -- entries and chains, read from the words of a pool
 use Rattle.std.proofs.Common.{◌≡◌, ◌≢◌, ℕ, zero, suc, ◌+◌, ◌<◌, ◌≤◌, ◌^◌, List, [], ◌∷◌, ◌++◌, length, map, get_or, take, drop, sym, ap, ◌∙◌, refl, eqb, true, false, inl, inr, subst, add-one, arith}
 use Rattle.std.proofs.lemmas.Bool.{ne_eqb, eqb-true, eq-eqb, false≢true, or_cases, cases_eq}
-use Rattle.std.specs.Ordering.{nat_cmp}
-use Rattle.std.specs.BTreeMap.{insert_entry}
-use Rattle.std.specs.List.{IsDistinct, AllByRecursion, list_any}
-use Rattle.std.proofs.lemmas.List.{length-map, take_all}
-use Rattle.std.proofs.lemmas.Map.Keys.{IsDistinct-head, IsDistinct-tail, IsDistinct-cons}
+use Rattle.std.proofs.lemmas.{List.{length-map, take_all}, Map.Keys.{IsDistinct-head, IsDistinct-tail, IsDistinct-cons}}
 use Rattle.std.proofs.lemmas.Map.Steps.{length-le_from_distinct_below}
-use Rattle.shm_words.specs.declared.geometry.Geometry.{Geometry}
-use Rattle.shm_words.specs.Layout.{total_of}
+use Rattle.std.specs.{Ordering.nat_cmp, BTreeMap.insert_entry, List.{IsDistinct, AllByRecursion, list_any}}
+use Rattle.shm_words.specs.{declared.geometry.Geometry.Geometry, Layout.total_of}
 use Rattle.shm_words.proofs.Placing.{total_most_wide}
-use Rattle.shm_graph.specs.declared.spot.Spot.{Spot}
-use Rattle.shm_graph.specs.declared.spot.Spot.TheVariants.{Body}
-use Rattle.shm_graph.specs.Spots.{see}
-use Rattle.shm_graph.specs.References.{references}
-use Rattle.shm_graph.specs.Tables.{IsEntry, IsChain}
-use Rattle.shm_graph.specs.declared.table.Entry.{Entry}
+use Rattle.shm_graph.specs.{declared.{spot.Spot.{Spot, TheVariants.Body}, table.Entry.Entry}, Spots.see}
+use Rattle.shm_graph.specs.{References.references, Tables.{IsEntry, IsChain}}
 use Rattle.shm_graph.proofs.States.Reading.{live_below, shape_word, shape_reference}
-use Rattle.shm_report.specs.PoolWords.{IsCleanPool}
-use Rattle.shm_report.specs.Report.{add_entries}
-use Rattle.shm_report.specs.declared.table_rows.ChainEntry.{ChainEntry}
+use Rattle.shm_report.specs.{PoolWords.IsCleanPool, Report.add_entries, declared.table_rows.ChainEntry.ChainEntry}
 use Rattle.shm_report.specs.TableRows.{contents_in, IsEntryAt, ReadsEntry, IsChainAt}
 
 -- ---- entries

@@ -1,26 +1,18 @@
 -- counting the blocks that are live, and the words that name one, by pages
 use Rattle.std.proofs.Common.{◌≡◌, ◌≢◌, ℕ, zero, suc, ◌+◌, ◌-◌, ◌*◌, ◌/◌, ◌%◌, ◌<◌, ◌≤◌, Bool, eqb, cond, List, get_or, refl, sym, ap, subst, ◌∙◌, arith, inl, inr, ◌⊎◌, min, true}
-use Rattle.std.proofs.Math.Nat.{mod-add-div'}
-use Rattle.std.proofs.lemmas.Nat.{mod-mul-add}
+use Rattle.std.proofs.{Math.Nat.mod-add-div', lemmas.Nat.mod-mul-add}
 use Rattle.std.proofs.lemmas.Bool.{cases_Bool, cases_eq, cases_lt, cond-true, cond-false, ne_eqb, eq-eqb, true≢false}
 use Rattle.std.proofs.lemmas.Bool.Decides.{nat_tests}
-use Rattle.shm_words.specs.declared.geometry.Geometry.{Geometry}
-use Rattle.shm_words.specs.Layout.{GeometryFits, pages, bodies, address}
-use Rattle.shm_words.specs.Classes.{IsClass}
-use Rattle.shm_words.specs.Headers.{header_of}
-use Rattle.shm_words.specs.Tags.{tag_refs}
-use Rattle.shm_graph.specs.declared.spot.Spot.{Spot}
-use Rattle.shm_graph.specs.declared.spot.Spot.TheVariants.{Unused, Head, Tag, Body}
-use Rattle.shm_graph.specs.Spots.{see, spot_at, classes_in, class_at, is_in_body}
-use Rattle.shm_graph.specs.Blocks.{IsBlock, headers}
+use Rattle.shm_words.specs.{declared.geometry.Geometry.Geometry, Layout.{GeometryFits, pages, bodies, address}}
+use Rattle.shm_words.specs.{Classes.IsClass, Headers.header_of, Tags.tag_refs}
+use Rattle.shm_graph.specs.declared.spot.Spot.{Spot, TheVariants.{Unused, Head, Tag, Body}}
+use Rattle.shm_graph.specs.{Spots.{see, spot_at, classes_in, class_at, is_in_body}, Blocks.{IsBlock, headers}}
 use Rattle.shm_graph.specs.References.{sum_below, one_if, references, words_of}
 use Rattle.shm_graph.proofs.Spots.Spotting.{spot_in_bodies, spot_before_bodies, head_at, block_within, tag_spot, body_spot}
-use Rattle.shm_graph.proofs.Spots.Summing.{sum_below-one_more}
-use Rattle.shm_graph.proofs.Spots.Seeing.{classes-see}
+use Rattle.shm_graph.proofs.Spots.{Summing.sum_below-one_more, Seeing.classes-see}
 use Rattle.shm_graph.proofs.Spots.WordsAt.{no_head, block_header, body_reference, body_plain, page_class}
 use Rattle.shm_graph.proofs.States.Reading.{live_room}
-use Rattle.shm_report.specs.PoolWords.{IsCleanPool}
-use Rattle.shm_report.specs.Counts.{names_one, Counted, IsEndOf, IsPage}
+use Rattle.shm_report.specs.{PoolWords.IsCleanPool, Counts.{names_one, Counted, IsEndOf, IsPage}}
 
 -- ---- sums
 

@@ -1,26 +1,17 @@
 -- what the words of a clean pool say: tags, references, homes, and what counts as one
 use Rattle.std.proofs.Common.{◌≡◌, ℕ, ◌+◌, ◌<◌, Bool, List, get_or, refl, sym, ap, ◌∙◌, cond, eqb, false, ltb, true, arith}
+use Rattle.std.proofs.lemmas.Bool.{cond-true, lt-ltb, Decides.nat_tests}
 use Rattle.std.specs.Prelude.{Some, None}
-use Rattle.std.proofs.lemmas.Bool.{cond-true, lt-ltb}
-use Rattle.std.proofs.lemmas.Bool.Decides.{nat_tests}
-use Rattle.shm_words.specs.declared.geometry.Geometry.{Geometry}
+use Rattle.shm_words.specs.declared.{geometry.Geometry.Geometry, tag.Tag.Tag as ATag}
+use Rattle.shm_words.specs.{Layout.{GeometryFits, total_of, address, is_in}, Headers.header_of, Tags.{tag_of, tag_refs}}
 use Rattle.shm_words.specs.declared.place.Place.TheVariants as place
-use Rattle.shm_words.specs.declared.tag.Tag.{Tag as ATag}
-use Rattle.shm_words.specs.Layout.{GeometryFits, total_of, address, is_in}
-use Rattle.shm_words.specs.Headers.{header_of}
-use Rattle.shm_words.specs.Tags.{tag_of, tag_refs}
-use Rattle.shm_words.proofs.Words.{tag_fields}
-use Rattle.shm_words.proofs.Placing.{place-address, address_below}
-use Rattle.shm_graph.specs.declared.spot.Spot.{Spot}
-use Rattle.shm_graph.specs.declared.spot.Spot.TheVariants.{Body, Home, Head, Root, Slot, Tag}
+use Rattle.shm_words.proofs.{Words.tag_fields, Placing.{place-address, address_below}}
+use Rattle.shm_graph.specs.declared.spot.Spot.{Spot, TheVariants.{Body, Home, Head, Root, Slot, Tag}}
 use Rattle.shm_graph.specs.Spots.{same_spot, spot_address, spot_at, spot_of, classes_in, see}
-use Rattle.shm_graph.specs.Blocks.{IsBlock, IsLive, headers}
-use Rattle.shm_graph.specs.References.{references, words_of}
-use Rattle.shm_graph.proofs.Spots.Spotting.{tag_spot}
-use Rattle.shm_graph.proofs.Spots.Seeing.{see_at}
+use Rattle.shm_graph.specs.{Blocks.{IsBlock, IsLive, headers}, References.{references, words_of}}
+use Rattle.shm_graph.proofs.Spots.{Spotting.tag_spot, Seeing.see_at, WordsAt.{block_header, block_tag as tag_word}}
 use Rattle.shm_graph.proofs.States.Reading.{live_class}
 use Rattle.shm_report.specs.PoolWords.{IsCleanPool}
-use Rattle.shm_graph.proofs.Spots.WordsAt.{block_header, block_tag as tag_word}
 
 block_lives : (g : Geometry) (ws : List ℕ) (b : ℕ) → IsBlock g (classes_in g ws) b → (header_of (get_or ws b 0)).live ≡ true → IsLive (headers (see g ws)) b
 block_lives g ws b is live = ap (λ w. (header_of w).live) (block_header g ws b is) ∙ live

@@ -1,19 +1,13 @@
 -- the partitions of a table, read from the words of a pool
 use Rattle.std.proofs.Common.{◌≡◌, ◌≢◌, ℕ, zero, suc, ◌+◌, ◌^◌, ◌<◌, List, [], ◌++◌, get_or, sym, ap, ◌∙◌, refl, subst, add-one, arith}
-use Rattle.shm_words.specs.declared.geometry.Geometry.{Geometry}
+use Rattle.shm_words.specs.{declared.geometry.Geometry.Geometry, Layout.address}
 use Rattle.shm_words.specs.declared.place.Place.TheVariants as place
-use Rattle.shm_words.specs.Layout.{address}
 use Rattle.shm_words.proofs.Placing.{address_below, total_most_wide}
-use Rattle.shm_graph.specs.declared.spot.Spot.TheVariants.{Home, Body}
-use Rattle.shm_graph.specs.Spots.{see}
-use Rattle.shm_graph.specs.Tables.{IsChain}
-use Rattle.shm_graph.specs.declared.table.Entry.{Entry}
+use Rattle.shm_graph.specs.{declared.{spot.Spot.TheVariants.{Home, Body}, table.Entry.Entry}, Spots.see, Tables.IsChain}
 use Rattle.shm_graph.proofs.States.Reading.{live_below, shape_reference}
-use Rattle.shm_report.specs.PoolWords.{IsCleanPool}
-use Rattle.shm_report.specs.Report.{add_entries, entries_below, in_order}
+use Rattle.shm_report.specs.{PoolWords.IsCleanPool, Report.{add_entries, entries_below, in_order}}
 use Rattle.shm_report.specs.TableRows.{contents_in, IsChainAt, HoldsTable}
-use Rattle.shm_report.proofs.ChainReading.{add_entries-append, reference_below}
-use Rattle.shm_report.proofs.PoolReading.{home_in, home_word}
+use Rattle.shm_report.proofs.{ChainReading.{add_entries-append, reference_below}, PoolReading.{home_in, home_word}}
 
 not_zero : (n : ℕ) → 0 < n → n ≢ 0
 not_zero n l = λ e. omega arith

@@ -1,12 +1,9 @@
 -- the numbers of value blocks
 use Rattle.std.proofs.Common.{◌≡◌, ℕ, zero, suc, ◌+◌, ◌<◌, ◌||◌, Bool, List, [], ◌∷◌, ◌++◌, length, length-append, Option, get_or, cond, eqb, is_some, not, true, false, Some, None, sym, ap, ◌∙◌, refl, inl, inr, arith}
-use Rattle.std.specs.List.{list_any, position_or_len}
-use Rattle.std.specs.Ordering.{nat_cmp, is_eq}
 use Rattle.std.proofs.lemmas.Bool.{cases_Bool, eq-eqb, ne_eqb, cases_eq, cases_order, cond-true, cond-false, false≢true, cond_both, or_parts, or_left, or_right}
-use Rattle.std.proofs.lemmas.Bool.Decides.{nat_tests}
-use Rattle.std.proofs.lemmas.List.Folds.{list_any-append, position_or_len_push}
-use Rattle.shm_report.specs.Report.{Row, named_from, value_number}
-use Rattle.shm_report.specs.ValueNames.{with_name, number_in}
+use Rattle.std.proofs.lemmas.{Bool.Decides.nat_tests, List.Folds.{list_any-append, position_or_len_push}}
+use Rattle.std.specs.{List.{list_any, position_or_len}, Ordering.{nat_cmp, is_eq}}
+use Rattle.shm_report.specs.{Report.{Row, named_from, value_number}, ValueNames.{with_name, number_in}}
 
 eqb-sym : (a b : ℕ) → eqb a b ≡ eqb b a
 eqb-sym a b = grind (arith, nat_tests)

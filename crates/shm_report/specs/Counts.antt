@@ -1,12 +1,8 @@
 -- what a pass over the words of a pool has counted
 use Rattle.std.specs.Prelude.{◌≡◌, ℕ, ◌+◌, ◌-◌, ◌*◌, ◌%◌, ◌<◌, ◌≤◌, ◌==◌, if◌then◌else◌, List, ◌⊎◌}
-use Rattle.shm_words.specs.declared.geometry.Geometry.{Geometry}
-use Rattle.shm_words.specs.Layout.{total_of, bodies}
-use Rattle.shm_words.specs.Classes.{IsClass}
-use Rattle.shm_graph.specs.declared.spot.Spot.TheVariants.{Head}
-use Rattle.shm_graph.specs.Spots.{see, spot_at, classes_in, class_at}
-use Rattle.shm_graph.specs.Blocks.{headers}
-use Rattle.shm_graph.specs.References.{sum_below, one_if, references}
+use Rattle.shm_words.specs.{declared.geometry.Geometry.Geometry, Layout.{total_of, bodies}, Classes.IsClass}
+use Rattle.shm_graph.specs.{declared.spot.Spot.TheVariants.Head, Spots.{see, spot_at, classes_in, class_at}}
+use Rattle.shm_graph.specs.{Blocks.headers, References.{sum_below, one_if, references}}
 use Rattle.shm_report.specs.PoolWords.{IsCleanPool}
 
 -- 1 where the word at an address names a block

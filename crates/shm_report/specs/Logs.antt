@@ -1,11 +1,6 @@
 -- the text of a log: the client's line, and a line for each of its commands
-use Rattle.std.specs.Prelude.{ℕ, true, false, List, [], ◌∷◌, ◌++◌, length, codes}
-use Rattle.std.specs.List.{flat_map}
-use Rattle.std.specs.Fmt.{decimal}
-use Rattle.shm_script.specs.declared.log.Entry.{Entry}
-use Rattle.shm_script.specs.declared.log.End.{End}
-use Rattle.shm_script.specs.declared.log.End.TheVariants.{Ended, Died}
-use Rattle.shm_script.specs.Logged.{Logged}
+use Rattle.std.specs.{Prelude.{ℕ, true, false, List, [], ◌∷◌, ◌++◌, length, codes}, List.flat_map, Fmt.decimal}
+use Rattle.shm_script.specs.{declared.log.{Entry.Entry, End.{End, TheVariants.{Ended, Died}}}, Logged.Logged}
 use Rattle.shm_script.specs.Text.{line_spelled, answer_spelled}
 
 abbrev pub line_end : List ℕ

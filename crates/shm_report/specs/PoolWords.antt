@@ -1,9 +1,7 @@
 -- the words of a closed pool
 use Rattle.std.specs.Prelude.{◌≡◌, ℕ, List, length}
-use Rattle.shm_words.specs.declared.geometry.Geometry.{Geometry}
-use Rattle.shm_words.specs.Layout.{GeometryFits, total_of}
-use Rattle.shm_graph.specs.Spots.{see}
-use Rattle.shm_graph.specs.Clean.{IsClean}
+use Rattle.shm_words.specs.{declared.geometry.Geometry.Geometry, Layout.{GeometryFits, total_of}}
+use Rattle.shm_graph.specs.{Spots.see, Clean.IsClean}
 
 -- these are all words of a pool of these sizes, and it is clean
 pub record IsCleanPool (g : Geometry) (ws : List ℕ) : Type 0 where

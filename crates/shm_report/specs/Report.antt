@@ -1,19 +1,12 @@
 -- the text of a report, and of a summary
 use Rattle.std.specs.Prelude.{◌≡◌, ℕ, zero, suc, ◌+◌, ◌==◌, if◌then◌else◌, List, [], ◌∷◌, ◌++◌, length, map, codes, eqb}
-use Rattle.std.specs.List.{flat_map, list_any, position_or_len}
-use Rattle.std.specs.Fmt.{decimal}
-use Rattle.std.specs.Ordering.{nat_cmp}
-use Rattle.std.specs.BTreeMap.{insert_entry}
+use Rattle.std.specs.{List.{flat_map, list_any, position_or_len}, Fmt.decimal, Ordering.nat_cmp, BTreeMap.insert_entry}
 use Rattle.shm_words.specs.declared.geometry.Geometry.{Geometry}
-use Rattle.shm_graph.specs.declared.spot.Spot.{Spot}
-use Rattle.shm_graph.specs.Blocks.{classes, headers}
-use Rattle.shm_graph.specs.References.{references, references_in_all, live_count, homes_in_all}
-use Rattle.shm_graph.specs.declared.table.Entry.{Entry}
-use Rattle.shm_graph.specs.Spots.{see}
+use Rattle.shm_graph.specs.{declared.{spot.Spot.Spot, table.Entry.Entry}, Blocks.{classes, headers}}
+use Rattle.shm_graph.specs.{References.{references, references_in_all, live_count, homes_in_all}, Spots.see}
 use Rattle.shm_graph.specs.Tables.{IsTable}
 use Rattle.shm_script.specs.Logged.{Logged}
-use Rattle.shm_report.specs.PoolWords.{IsCleanPool}
-use Rattle.shm_report.specs.Logs.{line_end, client_line, log_text}
+use Rattle.shm_report.specs.{PoolWords.IsCleanPool, Logs.{line_end, client_line, log_text}}
 
 -- a row of the table as it is printed
 pub record Row : Type 0 where

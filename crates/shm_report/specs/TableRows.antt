@@ -1,14 +1,9 @@
 -- the rows of a pool's table
-use Rattle.std.specs.Prelude.{◌≡◌, ℕ, List, map, nat_eq}
-use Rattle.std.specs.List.{IsDistinct}
+use Rattle.std.specs.{Prelude.{◌≡◌, ℕ, List, map, nat_eq}, List.IsDistinct}
 use Rattle.shm_words.specs.declared.geometry.Geometry.{Geometry}
-use Rattle.shm_graph.specs.Spots.{see}
-use Rattle.shm_graph.specs.References.{references}
-use Rattle.shm_graph.specs.Tables.{Contents, contents_of, IsEntry, IsChain, IsTable}
+use Rattle.shm_graph.specs.{Spots.see, References.references, Tables.{Contents, contents_of, IsEntry, IsChain, IsTable}}
 use Rattle.shm_graph.specs.declared.table.Entry.{Entry}
-use Rattle.shm_report.specs.PoolWords.{IsCleanPool}
-use Rattle.shm_report.specs.Report.{Row}
-use Rattle.shm_report.specs.declared.table_rows.ChainEntry.{ChainEntry}
+use Rattle.shm_report.specs.{PoolWords.IsCleanPool, Report.Row, declared.table_rows.ChainEntry.ChainEntry}
 use Rattle.shm_report.specs.declared.table_rows.TableRow.{TableRow}
 
 -- what a table is read from

@@ -1,10 +1,7 @@
 -- the names of value blocks
-use Rattle.std.specs.Prelude.{◌≡◌, ℕ, List, [], ◌∷◌, ◌++◌, eqb, if◌then◌else◌, Option, Some, None}
-use Rattle.std.specs.List.{list_any}
-use Rattle.std.specs.Ordering.{nat_cmp}
-use Rattle.std.specs.BTreeMap.{get}
-use Rattle.shm_report.specs.Report.{value_number}
-use Rattle.shm_report.specs.declared.value_names.ValueNames.{ValueNames}
+use Rattle.std.specs.{Prelude.{◌≡◌, ℕ, List, [], ◌∷◌, ◌++◌, eqb, if◌then◌else◌, Option, Some, None}, List.list_any}
+use Rattle.std.specs.{Ordering.nat_cmp, BTreeMap.get}
+use Rattle.shm_report.specs.{Report.value_number, declared.value_names.ValueNames.ValueNames}
 
 -- a value block added behind those that are named, unless it is one of them
 abbrev pub with_name : List ℕ → ℕ → List ℕ

@@ -2,11 +2,9 @@
 
 ghost use Rattle.std.specs.Prelude.{◌≡◌, ℕ, ◌+◌, ◌-◌, ◌*◌, ◌%◌, ◌^◌, ◌==◌, ◌<◌, ◌≤◌, if◌then◌else◌, slice_index};
 ghost use Rattle.shm_words.specs.Layout.{GeometryFits, total_of, bodies};
-ghost use Rattle.shm_graph.specs.Spots.{see, classes_in};
-ghost use Rattle.shm_graph.specs.Blocks.{classes, IsBlock};
+ghost use Rattle.shm_graph.specs.{Spots.{see, classes_in}, Blocks.{classes, IsBlock}};
 ghost use Rattle.shm_graph.specs.References.{sum_below, references, live_count, references_in_all};
-ghost use Rattle.shm_report.specs.PoolWords.{IsCleanPool};
-ghost use Rattle.shm_report.specs.Counts.{Counted, IsEndOf, IsPage};
+ghost use Rattle.shm_report.specs.{PoolWords.IsCleanPool, Counts.{Counted, IsEndOf, IsPage}};
 
 use crate::pool_words::{block_refs, reference_at, word};
 use shm_words::{Geometry, Header};

@@ -1,7 +1,6 @@
 //! The lines of logs.
 
-ghost use Rattle.std.specs.Prelude.{◌≡◌, ◌++◌, OnOk};
-ghost use Rattle.std.specs.List.{flat_map};
+ghost use Rattle.std.specs.{Prelude.{◌≡◌, ◌++◌, OnOk}, List.flat_map};
 ghost use Rattle.shm_report.specs.Logs.{client_line, end_text, entry_line, log_text};
 
 use shm_script::{End, Entry, Log, answer_text, line_text, push_number, push_text};

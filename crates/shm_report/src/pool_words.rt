@@ -2,8 +2,7 @@
 
 ghost use Rattle.std.specs.Prelude.{◌≡◌, ◌+◌, ◌^◌, ◌<◌, ◌≤◌, slice_index, true};
 ghost use Rattle.shm_words.specs.Layout.{GeometryFits, bodies, address, is_in};
-ghost use Rattle.shm_graph.specs.Spots.{see, spot_at, spot_of, block_spot, classes_in};
-ghost use Rattle.shm_graph.specs.Blocks.{headers, IsBlock};
+ghost use Rattle.shm_graph.specs.{Spots.{see, spot_at, spot_of, block_spot, classes_in}, Blocks.{headers, IsBlock}};
 ghost use Rattle.shm_graph.specs.References.{words_of, references, homes_in_all};
 ghost use Rattle.shm_report.specs.PoolWords.{IsCleanPool};
 

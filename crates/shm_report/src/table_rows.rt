@@ -2,9 +2,7 @@
 
 ghost use Rattle.std.specs.Prelude.{◌≡◌, ◌<◌, ◌++◌, List, map, IfOk, OnOk};
 ghost use Rattle.shm_words.specs.Layout.{GeometryFits};
-ghost use Rattle.shm_graph.specs.declared.spot.Spot.{Spot as ASpot};
-ghost use Rattle.shm_graph.specs.Spots.{see};
-ghost use Rattle.shm_graph.specs.declared.table.Entry.{Entry};
+ghost use Rattle.shm_graph.specs.{declared.{spot.Spot.Spot as ASpot, table.Entry.Entry}, Spots.see};
 ghost use Rattle.shm_report.specs.PoolWords.{IsCleanPool};
 ghost use Rattle.shm_report.specs.Report.{entries_below, add_entries, in_order, row_of, rows_below};
 ghost use Rattle.shm_report.specs.TableRows.{IsEntryAt, ReadsEntry, IsChainAt, EachTable, rows_seen};

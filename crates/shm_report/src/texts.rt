@@ -1,15 +1,12 @@
 //! The report and the summary of a closed pool.
 
 ghost use Rattle.std.specs.Prelude.{◌≡◌, ◌++◌, ◌∷◌, [], length, codes, eqb, true, IfOk, OnOk};
-ghost use Rattle.std.specs.List.{flat_map, list_any, AllWithin};
-ghost use Rattle.std.specs.Fmt.{decimal};
+ghost use Rattle.std.specs.{List.{flat_map, list_any, AllWithin}, Fmt.decimal};
 ghost use Rattle.shm_words.specs.Layout.{GeometryFits};
-ghost use Rattle.shm_graph.specs.Spots.{see};
-ghost use Rattle.shm_graph.specs.Blocks.{headers};
+ghost use Rattle.shm_graph.specs.{Spots.see, Blocks.headers};
 ghost use Rattle.shm_report.specs.PoolWords.{IsCleanPool};
 ghost use Rattle.shm_report.specs.Report.{IsReport, IsSummary, counts_lines, counts_text, row_line, rows_text, table_line, value_lines};
-ghost use Rattle.shm_report.specs.TableRows.{rows_seen};
-ghost use Rattle.shm_report.specs.ValueNames.{IsNumbered};
+ghost use Rattle.shm_report.specs.{TableRows.rows_seen, ValueNames.IsNumbered};
 
 use crate::counts::Counts;
 use crate::logs::{push_clients, push_logs};

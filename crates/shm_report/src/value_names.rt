@@ -1,9 +1,7 @@
 //! The names of value blocks: they are numbered in the order in which rows name them first.
 
-ghost use Rattle.std.specs.Prelude.{◌≡◌, [], eqb, true, IfOk, OnOk};
-ghost use Rattle.std.specs.List.{list_any};
-ghost use Rattle.shm_report.specs.Report.{named_from, value_number};
-ghost use Rattle.shm_report.specs.TableRows.{rows_seen};
+ghost use Rattle.std.specs.{Prelude.{◌≡◌, [], eqb, true, IfOk, OnOk}, List.list_any};
+ghost use Rattle.shm_report.specs.{Report.{named_from, value_number}, TableRows.rows_seen};
 
 use crate::table_rows::TableRow;
 use std::alloc::{AllocError, Global};

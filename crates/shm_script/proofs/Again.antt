@@ -1,22 +1,16 @@
 -- The spelling of a line is told as that line again.
 use Rattle.std.proofs.Common.{◌≡◌, ◌≢◌, ℕ, ◌^◌, ◌<◌, ◌≤◌, true, false, not, ◌&&◌, cond, ltb, eqb, List, [], ◌∷◌, ◌++◌, get_or, Option, Some, None, codes, refl, sym, ap, subst, ◌∙◌, arith, append_assoc, rules, ◌⊎◌, inl, inr}
-use Rattle.std.specs.Prelude.{◌==◌}
-use Rattle.std.specs.Fmt.{decimal}
-use Rattle.std.specs.List.{All, AllByRecursion, slice_split}
-use Rattle.std.proofs.lemmas.Bool.Decides.{nat_tests}
-use Rattle.std.proofs.lemmas.List.{append-nil}
+use Rattle.std.proofs.lemmas.{Bool.Decides.nat_tests, List.append-nil}
 use Rattle.std.proofs.lemmas.List.Elements.{All-nil, All-cons, All-append, All-from_get_or, All-from_recursion}
 use Rattle.std.proofs.lemmas.List.Splits.{slice_split_at, slice_split_none}
-use Rattle.shm_script.specs.declared.line.Line.{Line}
-use Rattle.shm_script.specs.declared.line.Line.TheVariants as lines
-use Rattle.shm_script.specs.declared.raw.RawCommand.{RawCommand}
-use Rattle.shm_script.specs.declared.raw.RawCommand.TheVariants as raw
-use Rattle.shm_script.specs.Text.{spaced, line_spelled}
+use Rattle.std.specs.{Prelude.◌==◌, Fmt.decimal, List.{All, AllByRecursion, slice_split}}
+use Rattle.shm_script.specs.{declared.{line.Line.Line, raw.RawCommand.RawCommand}, Text.{spaced, line_spelled}}
 use Rattle.shm_script.specs.Ranges.{LineFits, LineSmall}
 use Rattle.shm_script.specs.Shapes.{Command, given, one_of, two_of, three_of, command_of, shape_by, shape_from}
 use Rattle.shm_script.specs.Faults.{between, below, other_than, command_fit}
-use Rattle.shm_script.proofs.LineTexts.{blanks}
-use Rattle.shm_script.proofs.NumberTexts.{number_again, decimal_lacks, decimal_lacks_high}
+use Rattle.shm_script.specs.declared.line.Line.TheVariants as lines
+use Rattle.shm_script.specs.declared.raw.RawCommand.TheVariants as raw
+use Rattle.shm_script.proofs.{LineTexts.blanks, NumberTexts.{number_again, decimal_lacks, decimal_lacks_high}}
 
 -- the byte doesn't stand in the text
 pub record Free (byte : ℕ) (text : List ℕ) : Type 0 where

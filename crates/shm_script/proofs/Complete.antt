@@ -1,30 +1,19 @@
 -- The spelling of a trace is read as that trace again.
 use Rattle.std.proofs.Common.{◌≡◌, ◌≢◌, ℕ, ◌+◌, ◌^◌, ◌<◌, ◌≤◌, Bool, true, false, ◌||◌, cond, eqb, List, [], ◌∷◌, ◌++◌, length, sum, ◌⊎◌, inl, inr, None, Result, Ok, Err, MatchResult, refl, sym, ap, subst, ◌∙◌, arith, append_assoc}
-use Rattle.std.specs.Prelude.{◌==◌}
-use Rattle.std.specs.List.{AllByRecursion, flat_map, list_any, slice_split}
-use Rattle.std.proofs.lemmas.Bool.Decides.{nat_tests}
-use Rattle.std.proofs.lemmas.List.{append-nil}
-use Rattle.std.proofs.lemmas.List.Concat.{flat_map-cons}
-use Rattle.std.proofs.lemmas.List.Splits.{slice_split_at}
-use Rattle.shm_script.specs.declared.line.Line.{Line}
-use Rattle.shm_script.specs.declared.line.Item.{Item}
-use Rattle.shm_script.specs.declared.fit.TracePlace.{TracePlace}
-use Rattle.shm_script.specs.declared.fit.TracePlace.TheVariants as place
-use Rattle.shm_script.specs.declared.fault.TraceKind.TheVariants.{Syntax}
-use Rattle.shm_script.specs.declared.fault.TraceFault.{TraceFault}
-use Rattle.shm_script.specs.declared.fault.ParseStop.{ParseStop}
-use Rattle.shm_script.specs.declared.fault.ParseStop.TheVariants as stop
+use Rattle.std.proofs.lemmas.{Bool.Decides.nat_tests, List.{append-nil, Concat.flat_map-cons, Splits.slice_split_at}}
+use Rattle.std.specs.{Prelude.◌==◌, List.{AllByRecursion, flat_map, list_any, slice_split}}
+use Rattle.shm_script.specs.declared.{line.{Line.Line, Item.Item}, fit.TracePlace.TracePlace}
+use Rattle.shm_script.specs.declared.fault.{TraceKind.TheVariants.Syntax, TraceFault.TraceFault, ParseStop.ParseStop}
 use Rattle.shm_script.specs.Values.{Scripted, Traced}
 use Rattle.shm_script.specs.Ranges.{LineFits, ItemFits, IsLife, ScriptFits, AreApart, IsTrace, IsTraceText}
 use Rattle.shm_script.specs.Text.{ended, line_ended, order_spelled, life_spelled, script_spelled, text_of}
 use Rattle.shm_script.specs.Faults.{Fit, FitPool, FitOrder, FitClient, FitLife, FitCommand, may_stand, is_second, may_end, fault_at, fault_of}
 use Rattle.shm_script.specs.Drafts.{IsMemory, Stops, Drafted, draft_none, all_scripts, scripts_at, open_script, draft_after, drafted, drafted_line, traced, read_or, reading, trace_of}
-use Rattle.shm_script.proofs.LineTexts.{fit_text}
-use Rattle.shm_script.proofs.FitTexts.{FitRange}
-use Rattle.shm_script.proofs.Lists.{client_text}
+use Rattle.shm_script.specs.declared.fit.TracePlace.TheVariants as place
+use Rattle.shm_script.specs.declared.fault.ParseStop.TheVariants as stop
+use Rattle.shm_script.proofs.{LineTexts.fit_text, FitTexts.FitRange, Lists.client_text}
 use Rattle.shm_script.proofs.Whole.{reading_more, reading_end, fault_in, fault_of_is, trace_sound}
-use Rattle.shm_script.proofs.ReadLoop.{short_trace, Reads}
-use Rattle.shm_script.proofs.LinesAgain.{fit_raw, line_one, judged_again}
+use Rattle.shm_script.proofs.{ReadLoop.{short_trace, Reads}, LinesAgain.{fit_raw, line_one, judged_again}}
 
 abbrev cut : List ℕ → List (List ℕ)
 cut bytes = slice_split (λ b. b == 10) bytes

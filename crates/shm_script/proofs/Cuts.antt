@@ -1,11 +1,9 @@
 -- The first piece of a list that is cut at each element of a kind.
 use Rattle.std.proofs.Common.{◌≡◌, ℕ, ◌+◌, ◌<◌, ◌≤◌, Bool, true, false, cond, ltb, List, [], ◌∷◌, length, take, drop, Option, Some, None, MatchOption, refl, sym, ap, ◌∙◌, arith}
+use Rattle.std.proofs.lemmas.{Bool.ltb-false, List.Splits.{slice_split_first, slice_split_none}}
+use Rattle.std.proofs.lemmas.List.{Sums.fails_before_first, Elements.All-from_get_or}
 use Rattle.std.specs.List.{position, slice_split, onto_first, position_or_len}
-use Rattle.std.proofs.lemmas.Bool.{ltb-false}
 use borrow.Author.Tests.{ltb-true}
-use Rattle.std.proofs.lemmas.List.Splits.{slice_split_first, slice_split_none}
-use Rattle.std.proofs.lemmas.List.Sums.{fails_before_first}
-use Rattle.std.proofs.lemmas.List.Elements.{All-from_get_or}
 use Rattle.shm_script.specs.Shapes.{one_of, item_from, shape_by, shape_from}
 
 -- what is cut off at the place that was found

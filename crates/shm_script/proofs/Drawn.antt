@@ -1,9 +1,8 @@
 -- Drawing one after the other, as loops do, and that what is drawn fits.
 use Rattle.std.proofs.Common.{◌≡◌, ◌≢◌, ℕ, zero, suc, ◌+◌, ◌-◌, ◌%◌, ◌^◌, ◌<◌, ◌≤◌, Bool, true, false, cond, ltb, eqb, List, [], ◌∷◌, ◌++◌, length, sum, refl, sym, ap, ◌∙◌, append_assoc, arith}
-use Rattle.std.specs.List.{AllByRecursion}
 use Rattle.std.proofs.lemmas.List.{append-nil}
-use Rattle.shm_script.specs.declared.line.Line.{Line}
-use Rattle.shm_script.specs.Values.{Scripted}
+use Rattle.std.specs.List.{AllByRecursion}
+use Rattle.shm_script.specs.{declared.line.Line.Line, Values.Scripted}
 use Rattle.shm_script.specs.Ranges.{LineFits, IsLife, ScriptFits, AreApart, IsTrace}
 use Rattle.shm_script.specs.Drawing.{next, first, other_client, drawn_as, drawn_line, drawn_lines, drawn_life, drawn_script, drawn_scripts, drawn_trace}
 

@@ -1,25 +1,16 @@
 -- A line that is judged to fit is the one spelling of its numbers, which are in range.
 use Rattle.std.proofs.Common.{◌≡◌, ℕ, suc, ◌-◌, ◌^◌, ◌<◌, ◌≤◌, Bool, true, false, not, cond, ltb, List, [], ◌∷◌, ◌++◌, length, sum, Option, Some, None, Ok, Err, codes, refl, sym, ap, subst, ◌∙◌, arith, append_assoc, ◌⊎◌, inl, inr}
-use Rattle.std.specs.Prelude.{◌==◌}
-use Rattle.std.specs.List.{slice_split, join_with_byte, AllByRecursion}
-use Rattle.std.specs.Str.{bytes_eq}
-use Rattle.std.proofs.lemmas.Bool.{ltb-false}
-use Rattle.std.proofs.lemmas.List.Sums.{sum_by-cons}
-use Rattle.std.proofs.lemmas.List.Splits.{join_with_byte-slice_split}
+use Rattle.std.proofs.lemmas.{Bool.ltb-false, List.{Sums.sum_by-cons, Splits.join_with_byte-slice_split}}
 use Rattle.std.proofs.lemmas.Slice.Eq.{bytes_eq-Decides}
-use Rattle.shm_script.specs.declared.line.Line.{Line}
-use Rattle.shm_script.specs.declared.line.Line.TheVariants as lines
-use Rattle.shm_script.specs.declared.line.Item.{Item}
-use Rattle.shm_script.specs.declared.raw.RawItem.{RawItem}
-use Rattle.shm_script.specs.declared.raw.RawCommand.{RawCommand}
-use Rattle.shm_script.specs.declared.raw.RawCommand.TheVariants as raw
-use Rattle.shm_script.specs.declared.fault.TraceKind.{TraceKind}
-use Rattle.shm_script.specs.declared.fault.TraceKind.TheVariants.{Syntax, Limit, Twice}
+use Rattle.std.specs.{Prelude.◌==◌, List.{slice_split, join_with_byte, AllByRecursion}, Str.bytes_eq}
+use Rattle.shm_script.specs.declared.{line.{Line.Line, Item.Item}, raw.{RawItem.RawItem, RawCommand.RawCommand}}
+use Rattle.shm_script.specs.declared.fault.TraceKind.{TraceKind, TheVariants.{Syntax, Limit, Twice}}
 use Rattle.shm_script.specs.Ranges.{LineFits, ItemFits, IsLife, segments_limit}
-use Rattle.shm_script.specs.Text.{spaced, line_spelled, pool_word}
-use Rattle.shm_script.specs.Numbers.{number_of}
+use Rattle.shm_script.specs.{Text.{spaced, line_spelled, pool_word}, Numbers.number_of}
 use Rattle.shm_script.specs.Shapes.{Shape, Pool, Order, Client, Life, Command, both, given, one_of, two_of, three_of, numbers_of, items_of, item_from, command_of, shape_by, shape_from, shape_of}
 use Rattle.shm_script.specs.Faults.{Seen, Fit, FitPool, FitOrder, FitClient, FitLife, FitCommand, between, below, key_of, other_than, turns_fit, items_fit, life_fit, command_fit, fit_of, may_stand, too_many, is_second, ranged, judged}
+use Rattle.shm_script.specs.declared.line.Line.TheVariants as lines
+use Rattle.shm_script.specs.declared.raw.RawCommand.TheVariants as raw
 use Rattle.shm_script.proofs.Inverts.{both_is, given_is, below_is, between_is, other_is}
 use Rattle.shm_script.proofs.LineTexts.{blanks, join_blanks, fit_text, one_text, two_text, three_text, life_text, rest_is, order_text, made}
 

@@ -2,9 +2,7 @@
 use Rattle.std.proofs.Common.{◌≡◌, ℕ, ◌^◌, ◌<◌, ◌≤◌, Bool, true, false, ◌&&◌, not, cond, ltb, eqb, Option, Some, None, refl, arith}
 use Rattle.std.proofs.lemmas.Bool.Decides.{nat_tests}
 use borrow.Author.Tests.{ltb-true}
-use Rattle.shm_script.specs.Numbers.{small}
-use Rattle.shm_script.specs.Shapes.{both, given}
-use Rattle.shm_script.specs.Faults.{between, below, other_than}
+use Rattle.shm_script.specs.{Numbers.small, Shapes.{both, given}, Faults.{between, below, other_than}}
 
 pub both_is : {A B C : Type 0} (f : A → B → C) (a : Option A) (b : Option B) (c : C) → both f a b ≡ Some c → (x : A) × (y : B) × (a ≡ Some x) × (b ≡ Some y) × (f x y ≡ c)
 both_is f (Some x) (Some y) c h = (x, y, refl, refl, cc)

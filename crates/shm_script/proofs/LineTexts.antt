@@ -1,19 +1,12 @@
 -- A line whose shape is told and whose numbers are in range is the one spelling of these.
 use Rattle.std.proofs.Common.{◌≡◌, ℕ, zero, suc, ◌-◌, ◌^◌, ◌<◌, ◌≤◌, List, [], ◌∷◌, ◌++◌, Option, Some, None, codes, refl, sym, ap, ◌∙◌, arith}
-use Rattle.std.specs.Prelude.{◌==◌}
-use Rattle.std.specs.Fmt.{decimal}
-use Rattle.std.specs.List.{slice_split, flat_map, join_with_byte}
-use Rattle.std.proofs.lemmas.List.{append-nil}
-use Rattle.std.proofs.lemmas.List.Concat.{flat_map-cons}
-use Rattle.std.proofs.lemmas.List.Splits.{join_with_byte-slice_split}
-use Rattle.shm_script.specs.declared.line.Item.{Item}
-use Rattle.shm_script.specs.declared.raw.RawItem.{RawItem}
-use Rattle.shm_script.specs.Text.{spaced, line_spelled, pool_word, item_spelled, turns_spelled}
-use Rattle.shm_script.specs.Numbers.{number_of}
+use Rattle.std.proofs.lemmas.List.{append-nil, Concat.flat_map-cons, Splits.join_with_byte-slice_split}
+use Rattle.std.specs.{Prelude.◌==◌, Fmt.decimal, List.{slice_split, flat_map, join_with_byte}}
+use Rattle.shm_script.specs.declared.{line.Item.Item, raw.RawItem.RawItem}
+use Rattle.shm_script.specs.{Text.{spaced, line_spelled, pool_word, item_spelled, turns_spelled}, Numbers.number_of}
 use Rattle.shm_script.specs.Shapes.{both, one_of, two_of, three_of, numbers_of, items_of, item_from}
 use Rattle.shm_script.specs.Faults.{Fit, FitPool, FitOrder, FitClient, FitLife, FitCommand, between, below, turns_fit, items_fit, life_fit, before_rest}
-use Rattle.shm_script.proofs.Inverts.{both_is, given_is, below_is, between_is}
-use Rattle.shm_script.proofs.NumberTexts.{number_is}
+use Rattle.shm_script.proofs.{Inverts.{both_is, given_is, below_is, between_is}, NumberTexts.number_is}
 
 -- words, each behind a blank
 abbrev pub blanks : List (List ℕ) → List ℕ

@@ -1,22 +1,14 @@
 -- The spelling of each line is told as that line again.
 use Rattle.std.proofs.Common.{◌≡◌, ℕ, zero, suc, ◌-◌, ◌^◌, ◌<◌, ◌≤◌, Bool, true, false, eqb, List, [], ◌∷◌, ◌++◌, length, map, sum, Option, Some, None, Ok, codes, refl, sym, ap, subst, ◌∙◌, arith, append_assoc, rules, ◌⊎◌, inl, inr}
-use Rattle.std.specs.Prelude.{◌==◌}
-use Rattle.std.specs.Fmt.{decimal}
-use Rattle.std.specs.List.{AllByRecursion, flat_map, slice_split}
-use Rattle.std.proofs.lemmas.Bool.Decides.{nat_tests}
-use Rattle.std.proofs.lemmas.List.{append-nil}
-use Rattle.std.proofs.lemmas.List.Concat.{flat_map-cons}
-use Rattle.std.proofs.lemmas.List.Sums.{sum_by-cons}
+use Rattle.std.proofs.lemmas.{Bool.Decides.nat_tests, List.{append-nil, Concat.flat_map-cons, Sums.sum_by-cons}}
 use Rattle.std.proofs.lemmas.List.Splits.{slice_split_at, slice_split_none}
-use Rattle.shm_script.specs.declared.line.Item.{Item}
-use Rattle.shm_script.specs.declared.raw.RawItem.{RawItem}
+use Rattle.std.specs.{Prelude.◌==◌, Fmt.decimal, List.{AllByRecursion, flat_map, slice_split}}
+use Rattle.shm_script.specs.declared.{line.Item.Item, raw.RawItem.RawItem}
 use Rattle.shm_script.specs.Text.{spaced, pool_word, item_spelled, turns_spelled}
 use Rattle.shm_script.specs.Ranges.{ItemFits, IsLife, segments_limit}
 use Rattle.shm_script.specs.Shapes.{Shape, Pool, Order, Client, Life, Command, given, numbers_of, items_of, item_from, shape_by, shape_from, shape_of}
 use Rattle.shm_script.specs.Faults.{Seen, Fit, FitPool, FitOrder, FitClient, FitLife, FitCommand, turns_fit, items_fit, life_fit, before_rest, fit_of, may_stand, too_many, is_second, judged}
-use Rattle.shm_script.proofs.LineTexts.{blanks, fit_text}
-use Rattle.shm_script.proofs.FitTexts.{FitRange}
-use Rattle.shm_script.proofs.NumberTexts.{number_again}
+use Rattle.shm_script.proofs.{LineTexts.{blanks, fit_text}, FitTexts.FitRange, NumberTexts.number_again}
 use Rattle.shm_script.proofs.Again.{Free, free_nil, free_cons, free_both, free_decimal, free_colon, literal, low, split_words, below_if, between_if, one_again, two_again, raw_line, line_again, line_head, line_words, line_small, line_shaped, line_joined, line_free}
 
 -- turns before they are tried

@@ -1,8 +1,7 @@
 -- The line of an order and of lives, where there is one.
 use Rattle.std.proofs.Common.{◌≡◌, ℕ, ◌<◌, List, [], ◌∷◌, ◌++◌, length, codes, refl, arith}
 use Rattle.std.specs.List.{flat_map}
-use Rattle.shm_script.specs.declared.line.Item.{Item}
-use Rattle.shm_script.specs.Text.{ended, item_spelled, order_spelled, life_spelled, spaced}
+use Rattle.shm_script.specs.{declared.line.Item.Item, Text.{ended, item_spelled, order_spelled, life_spelled, spaced}}
 
 pub order_some : (items : List Item) → 0 < length items → order_spelled items ≡ ended (codes "order" ++ flat_map item_spelled items)
 order_some [] h = absurd (omega arith)

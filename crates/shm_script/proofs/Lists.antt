@@ -1,13 +1,8 @@
 -- Lists that get one more element, or another last one.
 use Rattle.std.proofs.Common.{◌≡◌, ◌≢◌, ℕ, ◌+◌, ◌≤◌, Bool, true, false, ◌||◌, eqb, List, [], ◌∷◌, ◌++◌, length, map, codes, refl, sym, ap, ◌∙◌, arith, append_assoc, length-append}
-use Rattle.std.specs.Prelude.{◌==◌}
-use Rattle.std.specs.List.{AllByRecursion, flat_map, list_any}
-use Rattle.std.proofs.lemmas.Bool.Decides.{nat_tests}
-use Rattle.std.proofs.lemmas.List.Concat.{flat_map-cons, flat_map-append}
-use Rattle.std.proofs.lemmas.List.{append-nil}
-use Rattle.shm_script.specs.declared.line.Line.{Line}
-use Rattle.shm_script.specs.Values.{Scripted}
-use Rattle.shm_script.specs.Ranges.{AreApart}
+use Rattle.std.proofs.lemmas.{Bool.Decides.nat_tests, List.{Concat.{flat_map-cons, flat_map-append}, append-nil}}
+use Rattle.std.specs.{Prelude.◌==◌, List.{AllByRecursion, flat_map, list_any}}
+use Rattle.shm_script.specs.{declared.line.Line.Line, Values.Scripted, Ranges.AreApart}
 use Rattle.shm_script.specs.Text.{line_ended, line_spelled, script_spelled, life_spelled, ended, spaced}
 
 pub all_push : {A : Type 0} (P : A → Type 0) (xs : List A) (y : A) → AllByRecursion P xs → P y → AllByRecursion P (xs ++ y ∷ [])

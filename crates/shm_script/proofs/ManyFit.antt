@@ -1,10 +1,7 @@
 -- Items and lives in range one after the other, as loops go over them.
 use Rattle.std.proofs.Common.{◌≡◌, ℕ, ◌+◌, ◌-◌, ◌<◌, ◌≤◌, List, [], ◌∷◌, ◌++◌, length, get_or, drop, Option, Some, None, refl, sym, ap, ◌∙◌, append_assoc, add-one, drop-cons}
-use Rattle.std.proofs.Math.ListN.{drop_of_length-le}
-use Rattle.std.proofs.lemmas.List.{append-nil}
-use Rattle.shm_script.specs.declared.line.Item.{Item}
-use Rattle.shm_script.specs.declared.raw.RawItem.{RawItem}
-use Rattle.shm_script.specs.Shapes.{given}
+use Rattle.std.proofs.{Math.ListN.drop_of_length-le, lemmas.List.append-nil}
+use Rattle.shm_script.specs.{declared.{line.Item.Item, raw.RawItem.RawItem}, Shapes.given}
 use Rattle.shm_script.specs.Faults.{before_rest, between, below, turns_fit, items_fit, life_fit}
 use Rattle.shm_script.proofs.ManyWords.{with_front, regroup, nothing}
 

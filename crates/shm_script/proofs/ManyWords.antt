@@ -1,10 +1,8 @@
 -- Reading words one after the other, as loops do.
 use Rattle.std.proofs.Common.{◌≡◌, ℕ, List, [], ◌∷◌, ◌++◌, Option, Some, None, refl, sym, ap, ◌∙◌, append_assoc}
-use Rattle.std.specs.List.{slice_split}
-use Rattle.std.specs.Prelude.{◌==◌}
 use Rattle.std.proofs.lemmas.List.{append-nil}
-use Rattle.shm_script.specs.declared.raw.RawItem.{RawItem}
-use Rattle.shm_script.specs.Numbers.{number_of}
+use Rattle.std.specs.{List.slice_split, Prelude.◌==◌}
+use Rattle.shm_script.specs.{declared.raw.RawItem.RawItem, Numbers.number_of}
 use Rattle.shm_script.specs.Shapes.{both, given, numbers_of, items_of, item_from}
 
 -- what was read before, and what is read still

@@ -1,18 +1,11 @@
 -- Commands that are read in one pass.
 use Rattle.std.proofs.Common.{◌≡◌, ℕ, ◌+◌, ◌*◌, ◌%◌, ◌^◌, ◌<◌, true, List, [], ◌∷◌, ◌++◌, refl, sym, ap, ◌∙◌, arith, append_assoc}
-use Rattle.std.specs.Prelude.{◌==◌}
-use Rattle.std.specs.Fmt.{decimal}
-use Rattle.std.specs.List.{slice_split}
-use Rattle.std.proofs.Math.Arith.{digits_div, digits_mod}
-use Rattle.std.proofs.lemmas.Fmt.{decimal_digit, decimal_step}
-use Rattle.shm_script.specs.declared.line.Line.{Line}
-use Rattle.shm_script.specs.declared.fit.TracePlace.{TracePlace}
+use Rattle.std.proofs.{Math.Arith.{digits_div, digits_mod}, lemmas.Fmt.{decimal_digit, decimal_step}}
+use Rattle.std.specs.{Prelude.◌==◌, Fmt.decimal, List.slice_split}
+use Rattle.shm_script.specs.{declared.{line.Line.Line, fit.TracePlace.TracePlace}, Ranges.IsNext}
+use Rattle.shm_script.specs.{Faults.{FitCommand, may_stand, takes_commands}, Drafts.{Drafted, draft_after, reading}}
 use Rattle.shm_script.specs.declared.fit.TracePlace.TheVariants as place
-use Rattle.shm_script.specs.Ranges.{IsNext}
-use Rattle.shm_script.specs.Faults.{FitCommand, may_stand, takes_commands}
-use Rattle.shm_script.specs.Drafts.{Drafted, draft_after, reading}
-use Rattle.shm_script.proofs.LinesAgain.{fit_raw}
-use Rattle.shm_script.proofs.Complete.{line_goes}
+use Rattle.shm_script.proofs.{LinesAgain.fit_raw, Complete.line_goes}
 
 -- one more digit
 one_more : (n d : ℕ) → 0 < n → d < 10 → n * 10 + d < 2 ^ 64 → decimal (n * 10 + d) ≡ decimal n ++ ((48 + d) ∷ [])

@@ -1,10 +1,8 @@
 -- A word spells a number below 2^64 exactly where it is that number in decimal.
 use Rattle.std.proofs.Common.{◌≡◌, ℕ, zero, suc, ◌^◌, ◌<◌, Bool, true, false, ◌&&◌, ◌||◌, not, cond, eqb, List, length, get_or, Some, None, refl, sym, ap, ◌∙◌, arith, rules}
-use Rattle.std.specs.Fmt.{decimal}
-use Rattle.std.specs.Str.{all_ascii_digits}
-use Rattle.std.proofs.lemmas.Bool.Decides.{nat_tests}
-use Rattle.std.proofs.lemmas.Str.Parse.{IsNumeralModel, numerals_by_fold, not_in_digits}
+use Rattle.std.proofs.lemmas.{Bool.Decides.nat_tests, Str.Parse.{IsNumeralModel, numerals_by_fold, not_in_digits}}
 use Rattle.std.proofs.lemmas.Fmt.{decimal-digits_value, digits_decimal, digits_value-decimal, decimal_nonempty, first_decimal, decimal_digit}
+use Rattle.std.specs.{Fmt.decimal, Str.all_ascii_digits}
 use Rattle.shm_script.specs.Numbers.{is_numeral, number_of, small, value_after}
 use Rattle.shm_script.proofs.Inverts.{test_is, small_is}
 

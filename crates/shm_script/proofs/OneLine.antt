@@ -1,11 +1,9 @@
 -- The text of a command tells the command.
 use Rattle.std.proofs.Common.{◌≡◌, ℕ, Option, Some, None, refl, sym, ap, ◌∙◌, inr}
-use Rattle.shm_script.specs.declared.line.Line.{Line}
+use Rattle.shm_script.specs.{declared.line.Line.Line, Text.line_spelled, Ranges.LineSmall}
+use Rattle.shm_script.specs.Shapes.{Shape, Command, shape_from, shape_of}
 use Rattle.shm_script.specs.declared.line.Line.TheVariants as lines
 use Rattle.shm_script.specs.declared.raw.RawCommand.TheVariants as raw
-use Rattle.shm_script.specs.Text.{line_spelled}
-use Rattle.shm_script.specs.Ranges.{LineSmall}
-use Rattle.shm_script.specs.Shapes.{Shape, Command, shape_from, shape_of}
 use Rattle.shm_script.proofs.Again.{line_free, line_head, line_joined, line_shaped, line_words, raw_line, split_words}
 
 -- the shape of a command's text

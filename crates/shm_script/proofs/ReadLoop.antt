@@ -1,18 +1,12 @@
 -- Reading line by line, as the loop goes, and what the whole reading says of the bytes.
 use Rattle.std.proofs.Common.{◌≡◌, ℕ, ◌+◌, ◌≤◌, true, false, cond, ltb, List, [], ◌∷◌, length, None, Result, Ok, Err, MatchResult, IfOk, sym, ap, ◌∙◌, arith}
-use Rattle.std.specs.Prelude.{◌==◌}
-use Rattle.std.specs.List.{slice_split, join_with_byte}
-use Rattle.std.proofs.lemmas.Bool.Decides.{nat_tests}
-use Rattle.std.proofs.lemmas.List.Splits.{join_with_byte-slice_split}
-use Rattle.shm_script.specs.declared.fault.ParseStop.{ParseStop}
-use Rattle.shm_script.specs.declared.fault.ParseStop.TheVariants as stop
-use Rattle.shm_script.specs.declared.fault.TraceKind.TheVariants.{Syntax}
-use Rattle.shm_script.specs.declared.fault.TraceFault.{TraceFault}
-use Rattle.shm_script.specs.Values.{Traced}
-use Rattle.shm_script.specs.Ranges.{IsTrace}
-use Rattle.shm_script.specs.Text.{text_of}
+use Rattle.std.proofs.lemmas.{Bool.Decides.nat_tests, List.Splits.join_with_byte-slice_split}
+use Rattle.std.specs.{Prelude.◌==◌, List.{slice_split, join_with_byte}}
+use Rattle.shm_script.specs.declared.fault.{ParseStop.ParseStop, TraceKind.TheVariants.Syntax, TraceFault.TraceFault}
+use Rattle.shm_script.specs.{Values.Traced, Ranges.IsTrace, Text.text_of}
 use Rattle.shm_script.specs.Faults.{fault_at, limit_fault, fault_of, may_end}
 use Rattle.shm_script.specs.Drafts.{Drafted, draft_none, drafted_line, traced, read_or, reading, trace_of, Stops, StopsAt, IsFault}
+use Rattle.shm_script.specs.declared.fault.ParseStop.TheVariants as stop
 use Rattle.shm_script.proofs.Whole.{reading_more, reading_end, fault_in, fault_of_is, trace_sound}
 
 -- a piece that is alone is all

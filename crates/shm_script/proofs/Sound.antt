@@ -1,22 +1,15 @@
 -- What was read is a trace, and its text is what was read.
 use Rattle.std.proofs.Common.{◌≡◌, ◌≢◌, ℕ, ◌^◌, ◌<◌, ◌≤◌, Bool, true, false, List, [], ◌∷◌, ◌++◌, length, map, sum, Option, refl, sym, ap, subst, ◌∙◌, arith}
-use Rattle.std.specs.Prelude.{◌==◌}
-use Rattle.std.specs.List.{AllByRecursion, flat_map, list_any}
 use Rattle.std.proofs.lemmas.List.{append-nil}
-use Rattle.shm_script.specs.declared.line.Line.{Line}
-use Rattle.shm_script.specs.declared.line.Item.{Item}
-use Rattle.shm_script.specs.declared.raw.RawCommand.{RawCommand}
-use Rattle.shm_script.specs.declared.fit.TracePlace.{TracePlace}
-use Rattle.shm_script.specs.declared.fit.TracePlace.TheVariants as place
-use Rattle.shm_script.specs.Values.{Scripted}
-use Rattle.shm_script.specs.Ranges.{LineFits, ItemFits, IsLife, AreApart, segments_limit}
+use Rattle.std.specs.{Prelude.◌==◌, List.{AllByRecursion, flat_map, list_any}}
+use Rattle.shm_script.specs.declared.{line.{Line.Line, Item.Item}, raw.RawCommand.RawCommand, fit.TracePlace.TracePlace}
+use Rattle.shm_script.specs.{Values.Scripted, Ranges.{LineFits, ItemFits, IsLife, AreApart, segments_limit}}
 use Rattle.shm_script.specs.Text.{spaced, ended, line_ended, order_spelled, pool_word, life_spelled, script_spelled, text_of}
 use Rattle.shm_script.specs.Shapes.{Client, Command}
 use Rattle.shm_script.specs.Faults.{FitPool, FitOrder, FitClient, FitLife, FitCommand, may_stand, is_second}
 use Rattle.shm_script.specs.Drafts.{Drafted, draft_none, open_script, scripts_at, all_scripts, draft_after, traced}
-use Rattle.shm_script.proofs.LinesGiven.{order_some, life_some}
-use Rattle.shm_script.proofs.FitTexts.{FitRange}
-use Rattle.shm_script.proofs.LineTexts.{fit_text}
+use Rattle.shm_script.specs.declared.fit.TracePlace.TheVariants as place
+use Rattle.shm_script.proofs.{LinesGiven.{order_some, life_some}, FitTexts.FitRange, LineTexts.fit_text}
 use Rattle.shm_script.proofs.Lists.{all_push, all_last, apart_push, apart_last, clients_last, clients_push, not_taken, text_last, text_push, client_text, lines_push}
 
 -- the text that was read

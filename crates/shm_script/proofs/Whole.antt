@@ -1,27 +1,16 @@
 -- Lines one after the other: what is read of them is a trace, and its text is theirs.
 use Rattle.std.proofs.Common.{◌≡◌, ℕ, ◌+◌, ◌^◌, ◌≤◌, Bool, true, false, cond, ltb, List, [], ◌∷◌, ◌++◌, length, Option, Some, None, Result, Ok, Err, refl, sym, ap, subst, ◌∙◌, arith, append_assoc, length-append}
-use Rattle.std.specs.Prelude.{◌==◌}
-use Rattle.std.specs.List.{AllByRecursion, flat_map, slice_split, join_with_byte}
-use Rattle.std.proofs.lemmas.Bool.{ltb-false}
-use Rattle.std.proofs.lemmas.List.{append-nil}
-use Rattle.std.proofs.lemmas.List.Splits.{join_with_byte-slice_split}
-use Rattle.shm_script.specs.declared.raw.RawItem.{RawItem}
-use Rattle.shm_script.specs.declared.fit.TracePlace.{TracePlace}
-use Rattle.shm_script.specs.declared.fit.TracePlace.TheVariants as place
-use Rattle.shm_script.specs.declared.fault.TraceKind.{TraceKind}
-use Rattle.shm_script.specs.declared.fault.TraceKind.TheVariants.{Syntax}
-use Rattle.shm_script.specs.declared.fault.TraceFault.{TraceFault}
-use Rattle.shm_script.specs.Values.{Traced}
-use Rattle.shm_script.specs.Ranges.{ScriptFits, IsTrace, segments_limit}
-use Rattle.shm_script.specs.Text.{script_spelled, text_of}
+use Rattle.std.proofs.lemmas.{Bool.ltb-false, List.{append-nil, Splits.join_with_byte-slice_split}}
+use Rattle.std.specs.{Prelude.◌==◌, List.{AllByRecursion, flat_map, slice_split, join_with_byte}}
+use Rattle.shm_script.specs.declared.{raw.RawItem.RawItem, fit.TracePlace.TracePlace, fault.TraceKind.TraceKind}
+use Rattle.shm_script.specs.{declared.fault.{TraceKind.TheVariants.Syntax, TraceFault.TraceFault}, Values.Traced}
+use Rattle.shm_script.specs.{Ranges.{ScriptFits, IsTrace, segments_limit}, Text.{script_spelled, text_of}}
 use Rattle.shm_script.specs.Shapes.{Shape, Pool, Order, Client, Life, Command, shape_of}
 use Rattle.shm_script.specs.Faults.{Seen, Fit, FitPool, FitOrder, FitClient, FitLife, FitCommand, between, below, items_fit, life_fit, command_fit, may_stand, is_second, judged, seen_after, seen_none, fault_at, fault_or, first_fault, limit_fault, fault_of, may_end}
 use Rattle.shm_script.specs.Drafts.{Drafted, draft_none, all_scripts, draft_after, drafted, drafted_line, traced, read_or, reading, trace_of}
-use Rattle.shm_script.proofs.Cuts.{some_piece}
-use Rattle.shm_script.proofs.Inverts.{given_is, both_is}
-use Rattle.shm_script.proofs.FitTexts.{FitRange, IsJudged, judged_is}
-use Rattle.shm_script.proofs.LineTexts.{fit_text}
-use Rattle.shm_script.proofs.Lists.{few_in_all}
+use Rattle.shm_script.specs.declared.fit.TracePlace.TheVariants as place
+use Rattle.shm_script.proofs.{Cuts.some_piece, Inverts.{given_is, both_is}, FitTexts.{FitRange, IsJudged, judged_is}}
+use Rattle.shm_script.proofs.{LineTexts.fit_text, Lists.few_in_all}
 use Rattle.shm_script.proofs.Sound.{text_at, draft_text, head_text, LooseFits, SizeAt, IsDraft, none_is_draft, Grows, pool_grows, order_grows, client_grows, life_grows, command_grows}
 
 pool_place : (p : TracePlace) (wide : Bool) (n g : Option ℕ) → may_stand p (Pool wide n g) ≡ true → p ≡ place.Start

@@ -1,20 +1,13 @@
 -- A trace that is read line by line.
 use Rattle.std.specs.Prelude.{◌≡◌, ℕ, ◌+◌, Bool, false, List, [], ◌∷◌, ◌++◌, length, Option, Some, Result, Ok, Err, nat_lt, ◌==◌, if◌then◌else◌}
 use Rattle.std.specs.List.{slice_split}
-use Rattle.shm_script.specs.declared.line.Line.{Line}
-use Rattle.shm_script.specs.declared.line.Item.{Item}
-use Rattle.shm_script.specs.declared.fit.TracePlace.{TracePlace}
-use Rattle.shm_script.specs.declared.fit.TracePlace.TheVariants as place
-use Rattle.shm_script.specs.declared.fit.FitLine.{FitLine}
-use Rattle.shm_script.specs.declared.fit.FitLine.TheVariants as fit
-use Rattle.shm_script.specs.declared.fault.TraceKind.{TraceKind}
-use Rattle.shm_script.specs.declared.fault.TraceKind.TheVariants.{Syntax}
-use Rattle.shm_script.specs.declared.fault.TraceFault.{TraceFault}
-use Rattle.shm_script.specs.declared.fault.ParseStop.{ParseStop}
-use Rattle.shm_script.specs.declared.fault.ParseStop.TheVariants as stop
-use Rattle.shm_script.specs.Values.{Scripted, Traced}
-use Rattle.shm_script.specs.Shapes.{shape_of}
+use Rattle.shm_script.specs.declared.{line.{Line.Line, Item.Item}, fit.{TracePlace.TracePlace, FitLine.FitLine}}
+use Rattle.shm_script.specs.declared.fault.{TraceKind.{TraceKind, TheVariants.Syntax}, TraceFault.TraceFault}
+use Rattle.shm_script.specs.{declared.fault.ParseStop.ParseStop, Values.{Scripted, Traced}, Shapes.shape_of}
 use Rattle.shm_script.specs.Faults.{Seen, Fit, FitPool, FitOrder, FitClient, FitLife, FitCommand, judged, seen_after, seen_none, fault_at, limit_fault, may_end}
+use Rattle.shm_script.specs.declared.fit.TracePlace.TheVariants as place
+use Rattle.shm_script.specs.declared.fit.FitLine.TheVariants as fit
+use Rattle.shm_script.specs.declared.fault.ParseStop.TheVariants as stop
 
 -- what was read: what it tells of the next line, the scripts that are whole, and the lives and lines of the one that goes on
 pub record Drafted : Type 0 where

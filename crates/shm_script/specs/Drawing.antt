@@ -1,7 +1,6 @@
 -- The traces of the generator: four clients, and commands drawn from a sequence of numbers.
 use Rattle.std.specs.Prelude.{ℕ, zero, suc, false, ◌+◌, ◌*◌, ◌%◌, List, [], ◌∷◌, nat_lt, ◌==◌, if◌then◌else◌}
-use Rattle.shm_script.specs.declared.line.Line.{Line}
-use Rattle.shm_script.specs.declared.line.Line.TheVariants.{Put, Del, Get, Copy, Send, Recv}
+use Rattle.shm_script.specs.declared.line.Line.{Line, TheVariants.{Put, Del, Get, Copy, Send, Recv}}
 use Rattle.shm_script.specs.Values.{Scripted, Traced}
 
 -- the number of the sequence that follows x; a draw of n numbers is its remainder by n

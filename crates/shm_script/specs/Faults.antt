@@ -1,19 +1,14 @@
 -- The first faulty line of bytes that are no trace, and what is wrong with it.
 use Rattle.std.specs.Prelude.{ℕ, ◌+◌, ◌-◌, ◌^◌, Bool, true, false, ◌&&◌, not, List, [], ◌∷◌, ◌++◌, length, take, count_by, Option, Some, None, Result, Ok, Err, nat_lt, ◌==◌, if◌then◌else◌}
 use Rattle.std.specs.List.{list_any, slice_split}
-use Rattle.shm_script.specs.declared.line.Line.{Line}
-use Rattle.shm_script.specs.declared.line.Line.TheVariants as lines
-use Rattle.shm_script.specs.declared.line.Item.{Item}
-use Rattle.shm_script.specs.declared.raw.RawItem.{RawItem}
-use Rattle.shm_script.specs.declared.raw.RawCommand.{RawCommand}
-use Rattle.shm_script.specs.declared.raw.RawCommand.TheVariants as raw
-use Rattle.shm_script.specs.declared.fit.TracePlace.{TracePlace}
-use Rattle.shm_script.specs.declared.fit.TracePlace.TheVariants as place
-use Rattle.shm_script.specs.declared.fault.TraceKind.{TraceKind}
-use Rattle.shm_script.specs.declared.fault.TraceKind.TheVariants.{Syntax, Range, Limit, Twice}
-use Rattle.shm_script.specs.declared.fault.TraceFault.{TraceFault}
+use Rattle.shm_script.specs.declared.{line.{Line.Line, Item.Item}, raw.{RawItem.RawItem, RawCommand.RawCommand}}
+use Rattle.shm_script.specs.declared.{fit.TracePlace.TracePlace, fault.TraceKind.TraceKind}
+use Rattle.shm_script.specs.declared.fault.{TraceKind.TheVariants.{Syntax, Range, Limit, Twice}, TraceFault.TraceFault}
 use Rattle.shm_script.specs.Ranges.{segments_limit}
 use Rattle.shm_script.specs.Shapes.{Shape, Pool, Order, Client, Life, Command, both, given, shape_of}
+use Rattle.shm_script.specs.declared.line.Line.TheVariants as lines
+use Rattle.shm_script.specs.declared.raw.RawCommand.TheVariants as raw
+use Rattle.shm_script.specs.declared.fit.TracePlace.TheVariants as place
 
 -- what the lines before tell of a line: what the last of them was, the clients that there are, the client whose script goes on, and those that have one
 pub record Seen : Type 0 where

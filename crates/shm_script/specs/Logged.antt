@@ -1,13 +1,9 @@
 -- Logs without where they lie in memory, and what a log makes of a map.
-use Rattle.std.specs.Prelude.{ℕ, List, [], ◌∷◌}
-use Rattle.std.specs.Ordering.{nat_cmp}
+use Rattle.std.specs.{Prelude.{ℕ, List, [], ◌∷◌}, Ordering.nat_cmp}
 use Rattle.std.specs.FinMap as map
-use Rattle.shm_script.specs.declared.line.Line.{Line}
+use Rattle.shm_script.specs.declared.{line.Line.Line, log.{Answer.Answer, Entry.Entry, End.End}}
 use Rattle.shm_script.specs.declared.line.Line.TheVariants as lines
-use Rattle.shm_script.specs.declared.log.Answer.{Answer}
 use Rattle.shm_script.specs.declared.log.Answer.TheVariants as answers
-use Rattle.shm_script.specs.declared.log.Entry.{Entry}
-use Rattle.shm_script.specs.declared.log.End.{End}
 
 -- a client's commands with their answers, and how it ended
 pub record Logged : Type 0 where

@@ -1,7 +1,5 @@
 -- What is left of a text that is taken piece by piece.
-use Rattle.std.specs.Prelude.{ℕ, ◌+◌, List, [], Option, Some, None, length, ◌==◌}
-use Rattle.std.specs.Borrow.{Bor}
-use Rattle.std.specs.List.{slice_split}
+use Rattle.std.specs.{Prelude.{ℕ, ◌+◌, List, [], Option, Some, None, length, ◌==◌}, Borrow.Bor, List.slice_split}
 
 -- the pieces that are left between bytes
 abbrev pub pieces_left : ℕ → Option (Bor (List ℕ)) → List (List ℕ)

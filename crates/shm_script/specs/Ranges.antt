@@ -1,11 +1,8 @@
 -- The ranges of a trace's numbers.
 use Rattle.std.specs.Prelude.{◌≡◌, ◌≢◌, ℕ, ◌^◌, ◌<◌, ◌≤◌, Bool, true, false, List, [], ◌∷◌, ◌++◌, length, sum}
 use Rattle.std.specs.List.{AllByRecursion}
-use Rattle.shm_script.specs.declared.line.Line.{Line}
-use Rattle.shm_script.specs.declared.line.Line.TheVariants.{Put, Del, Get, Copy, Send, Recv}
-use Rattle.shm_script.specs.declared.line.Item.{Item}
-use Rattle.shm_script.specs.Values.{Scripted, Traced}
-use Rattle.shm_script.specs.Text.{line_spelled, line_ended, text_of}
+use Rattle.shm_script.specs.declared.line.{Line.{Line, TheVariants.{Put, Del, Get, Copy, Send, Recv}}, Item.Item}
+use Rattle.shm_script.specs.{Values.{Scripted, Traced}, Text.{line_spelled, line_ended, text_of}}
 
 -- the numbers of a command of the client `me`: clients that there are, another one in a queue, and keys of 32 bits
 abbrev pub LineFits : ℕ → ℕ → Line → Type 0

@@ -1,8 +1,7 @@
 -- The shapes of lines that are kept in memory.
 use Rattle.std.specs.Prelude.{Option}
-use Rattle.shm_script.specs.declared.raw.RawLine.{RawLine}
+use Rattle.shm_script.specs.{declared.raw.RawLine.RawLine, Shapes.{Shape, Pool, Order, Client, Life, Command, given}}
 use Rattle.shm_script.specs.declared.raw.RawLine.TheVariants as raw
-use Rattle.shm_script.specs.Shapes.{Shape, Pool, Order, Client, Life, Command, given}
 
 -- without where it lies in memory
 abbrev pub shape_seen : RawLine → Shape

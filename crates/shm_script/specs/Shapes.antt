@@ -1,11 +1,8 @@
 -- The shape of a line: its word and its numbers, which may have any size.
 use Rattle.std.specs.Prelude.{ℕ, Bool, true, false, List, [], ◌∷◌, Option, Some, None, codes, ◌==◌, if◌then◌else◌}
-use Rattle.std.specs.List.{slice_split}
-use Rattle.std.specs.Str.{bytes_eq}
-use Rattle.shm_script.specs.declared.raw.RawItem.{RawItem}
-use Rattle.shm_script.specs.declared.raw.RawCommand.{RawCommand}
-use Rattle.shm_script.specs.declared.raw.RawCommand.TheVariants.{Put, Del, Get, Copy, Send, Recv}
-use Rattle.shm_script.specs.Numbers.{number_of}
+use Rattle.std.specs.{List.slice_split, Str.bytes_eq}
+use Rattle.shm_script.specs.declared.raw.{RawItem.RawItem, RawCommand.RawCommand}
+use Rattle.shm_script.specs.{declared.raw.RawCommand.TheVariants.{Put, Del, Get, Copy, Send, Recv}, Numbers.number_of}
 
 -- a line of a trace; of a pool with whether it is of format 2
 pub data Shape : Type 0 where

@@ -1,13 +1,8 @@
 -- The one spelling of a trace: lines that each end with a line feed, words parted by one blank, numbers in decimal.
-use Rattle.std.specs.Prelude.{ℕ, zero, suc, Bool, true, false, List, [], ◌∷◌, ◌++◌, codes}
-use Rattle.std.specs.Fmt.{decimal}
-use Rattle.std.specs.List.{flat_map}
-use Rattle.shm_script.specs.declared.line.Line.{Line}
-use Rattle.shm_script.specs.declared.line.Line.TheVariants.{Put, Del, Get, Copy, Send, Recv}
-use Rattle.shm_script.specs.declared.line.Item.{Item}
-use Rattle.shm_script.specs.declared.log.Answer.{Answer}
+use Rattle.std.specs.{Prelude.{ℕ, zero, suc, Bool, true, false, List, [], ◌∷◌, ◌++◌, codes}, Fmt.decimal, List.flat_map}
+use Rattle.shm_script.specs.declared.line.{Line.{Line, TheVariants.{Put, Del, Get, Copy, Send, Recv}}, Item.Item}
+use Rattle.shm_script.specs.{declared.log.Answer.Answer, Values.{Scripted, Traced}}
 use Rattle.shm_script.specs.declared.log.Answer.TheVariants as answers
-use Rattle.shm_script.specs.Values.{Scripted, Traced}
 
 -- a blank and a number
 abbrev pub spaced : ℕ → List ℕ

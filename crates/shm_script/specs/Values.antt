@@ -1,7 +1,6 @@
 -- Scripts and traces without where they lie in memory.
 use Rattle.std.specs.Prelude.{ℕ, Bool, List}
-use Rattle.shm_script.specs.declared.line.Line.{Line}
-use Rattle.shm_script.specs.declared.line.Item.{Item}
+use Rattle.shm_script.specs.declared.line.{Line.Line, Item.Item}
 
 -- what a client does: the lives of its agents, and its commands
 pub record Scripted : Type 0 where

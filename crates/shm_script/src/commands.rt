@@ -3,10 +3,8 @@
 //! What is told here is a command in its one spelling, with its numbers in range. Of any other line nothing is told: the reading by
 //! shapes tells what it is, or its fault.
 
-ghost use Rattle.std.specs.Prelude.{◌≡◌, ◌≢◌, ◌+◌, ◌*◌, ◌^◌, ◌<◌, [], ◌∷◌, ◌++◌, IfSome, codes};
-ghost use Rattle.std.specs.Fmt.{decimal};
-ghost use Rattle.shm_script.specs.Text.{spaced};
-ghost use Rattle.shm_script.specs.Ranges.{IsCommand, IsNext};
+ghost use Rattle.std.specs.{Prelude.{◌≡◌, ◌≢◌, ◌+◌, ◌*◌, ◌^◌, ◌<◌, [], ◌∷◌, ◌++◌, IfSome, codes}, Fmt.decimal};
+ghost use Rattle.shm_script.specs.{Text.spaced, Ranges.{IsCommand, IsNext}};
 
 use crate::line::Line;
 

@@ -1,12 +1,8 @@
 //! Where a line may stand, and whether its numbers are in range.
 
-ghost use Rattle.std.specs.Prelude.{◌≡◌, ◌≤◌, ◌==◌, ◌^◌, None, IfOk, MatchOption};
-ghost use Rattle.std.specs.List.{list_any};
+ghost use Rattle.std.specs.{Prelude.{◌≡◌, ◌≤◌, ◌==◌, ◌^◌, None, IfOk, MatchOption}, List.list_any};
 ghost use Rattle.shm_script.specs.Faults.{below, between, command_fit, fit_of, is_second, items_fit, key_of, life_fit, may_stand, other_than, takes_commands, too_many, turns_fit};
-ghost use Rattle.shm_script.specs.Ranges.{segments_limit};
-ghost use Rattle.shm_script.specs.RawShapes.{shape_seen};
-ghost use Rattle.shm_script.specs.Drafts.{fit_seen};
-ghost use Rattle.shm_script.specs.Shapes.{given};
+ghost use Rattle.shm_script.specs.{Ranges.segments_limit, RawShapes.shape_seen, Drafts.fit_seen, Shapes.given};
 
 use crate::fit::{FitLine, TracePlace};
 use crate::line::{Item, Line};

@@ -1,7 +1,6 @@
 //! The shape of a line.
 
-ghost use Rattle.std.specs.Prelude.{◌≡◌, ◌==◌, true, false, IfOk, MatchOption, Some, None};
-ghost use Rattle.std.specs.List.{slice_split};
+ghost use Rattle.std.specs.{Prelude.{◌≡◌, ◌==◌, true, false, IfOk, MatchOption, Some, None}, List.slice_split};
 ghost use Rattle.shm_script.specs.Pieces.{pieces_left};
 ghost use Rattle.shm_script.specs.Shapes.{Client, Command, Life, Order, Pool, command_of, given, item_from, items_of, numbers_of, one_of, shape_by, shape_of, two_of};
 ghost use Rattle.shm_script.specs.RawShapes.{line_seen};

@@ -1,9 +1,7 @@
 //! Numbers of a line, of any size.
 
-ghost use Rattle.std.specs.Prelude.{◌≡◌, ℕ, ◌+◌, ◌*◌, ◌<◌, if◌then◌else◌, not};
-ghost use Rattle.std.specs.Str.{all_ascii_digits};
-ghost use Rattle.shm_script.specs.Numbers.{leads_well, number_of, small, value_after};
-ghost use Rattle.shm_script.specs.Pieces.{pieces_left};
+ghost use Rattle.std.specs.{Prelude.{◌≡◌, ℕ, ◌+◌, ◌*◌, ◌<◌, if◌then◌else◌, not}, Str.all_ascii_digits};
+ghost use Rattle.shm_script.specs.{Numbers.{leads_well, number_of, small, value_after}, Pieces.pieces_left};
 ghost use Rattle.shm_script.specs.Shapes.{one_of, two_of, three_of};
 
 use crate::pieces::split_word;

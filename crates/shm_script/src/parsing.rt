@@ -2,9 +2,7 @@
 
 ghost use Rattle.std.specs.Prelude.{◌≡◌, ◌∷◌, [], ℕ, List, ◌<◌, ◌≤◌, ◌+◌, ◌^◌, ◌==◌, Ok, None, IfErr, IfOk, IfSome, OnOk, MatchOption, MatchResult, count_by, length};
 ghost use Rattle.std.specs.List.{slice_split};
-ghost use Rattle.shm_script.specs.Ranges.{IsTrace, IsTraceText};
-ghost use Rattle.shm_script.specs.Text.{text_of};
-ghost use Rattle.shm_script.specs.Values.{Traced};
+ghost use Rattle.shm_script.specs.{Ranges.{IsTrace, IsTraceText}, Text.text_of, Values.Traced};
 ghost use Rattle.shm_script.specs.Faults.{FitCommand, fault_of, judged, limit_fault, may_end};
 ghost use Rattle.shm_script.specs.Drafts.{Drafted, IsFault, IsMemory, Stops, StopsAt, all_scripts, draft_after, draft_none, drafted_line, fit_seen, reading, trace_of, traced};
 ghost use Rattle.shm_script.specs.Shapes.{shape_of};

@@ -1,7 +1,6 @@
 //! Pieces of a text: lines at line feeds, words at blanks.
 
-ghost use Rattle.std.specs.Prelude.{◌≡◌, ◌∷◌, [], ◌<◌, ◌==◌, length, position, IfSome, MatchOption};
-ghost use Rattle.std.specs.List.{slice_split};
+ghost use Rattle.std.specs.{Prelude.{◌≡◌, ◌∷◌, [], ◌<◌, ◌==◌, length, position, IfSome, MatchOption}, List.slice_split};
 ghost use Rattle.std.specs.Str.{bytes_eq};
 ghost use Rattle.shm_script.specs.Pieces.{pieces_left, room_left};
 

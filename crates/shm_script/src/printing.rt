@@ -1,9 +1,7 @@
 //! The one spelling of a trace.
 
-ghost use Rattle.std.specs.Prelude.{◌≡◌, ◌++◌, IfOk, OnOk};
-ghost use Rattle.std.specs.List.{flat_map};
-ghost use Rattle.shm_script.specs.declared.line.Line.{Line as ALine};
-ghost use Rattle.shm_script.specs.Ranges.{LineSmall};
+ghost use Rattle.std.specs.{Prelude.{◌≡◌, ◌++◌, IfOk, OnOk}, List.flat_map};
+ghost use Rattle.shm_script.specs.{declared.line.Line.Line as ALine, Ranges.LineSmall};
 ghost use Rattle.shm_script.specs.Text.{answer_spelled, item_spelled, life_spelled, line_ended, line_spelled, order_spelled, pool_word, script_spelled, spaced, text_of};
 
 use crate::line::{Item, Line};

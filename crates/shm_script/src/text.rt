@@ -1,7 +1,6 @@
 //! A text and a number appended to a vector of bytes.
 
-ghost use Rattle.std.specs.Prelude.{◌≡◌, ◌++◌, OnOk, OnErr};
-ghost use Rattle.std.specs.Fmt.{decimal};
+ghost use Rattle.std.specs.{Prelude.{◌≡◌, ◌++◌, OnOk, OnErr}, Fmt.decimal};
 ghost use Rattle.shm_script.specs.Text.{spaced};
 
 use itoa::Buffer;

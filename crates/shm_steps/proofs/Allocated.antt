@@ -1,46 +1,24 @@
 -- the exchange by which a free block that is prepared becomes live, as machines use it
 use Rattle.std.proofs.Common.{◌≡◌, ◌≢◌, ℕ, ◌+◌, ◌<◌, refl, sym, ap, ◌∙◌, subst, arith, true, false, eqb, ◌&&◌, List, [], ◌∷◌, ◌++◌, None, inl, inr, Bool}
-use Rattle.std.specs.List.{All, filter}
 use Rattle.std.proofs.lemmas.Bool.{cases_Bool, and_parts, cond-true, cond-false, eqb-true}
 use Rattle.std.proofs.lemmas.List.Elements.{All-head, All-tail}
-use Rattle.shm_words.specs.declared.geometry.Geometry.{Geometry}
-use Rattle.shm_words.specs.declared.header.Header.{Header}
-use Rattle.shm_words.specs.Headers.{header_of}
+use Rattle.std.specs.List.{All, filter}
+use Rattle.shm_words.specs.{declared.{geometry.Geometry.Geometry, header.Header.Header}, Headers.header_of}
 use Rattle.shm_words.specs.Tags.{tag_refs, tag_plain}
 use Rattle.shm_words.proofs.Words.{live_not_zero, plain_of_zero}
-use Rattle.shm_graph.specs.declared.ask.Ask.TheVariants.{Exchange}
-use Rattle.shm_graph.specs.declared.ask.Me.{Me}
-use Rattle.shm_graph.specs.declared.memo.First.TheVariants.{Committed}
-use Rattle.shm_graph.specs.declared.memo.Op.{Op}
-use Rattle.shm_graph.specs.declared.memo.Op.TheVariants.{Alloc}
-use Rattle.shm_graph.specs.declared.memo.Making.{Making}
-use Rattle.shm_graph.specs.declared.memo.Stored.{Stored}
-use Rattle.shm_graph.specs.declared.memo.Memo.{Memo}
-use Rattle.shm_graph.specs.declared.spot.Spot.{Spot}
-use Rattle.shm_graph.specs.declared.spot.Spot.TheVariants.{Root, Segment, Head, Tag, Body}
-use Rattle.shm_graph.specs.Spots.{spot_at, upd, segment_of}
-use Rattle.shm_graph.specs.Blocks.{classes, headers}
-use Rattle.shm_graph.specs.Views.{View, view, at1, targets}
-use Rattle.shm_graph.specs.Held.{HeldAt, InBlock, MadeAt}
-use Rattle.shm_graph.specs.Asks.{Trail}
-use Rattle.shm_graph.specs.Reach.{is_at, known_at}
-use Rattle.shm_graph.specs.MemoAfterRead.{valued}
-use Rattle.shm_graph.specs.MemoAfterStore.{other_than}
-use Rattle.shm_graph.specs.Chains.{or_zero}
-use Rattle.shm_graph.specs.MemoAfterExchange.{words_made, values_with, committed}
-use Rattle.shm_graph.specs.Changes.{called}
-use Rattle.shm_graph.specs.Events.{Event, graph_of, Happens}
-use Rattle.shm_graph.specs.Laws.{Frame, framed, Stands, KeptAt, event_of}
-use Rattle.shm_graph.proofs.Memos.BodyTold.{told_exchange}
-use Rattle.shm_graph.proofs.Memos.Frames.{at1_same}
-use Rattle.shm_graph.proofs.States.Holders.{InReach, held_live_not_zero}
-use Rattle.shm_graph.proofs.StepKinds.KindKeeping.{in_frame, kept_exchange}
+use Rattle.shm_graph.specs.declared.{ask.{Ask.TheVariants.Exchange, Me.Me}, memo.{First.TheVariants.Committed, Op.Op}}
+use Rattle.shm_graph.specs.declared.memo.{Op.TheVariants.Alloc, Making.Making, Stored.Stored, Memo.Memo}
+use Rattle.shm_graph.specs.declared.spot.Spot.{Spot, TheVariants.{Root, Segment, Head, Tag, Body}}
+use Rattle.shm_graph.specs.{Spots.{spot_at, upd, segment_of}, Blocks.{classes, headers}}
+use Rattle.shm_graph.specs.{Views.{View, view, at1, targets}, Held.{HeldAt, InBlock, MadeAt}, Asks.Trail}
+use Rattle.shm_graph.specs.{Reach.{is_at, known_at}, MemoAfterRead.valued, MemoAfterStore.other_than, Chains.or_zero}
+use Rattle.shm_graph.specs.{MemoAfterExchange.{words_made, values_with, committed}, Changes.called}
+use Rattle.shm_graph.specs.{Events.{Event, graph_of, Happens}, Laws.{Frame, framed, Stands, KeptAt, event_of}}
+use Rattle.shm_graph.proofs.Memos.{BodyTold.told_exchange, Frames.at1_same}
 use Rattle.shm_graph.proofs.Memos.KnownChange.{ValueHolds, known_held, valued_all}
-use Rattle.shm_graph.proofs.Runs.Lists.{at1_here}
-use Rattle.shm_graph.proofs.StepKinds.Loads.{choice}
-use Rattle.shm_graph.proofs.Memos.MemoParts.{parts, put_parts, put_same}
-use Rattle.shm_graph.proofs.Spots.Spotting.{same_spot_is}
-use Rattle.shm_graph.proofs.Spots.Updating.{upd_here}
+use Rattle.shm_graph.proofs.{Memos.MemoParts.{parts, put_parts, put_same}, States.Holders.{InReach, held_live_not_zero}}
+use Rattle.shm_graph.proofs.{StepKinds.{KindKeeping.{in_frame, kept_exchange}, Loads.choice}, Runs.Lists.at1_here}
+use Rattle.shm_graph.proofs.Spots.{Spotting.same_spot_is, Updating.upd_here}
 use Rattle.shm_laws.specs.HeaderExchanges.{AllocNeeds, alloc_view}
 use Rattle.shm_laws.proofs.AllocBlock.{alloc_kept, alloc_event}
 use Rattle.shm_steps.specs.Preparing.{MayAlloc}

@@ -1,41 +1,26 @@
 -- a step begins at any slot that the identity may store
 use Rattle.std.proofs.Common.{◌≡◌, ◌≢◌, ℕ, ◌<◌, refl, sym, ap, ◌∙◌, subst, arith, Bool, true, false, ltb, None, Some, Option, inl, inr}
 use Rattle.std.proofs.lemmas.Bool.{cases_eq, eq-eqb, ne_eqb, lt-ltb, cond-true, cond-false}
-use Rattle.shm_words.specs.declared.geometry.Geometry.{Geometry}
-use Rattle.shm_words.specs.declared.redo.Redo.{Redo as ARedo}
+use Rattle.shm_words.specs.declared.{geometry.Geometry.Geometry, redo.Redo.Redo as ARedo}
+use Rattle.shm_words.specs.{Redos.{redo_first, redo_of, RedoFits}, Layout.place_limit}
 use Rattle.shm_words.specs.declared.redo.Redo.TheVariants as redos
-use Rattle.shm_words.specs.Redos.{redo_first, redo_of, RedoFits}
-use Rattle.shm_words.proofs.Placing.{total_in_format}
-use Rattle.shm_words.proofs.Words.{redo_first_small, live_not_zero}
-use Rattle.shm_words.specs.Layout.{place_limit}
-use Rattle.shm_graph.specs.declared.memo.First.TheVariants.{Begun}
-use Rattle.shm_graph.specs.declared.memo.ChangeStage.TheVariants.{Raising}
-use Rattle.shm_graph.specs.declared.memo.Making.{Making}
-use Rattle.shm_graph.specs.declared.memo.Memo.{Memo}
-use Rattle.shm_graph.specs.declared.memo.Op.{Op}
-use Rattle.shm_graph.specs.declared.memo.Op.TheVariants.{Nothing, Alloc, Up, Down, Change}
+use Rattle.shm_words.proofs.{Placing.total_in_format, Words.{redo_first_small, live_not_zero}}
+use Rattle.shm_graph.specs.declared.memo.{First.TheVariants.Begun, ChangeStage.TheVariants.Raising, Making.Making}
+use Rattle.shm_graph.specs.declared.memo.{Memo.Memo, Op.{Op, TheVariants.{Nothing, Alloc, Up, Down, Change}}}
 use Rattle.shm_graph.specs.declared.spot.Spot.{Spot}
 use Rattle.shm_graph.specs.declared.spot.Spot.TheVariants.{Spare, Redo, RedoMore, Home, Era, Root, Slot, Segment, Head, Tag, Body}
-use Rattle.shm_graph.specs.Spots.{spot_address, IsAt, is_in_body}
-use Rattle.shm_graph.specs.Blocks.{classes, headers, IsBlock, IsLive}
-use Rattle.shm_graph.specs.References.{words_of, refs_of}
+use Rattle.shm_graph.specs.{declared.ask.Ask.TheVariants.Load, Spots.{spot_address, IsAt, is_in_body}}
+use Rattle.shm_graph.specs.{Blocks.{classes, headers, IsBlock, IsLive}, References.{words_of, refs_of}}
 use Rattle.shm_graph.specs.Views.{view, own_word, targets}
 use Rattle.shm_graph.specs.Held.{HeldAt, MakingTie, Names, OpTie, Allowed, room_of, odd, is_home, is_slot, is_slot_to}
 use Rattle.shm_graph.specs.Ops.{Quiet, cover, cover_of, covered, on_of, held_over_of, slot_of, word_at}
-use Rattle.shm_graph.specs.Reach.{is_reached}
-use Rattle.shm_graph.specs.MemoAfterStore.{is_block_made, op_spelled}
-use Rattle.shm_graph.specs.Telling.{word_told}
-use Rattle.shm_graph.proofs.States.Counting.{cover_slot, covered_none}
-use Rattle.shm_graph.proofs.Spots.Fixed.{fixed_is_at}
-use Rattle.shm_graph.proofs.States.RedoNames.{record_said, first_again}
+use Rattle.shm_graph.specs.{Reach.is_reached, MemoAfterStore.{is_block_made, op_spelled}, Telling.word_told}
+use Rattle.shm_graph.proofs.States.{Counting.{cover_slot, covered_none}, RedoNames.{record_said, first_again}}
 use Rattle.shm_graph.proofs.States.Holders.{Holds, reach_counted, target_counted, held_live_block, one_holder, step_holds}
-use Rattle.shm_graph.proofs.StepKinds.Keeping.{told_fixed}
-use Rattle.shm_graph.specs.declared.ask.Ask.TheVariants.{Load}
-use Rattle.shm_graph.proofs.States.Reached.{reached_here}
-use Rattle.shm_graph.proofs.Spots.Spotting.{at_below, block_within, same_spot_not}
+use Rattle.shm_graph.proofs.{States.Reached.reached_here, Spots.Fixed.fixed_is_at}
+use Rattle.shm_graph.proofs.{Spots.Spotting.{at_below, block_within, same_spot_not}, StepKinds.Keeping.told_fixed}
 use Rattle.shm_laws.specs.OwnWords.{BeginNeeds}
-use Rattle.shm_steps.specs.OwnWords.{op_begun, IsReady, MayBegin}
-use Rattle.shm_steps.specs.Beginning.{HasRoom}
+use Rattle.shm_steps.specs.{OwnWords.{op_begun, IsReady, MayBegin}, Beginning.HasRoom}
 
 -- a memo tells a word outside bodies by its address
 pub fixed_told : (g : Geometry) (class : ℕ → ℕ → ℕ) (c : ℕ) (m : Memo) (p : Spot) → is_in_body p ≡ false → IsAt g class p → word_told g c m (spot_address g p) ≡ p

@@ -1,26 +1,16 @@
 -- what a memo shows of a step that a redo word begins at an own root or home, or at a slot of a queue
 use Rattle.std.proofs.Common.{◌≡◌, ◌≢◌, ℕ, ◌+◌, ◌%◌, ◌<◌, ◌≤◌, refl, sym, ap, ◌∙◌, arith, inl, inr}
-use Rattle.std.specs.Prelude.{slice_index}
-use Rattle.std.specs.List.{Contains}
-use Rattle.std.proofs.lemmas.Bool.{cases_eq, eq-eqb, ne_eqb, lt-ltb}
-use Rattle.std.proofs.lemmas.List.Elements.{All-contains}
+use Rattle.std.proofs.lemmas.{Bool.{cases_eq, eq-eqb, ne_eqb, lt-ltb}, List.Elements.All-contains}
+use Rattle.std.specs.{Prelude.slice_index, List.Contains}
 use Rattle.shm_words.specs.declared.geometry.Geometry.{Geometry}
 use Rattle.shm_words.specs.declared.redo.Redo.TheVariants as redos
-use Rattle.shm_graph.specs.declared.memo.Fact.TheVariants.{Counter}
-use Rattle.shm_graph.specs.declared.memo.Memo.{Memo}
-use Rattle.shm_graph.specs.declared.memo.Op.TheVariants.{Nothing}
-use Rattle.shm_graph.specs.declared.spot.Spot.{Spot}
+use Rattle.shm_graph.specs.declared.{memo.{Fact.TheVariants.Counter, Memo.Memo, Op.TheVariants.Nothing}, spot.Spot.Spot}
 use Rattle.shm_graph.specs.declared.spot.Spot.TheVariants.{Home, Era, Root, Tail, QueueHead, Slot}
-use Rattle.shm_graph.specs.Spots.{spot_address, IsAt}
-use Rattle.shm_graph.specs.Blocks.{classes}
-use Rattle.shm_graph.specs.Views.{view, own_word, targets}
+use Rattle.shm_graph.specs.{Spots.{spot_address, IsAt}, Blocks.classes, Views.{view, own_word, targets}}
 use Rattle.shm_graph.specs.Held.{HeldAt, odd}
-use Rattle.shm_graph.proofs.Memos.Calls.{FactHolds}
-use Rattle.shm_graph.proofs.Spots.Fixed.{fixed_is_at}
+use Rattle.shm_graph.proofs.{Memos.{Calls.FactHolds, KnownChange.KnownHolds}, Spots.Fixed.fixed_is_at}
 use Rattle.shm_graph.proofs.States.Holders.{Holds}
-use Rattle.shm_graph.proofs.Memos.KnownChange.{KnownHolds}
-use Rattle.shm_steps.specs.OwnWords.{MayBegin}
-use Rattle.shm_steps.specs.Beginning.{MayReplaceRoot, MaySet, MayPut, MayTake, MayTakeBack}
+use Rattle.shm_steps.specs.{OwnWords.MayBegin, Beginning.{MayReplaceRoot, MaySet, MayPut, MayTake, MayTakeBack}}
 use Rattle.shm_steps.proofs.BeginAt.{SlotHas, fixed_told, word_target, up_at, down_at, change_at}
 
 module _ (g : Geometry) (w : Spot → ℕ) (r : ℕ → Memo) (c : ℕ) (h : HeldAt g w (view r)) (l : c < g.clients) where

@@ -1,34 +1,22 @@
 -- what a memo shows of a step that a redo word begins at a reference word of a block
 use Rattle.std.proofs.Common.{◌≡◌, ℕ, ◌+◌, ◌-◌, ◌/◌, ◌%◌, ◌<◌, refl, sym, ap, ◌∙◌, subst, arith, inl, inr, List, [], ◌∷◌, ◌++◌, map, Option, None, Some, Bool}
-use Rattle.std.specs.List.{Contains}
 use Rattle.std.proofs.lemmas.List.Elements.{All-nil, All-cons, All-contains, Contains-append_cases, Contains-append_left, Contains-append_right}
-use Rattle.shm_words.specs.declared.geometry.Geometry.{Geometry}
-use Rattle.shm_words.specs.declared.redo.Redo.TheVariants as redos
-use Rattle.shm_words.specs.Classes.{IsClass}
-use Rattle.shm_words.specs.Layout.{bodies}
+use Rattle.std.specs.List.{Contains}
+use Rattle.shm_words.specs.{declared.geometry.Geometry.Geometry, Classes.IsClass, Layout.bodies}
 use Rattle.shm_words.specs.Tags.{tag_refs, tag_plain, tag_author}
+use Rattle.shm_words.specs.declared.redo.Redo.TheVariants as redos
 use Rattle.shm_words.proofs.Classing.{class_room}
-use Rattle.shm_graph.specs.declared.memo.Memo.{Memo}
-use Rattle.shm_graph.specs.declared.memo.Stored.{Stored}
-use Rattle.shm_graph.specs.declared.spot.Spot.{Spot}
-use Rattle.shm_graph.specs.declared.spot.Spot.TheVariants.{Era, Tag, Body}
-use Rattle.shm_graph.specs.Spots.{spot_address, class_at, IsAt}
-use Rattle.shm_graph.specs.Blocks.{classes, headers, IsBlock, IsLive}
+use Rattle.shm_graph.specs.declared.{memo.{Memo.Memo, Stored.Stored}, spot.Spot.{Spot, TheVariants.{Era, Tag, Body}}}
+use Rattle.shm_graph.specs.{Spots.{spot_address, class_at, IsAt}, Blocks.{classes, headers, IsBlock, IsLive}}
 use Rattle.shm_graph.specs.Reach.{reached_blocks}
 use Rattle.shm_graph.specs.Telling.{Claim, bare, tag_claim, tag_claims, Value, roles, shaped, role_claim, claims}
-use Rattle.shm_graph.specs.Views.{view, own_word}
-use Rattle.shm_graph.specs.Held.{HeldAt, odd}
-use Rattle.shm_graph.proofs.States.Holders.{Holds, held_live_block}
-use Rattle.shm_graph.proofs.Memos.KnownChange.{KnownHolds}
-use Rattle.shm_graph.proofs.Memos.LoadTold.{told_load}
-use Rattle.shm_graph.proofs.States.Claims.{ClaimSound, claims_sound}
-use Rattle.shm_graph.proofs.States.Reached.{reached_here}
+use Rattle.shm_graph.specs.{Views.{view, own_word}, Held.{HeldAt, odd}}
+use Rattle.shm_graph.proofs.States.{Holders.{Holds, held_live_block}, Claims.{ClaimSound, claims_sound}}
+use Rattle.shm_graph.proofs.{States.Reached.reached_here, Memos.{KnownChange.KnownHolds, LoadTold.told_load}}
 use Rattle.shm_graph.proofs.Spots.Spotting.{block_within, body_is_at}
-use Rattle.shm_steps.specs.OwnWords.{MayBegin}
-use Rattle.shm_steps.specs.LoadNeeds.{IsCovered}
+use Rattle.shm_steps.specs.{OwnWords.MayBegin, LoadNeeds.IsCovered}
 use Rattle.shm_steps.specs.Beginning.{IsOwnWord, MayStoreIn, MayFill, MayClear, MayReplace}
-use Rattle.shm_steps.proofs.BeginAt.{SlotHas, up_at, down_at, change_at}
-use Rattle.shm_steps.proofs.Covering.{covers_word}
+use Rattle.shm_steps.proofs.{BeginAt.{SlotHas, up_at, down_at, change_at}, Covering.covers_word}
 
 -- what a tag claims of its block
 abbrev pub claim_by : Bool → ℕ → ℕ → Claim

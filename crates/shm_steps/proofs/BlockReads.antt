@@ -1,37 +1,21 @@
 -- the tag or a word of a block is read: what its reader's memo has then holds
 use Rattle.std.proofs.Common.{◌≡◌, ◌≢◌, ℕ, ◌+◌, ◌<◌, refl, sym, ap, ◌∙◌, subst, arith, true, cond, eqb, leb, ltb, ◌&&◌, ◌||◌, inl, inr, ◌⊎◌, [], ◌∷◌, ◌++◌, Option, Some, None, Bool}
-use Rattle.std.specs.List.{All, Contains}
 use Rattle.std.proofs.lemmas.Bool.{cases_eq, and_parts, eqb-true, eq-eqb, leb-true, leb-false, or_cases, or_parts, lt-ltb, cond-true, false≢true, true≢false}
 use Rattle.std.proofs.lemmas.List.Elements.{Contains-append_left, Contains-push}
-use Rattle.shm_words.specs.declared.geometry.Geometry.{Geometry}
-use Rattle.shm_words.specs.Tags.{tag_author, tag_refs}
-use Rattle.shm_graph.specs.declared.spot.Spot.{Spot}
-use Rattle.shm_graph.specs.declared.spot.Spot.TheVariants.{Tag, Body}
-use Rattle.shm_graph.specs.declared.memo.Look.{Look}
-use Rattle.shm_graph.specs.declared.memo.Op.{Op}
-use Rattle.shm_graph.specs.declared.memo.Memo.{Memo}
-use Rattle.shm_graph.specs.declared.memo.Step.{Step}
-use Rattle.shm_graph.specs.Spots.{spot_at}
-use Rattle.shm_graph.specs.Blocks.{classes}
-use Rattle.shm_graph.specs.References.{words_of, refs_of}
-use Rattle.shm_graph.specs.Ops.{cover, cover_of, covered, slot_of}
-use Rattle.shm_graph.specs.Views.{View, view, at1, targets}
-use Rattle.shm_graph.specs.Held.{HeldAt}
-use Rattle.shm_graph.specs.Changes.{called}
-use Rattle.shm_graph.specs.Reach.{learnt, is_dying}
-use Rattle.shm_graph.specs.Telling.{Claim, claim_of, role_in, roles}
+use Rattle.std.specs.List.{All, Contains}
+use Rattle.shm_words.specs.{declared.geometry.Geometry.Geometry, Tags.{tag_author, tag_refs}}
+use Rattle.shm_graph.specs.declared.{spot.Spot.{Spot, TheVariants.{Tag, Body}}, memo.{Look.Look, Op.Op, Memo.Memo}}
+use Rattle.shm_graph.specs.{declared.memo.Step.Step, Spots.spot_at, Blocks.classes, References.{words_of, refs_of}}
+use Rattle.shm_graph.specs.{Ops.{cover, cover_of, covered, slot_of}, Views.{View, view, at1, targets}, Held.HeldAt}
+use Rattle.shm_graph.specs.{Changes.called, Reach.{learnt, is_dying}, Telling.{Claim, claim_of, role_in, roles}}
 use Rattle.shm_graph.specs.MemoAfterRead.{tag_read, word_read, reference_read, values_read, valued, is_entry, is_latched}
-use Rattle.shm_graph.proofs.Runs.Lists.{at1_here}
-use Rattle.shm_graph.proofs.Spots.Spotting.{same_spot_not}
+use Rattle.shm_graph.proofs.{Runs.Lists.at1_here, Spots.Spotting.same_spot_not}
 use Rattle.shm_graph.proofs.States.Counting.{cover_slot, covered_none}
-use Rattle.shm_graph.proofs.States.Holders.{InReach, reach_counted, step_holds, one_latch}
+use Rattle.shm_graph.proofs.States.{Holders.{InReach, reach_counted, step_holds, one_latch}, Claims.entry_value}
 use Rattle.shm_graph.proofs.Memos.KnownChange.{KnownHolds, ValueHolds, known_held, memo_known, learnt_all, valued_all}
-use Rattle.shm_graph.proofs.Memos.Looking.{look_held}
-use Rattle.shm_graph.proofs.Memos.MemoParts.{put_memo, put_same, view_here}
-use Rattle.shm_graph.proofs.Machines.Calling.{after_call, called_by, called_part}
-use Rattle.shm_graph.proofs.StepKinds.Loads.{choice}
-use Rattle.shm_graph.proofs.States.Claims.{entry_value}
+use Rattle.shm_graph.proofs.Memos.{Looking.look_held, MemoParts.{put_memo, put_same, view_here}}
 use Rattle.shm_graph.proofs.Memos.LoadTold.{claim_here, claim_tag, claim_word}
+use Rattle.shm_graph.proofs.{Machines.Calling.{after_call, called_by, called_part}, StepKinds.Loads.choice}
 use Rattle.shm_steps.specs.LoadNeeds.{IsSettled, MayLookBy, MayLook}
 use Rattle.shm_steps.proofs.BlockTold.{dying_listed, dying_true}
 

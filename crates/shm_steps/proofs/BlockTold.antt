@@ -1,28 +1,16 @@
 -- zero-count blocks of the memo, and the spots of stores into blocks while no step is in progress
 use Rattle.std.proofs.Common.{◌≡◌, ◌≢◌, ℕ, ◌+◌, ◌-◌, ◌<◌, refl, sym, ap, ◌∙◌, arith, true, false, eqb, eq-eqb, ◌&&◌, List, [], ◌∷◌, Option, inl, inr}
-use Rattle.std.specs.List.{All, Contains}
 use Rattle.std.proofs.Math.Bool.{and-false}
 use Rattle.std.proofs.lemmas.Bool.{cases_Bool, and_parts, cond-true, cond-false, eqb-true, ne_eqb, false_from_ne_true}
-use Rattle.std.proofs.lemmas.Cmp.{nat_eq_equiv}
-use Rattle.std.proofs.lemmas.List.Elements.{All-head, All-tail}
+use Rattle.std.proofs.lemmas.{Cmp.nat_eq_equiv, List.Elements.{All-head, All-tail}}
 use Rattle.std.proofs.lemmas.Map.Views.{Contains-from_any, list_any-from_Contains}
+use Rattle.std.specs.List.{All, Contains}
 use Rattle.shm_words.specs.declared.geometry.Geometry.{Geometry}
-use Rattle.shm_graph.specs.declared.spot.Spot.{Spot}
-use Rattle.shm_graph.specs.declared.spot.Spot.TheVariants.{Head, Tag, Body}
-use Rattle.shm_graph.specs.declared.memo.Op.TheVariants.{Nothing}
-use Rattle.shm_graph.specs.declared.memo.Fact.{Fact}
-use Rattle.shm_graph.specs.declared.memo.Fact.TheVariants.{Class}
-use Rattle.shm_graph.specs.declared.memo.Memo.{Memo}
-use Rattle.shm_graph.specs.Spots.{spot_at}
-use Rattle.shm_graph.specs.Blocks.{classes, IsBlock}
-use Rattle.shm_graph.specs.Views.{view}
-use Rattle.shm_graph.specs.Held.{HeldAt, FactAt}
-use Rattle.shm_graph.specs.Ops.{cover_of}
-use Rattle.shm_graph.specs.Reach.{is_dying}
-use Rattle.shm_graph.specs.MemoAfterStore.{class_read}
-use Rattle.shm_graph.specs.Telling.{is_slot_at, stored_told, prepared, word_of_block}
-use Rattle.shm_graph.proofs.States.Holders.{held_live_block}
-use Rattle.shm_graph.proofs.Spots.Spotting.{tag_block, body_block}
+use Rattle.shm_graph.specs.declared.{spot.Spot.{Spot, TheVariants.{Head, Tag, Body}}, memo.Op.TheVariants.Nothing}
+use Rattle.shm_graph.specs.{declared.memo.{Fact.{Fact, TheVariants.Class}, Memo.Memo}, Spots.spot_at}
+use Rattle.shm_graph.specs.{Blocks.{classes, IsBlock}, Views.view, Held.{HeldAt, FactAt}, Ops.cover_of, Reach.is_dying}
+use Rattle.shm_graph.specs.{MemoAfterStore.class_read, Telling.{is_slot_at, stored_told, prepared, word_of_block}}
+use Rattle.shm_graph.proofs.{States.Holders.held_live_block, Spots.Spotting.{tag_block, body_block}}
 
 -- ---- zero-count blocks
 

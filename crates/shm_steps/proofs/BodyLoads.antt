@@ -1,34 +1,19 @@
 -- loads of words of pages' bodies, and exchanges of headers that fail, as machines use them
 use Rattle.std.proofs.Common.{◌≡◌, ◌≢◌, ℕ, ◌+◌, refl, sym, ap, ◌∙◌, subst, Bool, true, false, cond, eqb, arith, inl, inr}
 use Rattle.std.proofs.lemmas.Bool.{ne_eqb, and_from, lt-ltb}
-use Rattle.shm_graph.specs.declared.ask.Ask.TheVariants.{Load, Exchange}
-use Rattle.shm_graph.specs.declared.ask.Me.{Me}
-use Rattle.shm_graph.specs.declared.spot.Spot.{Spot}
-use Rattle.shm_graph.specs.declared.spot.Spot.TheVariants.{Head, Tag, Body}
-use Rattle.shm_graph.specs.declared.memo.Memo.{Memo}
-use Rattle.shm_graph.specs.declared.memo.Step.{Step}
-use Rattle.shm_graph.specs.Spots.{spot_at, upd}
-use Rattle.shm_graph.specs.Blocks.{classes, IsBlock}
-use Rattle.shm_graph.specs.Views.{view, at1}
-use Rattle.shm_graph.specs.Held.{HeldAt}
-use Rattle.shm_graph.specs.Ops.{cover_of, held_over_of}
-use Rattle.shm_graph.specs.Asks.{Trail}
+use Rattle.shm_graph.specs.declared.{ask.{Ask.TheVariants.{Load, Exchange}, Me.Me}, spot.Spot.Spot}
+use Rattle.shm_graph.specs.declared.{spot.Spot.TheVariants.{Head, Tag, Body}, memo.{Memo.Memo, Step.Step}}
+use Rattle.shm_graph.specs.{Spots.{spot_at, upd}, Blocks.{classes, IsBlock}, Views.{view, at1}, Held.HeldAt}
+use Rattle.shm_graph.specs.{Ops.{cover_of, held_over_of}, Asks.Trail}
 use Rattle.shm_graph.specs.Changes.{called, test_before, with_call, with_end, memo_on}
-use Rattle.shm_graph.specs.MemoAfterRead.{read_on, header_read}
-use Rattle.shm_graph.specs.MemoAfterExchange.{exchanged_on}
-use Rattle.shm_graph.specs.Telling.{claims, claim_of, covers, spot_told}
-use Rattle.shm_graph.specs.Events.{Nothing, graph_of, Happens}
+use Rattle.shm_graph.specs.{MemoAfterRead.{read_on, header_read}, MemoAfterExchange.exchanged_on}
+use Rattle.shm_graph.specs.{Telling.{claims, claim_of, covers, spot_told}, Events.{Nothing, graph_of, Happens}}
 use Rattle.shm_graph.specs.Laws.{Frame, framed, Stands, KeptAt, event_of}
-use Rattle.shm_graph.proofs.Spots.Spotting.{head_at, tag_block, body_block}
-use Rattle.shm_graph.proofs.Memos.MemoParts.{end_view}
-use Rattle.shm_graph.proofs.Machines.Calling.{called_part}
-use Rattle.shm_graph.proofs.StepKinds.OpEnd.{uncommitted_quiet}
-use Rattle.shm_graph.proofs.StepKinds.SameGraph.{same_graph}
-use Rattle.shm_graph.proofs.Memos.BodyTold.{told_exchange}
-use Rattle.shm_graph.proofs.Memos.LoadTold.{claim_found, told_load}
+use Rattle.shm_graph.proofs.{Spots.Spotting.{head_at, tag_block, body_block}, Memos.MemoParts.end_view}
+use Rattle.shm_graph.proofs.Memos.{BodyTold.told_exchange, LoadTold.{claim_found, told_load}}
+use Rattle.shm_graph.proofs.{Machines.Calling.called_part, StepKinds.{OpEnd.uncommitted_quiet, SameGraph.same_graph}}
 use Rattle.shm_steps.specs.LoadNeeds.{IsTold, IsCovered, MayLook}
-use Rattle.shm_steps.proofs.HeaderReads.{header_held, header_op}
-use Rattle.shm_steps.proofs.BlockReads.{tag_held, word_held, word_op}
+use Rattle.shm_steps.proofs.{HeaderReads.{header_held, header_op}, BlockReads.{tag_held, word_held, word_op}}
 
 -- a load that is told, with a memo that holds and the same step in progress
 read_kept : (me : Me) (w : Spot → ℕ) (r : ℕ → Memo) (f : Frame) (at : ℕ) (p : Spot)

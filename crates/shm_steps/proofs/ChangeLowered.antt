@@ -1,47 +1,26 @@
 -- the exchange of a header that commits the second half of a change, as machines use it
 use Rattle.std.proofs.Common.{◌≡◌, ◌≢◌, ℕ, refl, sym, ap, ◌∙◌, true, false, subst, inr, None, List}
 use Rattle.std.specs.List.{All, filter}
-use Rattle.shm_graph.specs.Held.{Allowed, is_slot}
-use Rattle.shm_graph.specs.declared.memo.Op.TheVariants.{Change}
-use Rattle.shm_graph.specs.declared.memo.Second.TheVariants.{Closed, Open}
-use Rattle.shm_graph.specs.declared.ask.Ask.TheVariants.{Exchange}
-use Rattle.shm_graph.specs.Laws.{Frame, KeptAt, Stands, event_of, framed}
-use Rattle.shm_graph.specs.declared.spot.Spot.TheVariants.{QueueHead, Head, Tail}
-use Rattle.shm_words.specs.declared.geometry.Geometry.{Geometry}
-use Rattle.shm_graph.specs.Events.{Happens, graph_of}
-use Rattle.shm_words.specs.declared.header.Header.{Header}
-use Rattle.shm_graph.proofs.States.Holders.{Holds}
-use Rattle.shm_graph.proofs.Memos.KnownChange.{KnownHolds}
-use Rattle.shm_graph.specs.declared.memo.Look.{Look}
-use Rattle.shm_graph.specs.declared.memo.ChangeStage.TheVariants.{Lowering}
+use Rattle.shm_graph.specs.{Held.{Allowed, is_slot}, declared.memo.Op.TheVariants.Change}
+use Rattle.shm_graph.specs.declared.memo.{Second.TheVariants.{Closed, Open}, Look.Look}
+use Rattle.shm_graph.specs.declared.memo.{ChangeStage.TheVariants.Lowering, Memo.Memo, Stored.Stored}
+use Rattle.shm_graph.specs.declared.ask.{Ask.TheVariants.Exchange, Me.Me}
+use Rattle.shm_graph.specs.declared.spot.Spot.{TheVariants.{QueueHead, Head, Tail}, Spot}
+use Rattle.shm_graph.specs.{Laws.{Frame, KeptAt, Stands, event_of, framed}, Events.{Happens, graph_of}, Asks.Trail}
+use Rattle.shm_graph.specs.{Views.{View, at1, targets, view}, Reach.{binds, cut_looks, is_reached, sifted}}
+use Rattle.shm_graph.specs.{Changes.called, Blocks.{classes, headers}}
+use Rattle.shm_graph.specs.{MemoAfterExchange.{committed, exchanged_on, lowered}, Ops.{cover_of, is_op, slot_of}}
+use Rattle.shm_graph.specs.{MemoAfterStore.not_block, Spots.{spot_at, upd}}
+use Rattle.shm_graph.proofs.States.{Holders.Holds, Reached.{Names, all_named, named_sound, names_here}}
+use Rattle.shm_graph.proofs.Memos.{KnownChange.KnownHolds, MemoParts.{parts, put_parts, put_same}}
+use Rattle.shm_graph.proofs.{Memos.BodyTold.told_exchange, StepKinds.KindKeeping.{in_frame, kept_exchange}}
+use Rattle.shm_words.specs.{declared.{geometry.Geometry.Geometry, header.Header.Header}, Headers.header_of}
 use Rattle.shm_steps.specs.Lowering.{MayLowerFormer}
-use Rattle.shm_graph.specs.declared.ask.Me.{Me}
-use Rattle.shm_graph.specs.declared.memo.Memo.{Memo}
-use Rattle.shm_graph.proofs.States.Reached.{Names, all_named, named_sound, names_here}
+use Rattle.shm_steps.proofs.{Naming.{StaysKnown, all_lowered, all_spared_apart, names_same}, LowerBlock.counted_live}
+use Rattle.shm_steps.proofs.{Cutting.{cut_slot, cut_sound}, Sifting.{dying_more, known_after, values_after}}
+use Rattle.shm_steps.proofs.{MemoCommits.{known_lowered, lowered_is}, RaiseBlock.row_shows, BlockTold.dying_listed}
 use Rattle.shm_laws.specs.HeaderExchanges.{SecondNeeds, dying_after, second_view}
-use Rattle.shm_graph.specs.declared.spot.Spot.{Spot}
-use Rattle.shm_steps.proofs.Naming.{StaysKnown, all_lowered, all_spared_apart, names_same}
-use Rattle.shm_graph.specs.declared.memo.Stored.{Stored}
-use Rattle.shm_graph.specs.Asks.{Trail}
-use Rattle.shm_graph.specs.Views.{View, at1, targets, view}
-use Rattle.shm_graph.specs.Reach.{binds, cut_looks, is_reached, sifted}
-use Rattle.shm_graph.specs.Changes.{called}
-use Rattle.shm_graph.specs.Blocks.{classes, headers}
-use Rattle.shm_graph.specs.MemoAfterExchange.{committed, exchanged_on, lowered}
-use Rattle.shm_steps.proofs.LowerBlock.{counted_live}
-use Rattle.shm_graph.specs.Ops.{cover_of, is_op, slot_of}
-use Rattle.shm_steps.proofs.Cutting.{cut_slot, cut_sound}
-use Rattle.shm_steps.proofs.Sifting.{dying_more, known_after, values_after}
-use Rattle.shm_words.specs.Headers.{header_of}
-use Rattle.shm_graph.proofs.StepKinds.KindKeeping.{in_frame, kept_exchange}
-use Rattle.shm_steps.proofs.MemoCommits.{known_lowered, lowered_is}
-use Rattle.shm_graph.specs.MemoAfterStore.{not_block}
-use Rattle.shm_graph.proofs.Memos.MemoParts.{parts, put_parts, put_same}
-use Rattle.shm_steps.proofs.RaiseBlock.{row_shows}
-use Rattle.shm_steps.proofs.BlockTold.{dying_listed}
 use Rattle.shm_laws.proofs.SecondHalf.{second_event, second_kept}
-use Rattle.shm_graph.specs.Spots.{spot_at, upd}
-use Rattle.shm_graph.proofs.Memos.BodyTold.{told_exchange}
 
 module _ (me : Me) (w : Spot → ℕ) (r : ℕ → Memo) (f : Frame) (tr : Trail) (at x b e n from to : ℕ) (p : Spot) (s : Stands me w r f tr) (found : w (Head x) ≡ from) (a : MayLowerFormer me.who (r me.who) p x b e n from to) where
   abbrev g : Geometry

@@ -1,49 +1,28 @@
 -- the exchange of a header that commits the first half of a change, as machines use it
 use Rattle.std.proofs.Common.{◌≡◌, ◌≢◌, ℕ, refl, sym, ap, ◌∙◌, true, false, subst, inr, None, List, ◌+◌}
-use Rattle.std.specs.List.{All, filter}
-use Rattle.shm_graph.specs.Held.{Allowed, is_slot}
-use Rattle.shm_graph.specs.declared.memo.First.TheVariants.{Begun, Committed}
-use Rattle.shm_graph.specs.declared.memo.Op.TheVariants.{Change}
-use Rattle.shm_laws.specs.HeaderExchanges.{ChangeNeeds, change_view}
-use Rattle.shm_graph.specs.declared.ask.Ask.TheVariants.{Exchange}
-use Rattle.shm_graph.specs.Laws.{Frame, KeptAt, Stands, event_of, framed}
-use Rattle.shm_graph.specs.declared.spot.Spot.TheVariants.{QueueHead, Head, Home, Tail}
-use Rattle.shm_words.specs.declared.geometry.Geometry.{Geometry}
-use Rattle.shm_graph.specs.Events.{Happens, graph_of}
-use Rattle.shm_graph.proofs.States.Holders.{Holds, reach_target, target_counted}
-use Rattle.shm_steps.proofs.RaiseBlock.{IsNamedBy, reach_names, row_shows}
-use Rattle.shm_steps.specs.Raising.{IsReparted}
-use Rattle.shm_graph.specs.declared.memo.Look.{Look}
-use Rattle.shm_steps.specs.Lowering.{MayChange}
-use Rattle.shm_graph.specs.declared.ask.Me.{Me}
-use Rattle.shm_graph.specs.declared.memo.Memo.{Memo}
-use Rattle.shm_graph.proofs.States.Reached.{Names, named_sound, names_here, reached_here}
-use Rattle.shm_graph.specs.Ops.{On, cover, cover_of, is_op, slot_of}
-use Rattle.shm_graph.specs.declared.table.Part.{Part}
-use Rattle.shm_graph.specs.declared.memo.ChangeStage.TheVariants.{Raising}
-use Rattle.shm_graph.specs.declared.spot.Spot.{Spot}
-use Rattle.shm_steps.proofs.Naming.{StaysKnown, all_spared_apart, names_after, spared_named}
-use Rattle.shm_graph.specs.declared.memo.Stored.{Stored}
-use Rattle.shm_graph.specs.Asks.{Trail}
-use Rattle.shm_graph.specs.Views.{View, at1, own_word, targets, view}
-use Rattle.shm_graph.specs.Reach.{binds, cut_looks, is_reached, sifted}
-use Rattle.shm_graph.specs.Changes.{called}
-use Rattle.shm_laws.proofs.ChangeFirst.{change_event, change_kept}
-use Rattle.shm_graph.proofs.Memos.MemoParts.{parts, put_parts, put_same}
-use Rattle.shm_graph.specs.Blocks.{classes}
-use Rattle.shm_graph.specs.MemoAfterExchange.{committed, exchanged_on}
 use Rattle.std.proofs.lemmas.Bool.{cond-false}
-use Rattle.shm_steps.proofs.Cutting.{cut_slot, cut_sound}
-use Rattle.shm_steps.proofs.Sifting.{known_after, values_after}
-use Rattle.shm_words.specs.Headers.{header_of}
+use Rattle.std.specs.List.{All, filter}
+use Rattle.shm_graph.specs.{Held.{Allowed, is_slot}, declared.memo.First.TheVariants.{Begun, Committed}}
+use Rattle.shm_graph.specs.declared.memo.{Op.TheVariants.Change, Look.Look, Memo.Memo, ChangeStage.TheVariants.Raising}
+use Rattle.shm_graph.specs.declared.{memo.Stored.Stored, ask.{Ask.TheVariants.Exchange, Me.Me}}
+use Rattle.shm_graph.specs.declared.{spot.Spot.{TheVariants.{QueueHead, Head, Home, Tail}, Spot}, table.Part.Part}
+use Rattle.shm_graph.specs.{Laws.{Frame, KeptAt, Stands, event_of, framed}, Events.{Happens, graph_of}}
+use Rattle.shm_graph.specs.{Ops.{On, cover, cover_of, is_op, slot_of}, Asks.Trail}
+use Rattle.shm_graph.specs.{Views.{View, at1, own_word, targets, view}, Reach.{binds, cut_looks, is_reached, sifted}}
+use Rattle.shm_graph.specs.{Changes.called, Blocks.classes, MemoAfterExchange.{committed, exchanged_on}}
+use Rattle.shm_graph.specs.{MemoAfterStore.not_block, Chains.part_set, Spots.{same_spot, spot_at, upd}}
+use Rattle.shm_graph.proofs.States.Holders.{Holds, reach_target, target_counted}
+use Rattle.shm_graph.proofs.States.Reached.{Names, named_sound, names_here, reached_here}
+use Rattle.shm_graph.proofs.Memos.{MemoParts.{parts, put_parts, put_same}, BodyTold.told_exchange}
 use Rattle.shm_graph.proofs.StepKinds.KindKeeping.{in_frame, kept_exchange}
-use Rattle.shm_steps.proofs.PartsSet.{loose_stays, part_tie}
-use Rattle.shm_graph.specs.MemoAfterStore.{not_block}
-use Rattle.shm_steps.proofs.MemoCommits.{not_both}
-use Rattle.shm_steps.proofs.BlockTold.{dying_listed}
-use Rattle.shm_graph.specs.Chains.{part_set}
-use Rattle.shm_graph.specs.Spots.{same_spot, spot_at, upd}
-use Rattle.shm_graph.proofs.Memos.BodyTold.{told_exchange}
+use Rattle.shm_laws.specs.HeaderExchanges.{ChangeNeeds, change_view}
+use Rattle.shm_laws.proofs.ChangeFirst.{change_event, change_kept}
+use Rattle.shm_words.specs.{declared.geometry.Geometry.Geometry, Headers.header_of}
+use Rattle.shm_steps.proofs.RaiseBlock.{IsNamedBy, reach_names, row_shows}
+use Rattle.shm_steps.proofs.Naming.{StaysKnown, all_spared_apart, names_after, spared_named}
+use Rattle.shm_steps.proofs.{Cutting.{cut_slot, cut_sound}, Sifting.{known_after, values_after}}
+use Rattle.shm_steps.proofs.{PartsSet.{loose_stays, part_tie}, MemoCommits.not_both, BlockTold.dying_listed}
+use Rattle.shm_steps.specs.{Raising.IsReparted, Lowering.MayChange}
 
 module _ (me : Me) (w : Spot → ℕ) (r : ℕ → Memo) (f : Frame) (tr : Trail) (at x b e from to : ℕ) (p : Spot) (s : Stands me w r f tr) (found : w (Head b) ≡ from) (a : MayChange me.who (r me.who) p x b e from to) (q : IsReparted me.geometry w (view r) me.who (r me.who) p b) where
   abbrev g : Geometry

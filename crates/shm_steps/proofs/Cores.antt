@@ -1,42 +1,21 @@
 -- memos by their cores: what a word step leaves, and what is in reach
 use Rattle.std.proofs.Common.{◌≡◌, ℕ, zero, suc, ◌≤◌, refl, sym, ap, ◌∙◌, subst, arith, Bool, true, false, not, cond, eqb, leb, ◌&&◌, List, [], ◌∷◌, ◌++◌, map}
+use Rattle.std.proofs.lemmas.{Bool.{and_from, cond-true}, List.Elements.Contains-append_right}
 use Rattle.std.specs.List.{Contains, list_any, filter}
-use Rattle.std.proofs.lemmas.Bool.{and_from, cond-true}
-use Rattle.std.proofs.lemmas.List.Elements.{Contains-append_right}
-use Rattle.shm_graph.specs.declared.ask.Ask.{Ask}
-use Rattle.shm_graph.specs.declared.ask.Ask.TheVariants.{Load}
-use Rattle.shm_graph.specs.declared.ask.Me.{Me}
-use Rattle.shm_graph.specs.declared.spot.Spot.{Spot}
+use Rattle.shm_graph.specs.declared.{ask.{Ask.{Ask, TheVariants.Load}, Me.Me}, spot.Spot.Spot, memo.Fact.Fact}
+use Rattle.shm_graph.specs.declared.memo.{Fact.TheVariants.Counter, ChangeStage.TheVariants.Raising, Look.Look}
+use Rattle.shm_graph.specs.{declared.memo.{Memo.Memo, Op.Op, Step.Step}, Agents.recovers}
+use Rattle.shm_graph.specs.{Changes.{is_lane_count, called, test_before, with_call, with_end, memo_on}, Held.room_of}
+use Rattle.shm_graph.specs.{Laws.{Frame, framed}, Reach.{shown, roots_below, in_slots, not_zero, is_reached, learnt}}
+use Rattle.shm_graph.specs.{MemoAfterRead.{row_read, header_read, op_refused, raised_by, is_held}, Spots.same_spot}
+use Rattle.shm_graph.specs.{MemoAfterStore.{written, stored_on}, Core.core, Ops.{is_op, slot_of}}
 use Rattle.shm_graph.specs.declared.spot.Spot.TheVariants as spot
-use Rattle.shm_graph.specs.declared.memo.Fact.{Fact}
-use Rattle.shm_graph.specs.declared.memo.Fact.TheVariants.{Counter}
-use Rattle.shm_graph.specs.declared.memo.ChangeStage.TheVariants.{Raising}
-use Rattle.shm_graph.specs.declared.memo.Look.{Look}
-use Rattle.shm_graph.specs.declared.memo.Memo.{Memo}
-use Rattle.shm_graph.specs.declared.memo.Op.{Op}
 use Rattle.shm_graph.specs.declared.memo.Op.TheVariants as op
-use Rattle.shm_graph.specs.declared.memo.Step.{Step}
-use Rattle.shm_graph.specs.Agents.{recovers}
+use Rattle.shm_graph.proofs.{Machines.Calling.{called_by, called_part}, StepKinds.{KindKeeping.in_frame, Loads.choice}}
+use Rattle.shm_graph.proofs.{Spots.Spotting.same_spot_self, Memos.MemoSteps.recovers_called}
 use Rattle.shm_laws.proofs.Keep.{Contains-filter}
-use Rattle.shm_graph.proofs.Machines.Calling.{called_by}
-use Rattle.shm_graph.specs.Changes.{is_lane_count, called, test_before, with_call, with_end, memo_on}
-use Rattle.shm_graph.specs.Held.{room_of}
-use Rattle.shm_graph.specs.Laws.{Frame, framed}
-use Rattle.shm_graph.specs.Reach.{shown, roots_below, in_slots, not_zero, is_reached, learnt}
-use Rattle.shm_graph.specs.MemoAfterRead.{row_read, header_read, op_refused, raised_by, is_held}
-use Rattle.shm_graph.specs.Spots.{same_spot}
-use Rattle.shm_graph.specs.MemoAfterStore.{written}
-use Rattle.shm_graph.proofs.Machines.Calling.{called_part}
-use Rattle.shm_graph.proofs.StepKinds.KindKeeping.{in_frame}
-use Rattle.shm_graph.proofs.StepKinds.Loads.{choice}
-use Rattle.shm_graph.proofs.Spots.Spotting.{same_spot_self}
 use Rattle.shm_steps.specs.Conditions.{IsHere}
-use Rattle.shm_words.specs.Headers.{header_of}
-use Rattle.shm_words.specs.declared.geometry.Geometry.{Geometry}
-use Rattle.shm_graph.specs.Core.{core}
-use Rattle.shm_graph.specs.Ops.{is_op, slot_of}
-use Rattle.shm_graph.specs.MemoAfterStore.{stored_on}
-use Rattle.shm_graph.proofs.Memos.MemoSteps.{recovers_called}
+use Rattle.shm_words.specs.{Headers.header_of, declared.geometry.Geometry.Geometry}
 
 -- the cores of memos that are chosen alike
 pub core_cond : (z : Bool) (a b a' b' : Memo) → core a ≡ core a' → core b ≡ core b' → core (cond z a b) ≡ core (cond z a' b')

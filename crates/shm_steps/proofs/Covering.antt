@@ -1,20 +1,14 @@
 -- which blocks a memo tells of, and when a load of one of their words is a look that is right
 use Rattle.std.proofs.Common.{◌≡◌, ◌≢◌, ℕ, ◌+◌, ◌<◌, refl, sym, ap, ◌∙◌, subst, arith, true, eqb, inl, inr, List, [], ◌∷◌, ◌++◌, map, Option, Some, None, Bool}
-use Rattle.std.specs.List.{Contains}
 use Rattle.std.proofs.lemmas.Bool.{cases_Bool, and_from, lt-ltb, eqb-true, cond-true, cond-false}
-use Rattle.std.proofs.lemmas.List.{get_or-map, length-map}
-use Rattle.std.proofs.lemmas.List.Elements.{Contains-append_left, Contains-append_right}
+use Rattle.std.proofs.lemmas.List.{get_or-map, length-map, Elements.{Contains-append_left, Contains-append_right}}
 use Rattle.std.proofs.lemmas.Map.Views.{Contains-from_any}
+use Rattle.std.specs.List.{Contains}
 use Rattle.shm_words.specs.Tags.{tag_refs, tag_plain, tag_author}
-use Rattle.shm_graph.specs.declared.spot.Spot.{Spot}
-use Rattle.shm_graph.specs.declared.spot.Spot.TheVariants.{Tag, Body}
-use Rattle.shm_graph.specs.declared.memo.Stored.{Stored}
-use Rattle.shm_graph.specs.declared.memo.Memo.{Memo}
-use Rattle.shm_graph.specs.Ops.{IsUncommitted, cover}
-use Rattle.shm_graph.specs.Reach.{is_at, known_at, reached_blocks, is_reached, is_dying}
+use Rattle.shm_graph.specs.declared.{spot.Spot.{Spot, TheVariants.{Tag, Body}}, memo.{Stored.Stored, Memo.Memo}}
+use Rattle.shm_graph.specs.{Ops.{IsUncommitted, cover}, Reach.{is_at, known_at, reached_blocks, is_reached, is_dying}}
 use Rattle.shm_graph.specs.Telling.{Claim, bare, tag_claim, tag_claims, Role, Other, Value, Played, role_in, roles, shaped, role_claim, claims, covers, claim_of}
-use Rattle.shm_graph.proofs.Spots.Spotting.{same_spot_is}
-use Rattle.shm_graph.proofs.StepKinds.OpEnd.{uncommitted_quiet}
+use Rattle.shm_graph.proofs.{Spots.Spotting.same_spot_is, StepKinds.OpEnd.uncommitted_quiet}
 use Rattle.shm_steps.specs.LoadNeeds.{IsTold, IsCovered, IsSettled, MayLook, MayLookBy}
 use Rattle.shm_steps.proofs.BlockTold.{dying_listed}
 

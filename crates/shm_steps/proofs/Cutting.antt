@@ -1,24 +1,14 @@
 -- the looks that stay once a reference is taken away are sound for the new targets, and the slot's block stays in reach
-use Rattle.shm_graph.specs.declared.spot.Spot.TheVariants.{Body, QueueHead, Head, Home, Root, Slot, Tag, Tail}
+use Rattle.shm_graph.specs.declared.spot.Spot.{TheVariants.{Body, QueueHead, Head, Home, Root, Slot, Tag, Tail}, Spot}
+use Rattle.shm_graph.specs.declared.memo.{Look.Look, Memo.Memo}
+use Rattle.shm_graph.specs.{Held.{HeldAt, InLooks, LooksSound, SlotOf, named_by, reach_of}, Views.{View, targets}}
+use Rattle.shm_graph.specs.{Reach.{cut_looks, is_look_from, is_look_of, is_named, upto}, Spots.same_spot}
+use Rattle.shm_graph.proofs.{States.Holders.{Holds, InReach}, StepKinds.Loads.choice, Memos.Looking.not_empty}
 use Rattle.std.proofs.Common.{Bool, List, [], ap, eq-eqb, false, inl, inr, not, refl, subst, sym, true, ℕ, ◌%◌, ◌&&◌, ◌<◌, ◌∙◌, ◌≡◌}
-use Rattle.shm_words.specs.declared.geometry.Geometry.{Geometry}
-use Rattle.shm_graph.specs.Held.{HeldAt, InLooks, LooksSound, SlotOf, named_by, reach_of}
-use Rattle.shm_graph.proofs.States.Holders.{Holds, InReach}
-use Rattle.shm_graph.specs.declared.memo.Look.{Look}
-use Rattle.shm_graph.specs.declared.memo.Memo.{Memo}
-use Rattle.shm_graph.specs.declared.spot.Spot.{Spot}
-use Rattle.shm_graph.specs.Views.{View, targets}
-use Rattle.std.proofs.lemmas.Bool.{and_from, and_parts, cases_Bool, cond-true, not-true}
-use Rattle.shm_graph.proofs.StepKinds.Loads.{choice}
-use Rattle.shm_graph.proofs.Memos.Looking.{not_empty}
-use Rattle.shm_graph.specs.Reach.{cut_looks, is_look_from, is_look_of, is_named, upto}
-use Rattle.shm_laws.proofs.LooksCut.{from_named, looks_apart, upto_first, upto_has}
-use Rattle.shm_words.specs.Headers.{header_of}
+use Rattle.std.proofs.lemmas.{Bool.{and_from, and_parts, cases_Bool, cond-true, not-true}, List.Folds.list_any_at}
 use Rattle.std.specs.List.{list_any}
-use Rattle.std.proofs.lemmas.List.Folds.{list_any_at}
-use Rattle.shm_laws.proofs.ExchangeFields.{named_kept}
-use Rattle.shm_graph.specs.Spots.{same_spot}
-use Rattle.shm_words.specs.Tags.{tag_author}
+use Rattle.shm_words.specs.{declared.geometry.Geometry.Geometry, Headers.header_of, Tags.tag_author}
+use Rattle.shm_laws.proofs.{LooksCut.{from_named, looks_apart, upto_first, upto_has}, ExchangeFields.named_kept}
 
 module _ (g : Geometry) (w : Spot → ℕ) (v : View) (h : HeldAt g w v) (c : ℕ) (l : c < g.clients) (p : Spot) (mine : Holds w g v c p) (t' : Spot → ℕ) (same : (q : Spot) → same_spot p q ≡ false → t' q ≡ targets g w v q) (m : Memo) (looks : m.looks ≡ v.looks c) where
   abbrev t : Spot → ℕ

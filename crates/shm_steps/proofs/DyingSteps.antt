@@ -1,30 +1,17 @@
 -- the stores of the header and of the link of a zero-count block, as machines use them
 use Rattle.std.proofs.Common.{◌≡◌, ℕ, ◌+◌, ◌-◌, refl, sym, ap, ◌∙◌, subst, arith, false, None, inr}
-use Rattle.shm_words.specs.Tags.{tag_shape}
+use Rattle.std.proofs.lemmas.{Bool.cond-true, List.Elements.All-contains}
 use Rattle.std.specs.List.{filter}
-use Rattle.std.proofs.lemmas.Bool.{cond-true}
-use Rattle.std.proofs.lemmas.List.Elements.{All-contains}
-use Rattle.shm_graph.specs.declared.ask.Ask.TheVariants.{Store}
-use Rattle.shm_graph.specs.declared.ask.Me.{Me}
-use Rattle.shm_graph.specs.declared.memo.Memo.{Memo}
-use Rattle.shm_graph.specs.declared.spot.Spot.{Spot}
-use Rattle.shm_graph.specs.declared.spot.Spot.TheVariants.{Head, Tag}
-use Rattle.shm_graph.specs.Spots.{spot_at}
-use Rattle.shm_graph.specs.Blocks.{classes}
-use Rattle.shm_graph.specs.Views.{View, view, at1}
-use Rattle.shm_graph.specs.Asks.{Trail}
-use Rattle.shm_graph.specs.Reach.{is_dying, learnt}
-use Rattle.shm_graph.specs.MemoAfterStore.{not_block, not_of}
-use Rattle.shm_graph.specs.Changes.{called}
-use Rattle.shm_graph.specs.Laws.{Frame, framed, Stands, KeptAt}
-use Rattle.shm_graph.proofs.Memos.BodyTold.{told_in_body}
-use Rattle.shm_graph.proofs.StepKinds.KindKeeping.{in_frame, kept_from}
-use Rattle.shm_graph.proofs.Memos.KnownChange.{KnownHolds}
-use Rattle.shm_graph.proofs.Memos.MemoParts.{parts, put_parts, put_same}
+use Rattle.shm_words.specs.Tags.{tag_shape}
+use Rattle.shm_graph.specs.declared.{ask.{Ask.TheVariants.Store, Me.Me}, memo.Memo.Memo, spot.Spot.Spot}
+use Rattle.shm_graph.specs.{declared.spot.Spot.TheVariants.{Head, Tag}, Spots.spot_at, Blocks.classes}
+use Rattle.shm_graph.specs.{Views.{View, view, at1}, Asks.Trail, Reach.{is_dying, learnt}}
+use Rattle.shm_graph.specs.{MemoAfterStore.{not_block, not_of}, Changes.called, Laws.{Frame, framed, Stands, KeptAt}}
+use Rattle.shm_graph.proofs.Memos.{BodyTold.told_in_body, KnownChange.KnownHolds}
+use Rattle.shm_graph.proofs.{Memos.MemoParts.{parts, put_parts, put_same}, StepKinds.KindKeeping.{in_frame, kept_from}}
 use Rattle.shm_graph.proofs.Spots.Spotting.{head_at, tag_block, spot_there}
 use Rattle.shm_laws.specs.Preparing.{FreeNeeds, free_view, LinkNeeds, link_view}
-use Rattle.shm_laws.proofs.FreeBlock.{free_kept, free_event}
-use Rattle.shm_laws.proofs.LinkStore.{link_kept, link_quiet}
+use Rattle.shm_laws.proofs.{FreeBlock.{free_kept, free_event}, LinkStore.{link_kept, link_quiet}}
 use Rattle.shm_steps.specs.Preparing.{MayFree, MayLink}
 use Rattle.shm_steps.proofs.BlockTold.{dying_true, no_dying_at, stored_freed, stored_linked}
 

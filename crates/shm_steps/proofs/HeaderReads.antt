@@ -1,34 +1,20 @@
 -- a header is read, by a load or by an exchange that fails: what its reader's memo has then holds
 use Rattle.std.proofs.Common.{◌≡◌, ℕ, ◌<◌, refl, sym, ap, ◌∙◌, subst, arith, Bool, true, not, cond, eqb, leb, ◌&&◌, inl, inr, ◌∷◌, Some, None}
-use Rattle.std.specs.List.{list_any}
 use Rattle.std.proofs.lemmas.Bool.{and_parts, and_from, eqb-true, eq-eqb, false≢true, true≢false}
-use Rattle.std.proofs.lemmas.List.Elements.{All-cons}
-use Rattle.std.proofs.lemmas.Map.Views.{Contains-from_any}
-use Rattle.shm_words.specs.declared.geometry.Geometry.{Geometry}
-use Rattle.shm_words.specs.Headers.{header_of}
-use Rattle.shm_graph.specs.declared.spot.Spot.{Spot}
-use Rattle.shm_graph.specs.declared.spot.Spot.TheVariants.{Era, Head}
+use Rattle.std.proofs.lemmas.{List.Elements.All-cons, Map.Views.Contains-from_any}
+use Rattle.std.specs.List.{list_any}
+use Rattle.shm_words.specs.{declared.geometry.Geometry.Geometry, Headers.header_of}
+use Rattle.shm_graph.specs.declared.spot.Spot.{Spot, TheVariants.{Era, Head}}
 use Rattle.shm_graph.specs.declared.memo.First.TheVariants.{Begun, Committed, Written}
-use Rattle.shm_graph.specs.declared.memo.ChangeStage.TheVariants.{Raising, Lowering}
-use Rattle.shm_graph.specs.declared.memo.Op.{Op}
+use Rattle.shm_graph.specs.declared.memo.{ChangeStage.TheVariants.{Raising, Lowering}, Op.Op}
 use Rattle.shm_graph.specs.declared.memo.Op.TheVariants.{Nothing, Alloc, Up, Down, Change}
-use Rattle.shm_graph.specs.declared.memo.Fact.TheVariants.{Header as HeaderRead}
-use Rattle.shm_graph.specs.declared.memo.Memo.{Memo}
-use Rattle.shm_graph.specs.declared.memo.Step.{Step}
-use Rattle.shm_graph.specs.Spots.{segment_of}
-use Rattle.shm_graph.specs.Blocks.{classes, IsBlock}
-use Rattle.shm_graph.specs.Ops.{IsUncommitted}
-use Rattle.shm_graph.specs.Views.{View, view, at1, own_word}
-use Rattle.shm_graph.specs.Held.{HeldAt}
-use Rattle.shm_graph.specs.Agents.{recovers}
-use Rattle.shm_graph.specs.Changes.{called}
+use Rattle.shm_graph.specs.declared.memo.{Fact.TheVariants.Header as HeaderRead, Memo.Memo, Step.Step}
+use Rattle.shm_graph.specs.{Spots.segment_of, Blocks.{classes, IsBlock}, Ops.IsUncommitted}
+use Rattle.shm_graph.specs.{Views.{View, view, at1, own_word}, Held.HeldAt, Agents.recovers, Changes.called}
 use Rattle.shm_graph.specs.MemoAfterRead.{header_read, op_refused, raised_by, is_held, test_from}
-use Rattle.shm_graph.proofs.Memos.Frames.{at1_same}
-use Rattle.shm_graph.proofs.Memos.MemoParts.{put_memo, put_same}
+use Rattle.shm_graph.proofs.Memos.{Frames.at1_same, MemoParts.{put_memo, put_same}}
 use Rattle.shm_graph.proofs.Memos.Calls.{FactHolds, ZeroHolds, ZerosHold, TestHolds, call_held}
-use Rattle.shm_graph.proofs.Machines.Calling.{after_call, called_part}
-use Rattle.shm_graph.proofs.StepKinds.Loads.{choice}
-use Rattle.shm_graph.proofs.StepKinds.OpEnd.{op_ended}
+use Rattle.shm_graph.proofs.{Machines.Calling.{after_call, called_part}, StepKinds.{Loads.choice, OpEnd.op_ended}}
 use Rattle.shm_laws.proofs.Loads.{header_fact}
 
 -- ---- the step in progress

@@ -1,11 +1,9 @@
 -- lists that have one item anew
 use Rattle.std.proofs.Common.{◌≡◌, ℕ, zero, suc, refl, subst, List, [], ◌∷◌, cond, eqb, inl, inr, ◌⊎◌}
-use Rattle.std.specs.Prelude.{slice_index_or}
-use Rattle.std.proofs.Math.Path.{fun_ext}
-use Rattle.std.proofs.Math.Dec.{eqb-suc-zero, eqb-zero-suc, eqb-suc-suc}
+use Rattle.std.proofs.Math.{Path.fun_ext, Dec.{eqb-suc-zero, eqb-zero-suc, eqb-suc-suc}}
 use Rattle.std.proofs.lemmas.Bool.{eq-eqb, ne_eqb, cases_eq}
-use Rattle.shm_graph.specs.Views.{at1}
-use Rattle.shm_graph.specs.MemoAfterStore.{put}
+use Rattle.std.specs.Prelude.{slice_index_or}
+use Rattle.shm_graph.specs.{Views.at1, MemoAfterStore.put}
 use Rattle.shm_laws.specs.OwnWords.{at2}
 
 -- item i of a list is x, and each other one stays

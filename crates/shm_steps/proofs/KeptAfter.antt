@@ -1,14 +1,7 @@
 -- the law that a kind has of a step, with what holds of the memo after it
 use Rattle.std.proofs.Common.{◌≡◌, ℕ, false, sym, subst}
-use Rattle.shm_graph.specs.declared.ask.Ask.{Ask}
-use Rattle.shm_graph.specs.declared.ask.Me.{Me}
-use Rattle.shm_graph.specs.declared.memo.Memo.{Memo}
-use Rattle.shm_graph.specs.declared.spot.Spot.{Spot}
-use Rattle.shm_graph.specs.Asks.{at_of, seen_of}
-use Rattle.shm_graph.specs.Blocks.{classes}
-use Rattle.shm_graph.specs.Changes.{memo_on}
-use Rattle.shm_graph.specs.Laws.{Frame, framed, KeptAt}
-use Rattle.shm_graph.specs.Spots.{spot_at}
+use Rattle.shm_graph.specs.{declared.{ask.{Ask.Ask, Me.Me}, memo.Memo.Memo, spot.Spot.Spot}, Asks.{at_of, seen_of}}
+use Rattle.shm_graph.specs.{Blocks.classes, Changes.memo_on, Laws.{Frame, framed, KeptAt}, Spots.spot_at}
 use Rattle.shm_graph.proofs.StepKinds.KindKeeping.{in_frame}
 
 -- of any step

@@ -1,41 +1,23 @@
 -- the store that gives a latch back, as machines use it
 use Rattle.std.proofs.Common.{◌≡◌, ℕ, ◌<◌, refl, sym, ap, ◌∙◌, Bool, true, false, subst, inl, inr, None, [], List, arith, Option, cond, leb, eqb, ◌&&◌, ◌||◌, ◌∷◌, ◌≤◌, ◌⊎◌}
-use Rattle.std.proofs.lemmas.List.Elements.{All-contains, Contains-append_right}
-use Rattle.shm_laws.proofs.Keep.{All-kept}
-use Rattle.shm_laws.specs.Latches.{BackNeeds, back_view}
-use Rattle.shm_graph.specs.declared.spot.Spot.TheVariants.{Body, QueueHead, Latch, Slot, Tag, Tail}
-use Rattle.std.specs.List.{Contains, filter}
-use Rattle.std.proofs.lemmas.Map.Views.{Contains-from_any}
-use Rattle.shm_graph.specs.Laws.{Frame, KeptAt, Stands}
-use Rattle.shm_words.specs.declared.geometry.Geometry.{Geometry}
-use Rattle.shm_graph.specs.Held.{HeldAt, KnownAt, reach_of}
-use Rattle.shm_graph.proofs.States.Holders.{InReach}
-use Rattle.shm_graph.proofs.Memos.KnownChange.{KnownHolds, ValueHolds}
-use Rattle.shm_steps.specs.Unlatching.{MayUnlatch}
-use Rattle.shm_graph.specs.declared.ask.Me.{Me}
-use Rattle.shm_graph.specs.declared.memo.Memo.{Memo}
-use Rattle.shm_graph.proofs.States.Reached.{Names, names_here, reached_sound}
-use Rattle.std.specs.Prelude.{Some}
-use Rattle.shm_graph.specs.declared.spot.Spot.{Spot}
-use Rattle.shm_graph.specs.declared.ask.Ask.TheVariants.{Store}
-use Rattle.shm_graph.specs.declared.memo.Stored.{Stored}
-use Rattle.shm_graph.specs.Asks.{Trail}
-use Rattle.shm_graph.specs.Views.{View, at1, targets, view}
+use Rattle.std.proofs.lemmas.{List.Elements.{All-contains, Contains-append_right}, Map.Views.Contains-from_any}
 use Rattle.std.proofs.lemmas.Bool.{and_parts, eqb-true, leb-true, or_cases}
-use Rattle.shm_laws.proofs.Latches.{back_kept}
-use Rattle.shm_laws.proofs.Quiet.{back_quiet}
+use Rattle.std.specs.{List.{Contains, filter}, Prelude.Some}
+use Rattle.shm_laws.proofs.{Keep.All-kept, Latches.back_kept, Quiet.back_quiet}
+use Rattle.shm_laws.specs.Latches.{BackNeeds, back_view}
+use Rattle.shm_graph.specs.declared.{spot.Spot.{TheVariants.{Body, QueueHead, Latch, Slot, Tag, Tail}, Spot}, ask.Me.Me}
+use Rattle.shm_graph.specs.declared.{ask.Ask.TheVariants.Store, memo.{Memo.Memo, Stored.Stored}}
+use Rattle.shm_graph.specs.{Laws.{Frame, KeptAt, Stands}, Held.{HeldAt, KnownAt, reach_of}, Asks.Trail}
+use Rattle.shm_graph.specs.Views.{View, at1, targets, view}
 use Rattle.shm_graph.specs.Reach.{binds_unlatched, is_at, is_dying, is_free_of_latch, is_latch_of, is_reached, known_at}
-use Rattle.shm_graph.specs.Blocks.{classes}
-use Rattle.shm_graph.specs.Tables.{contents_of}
-use Rattle.shm_steps.proofs.Sifting.{sift_values}
-use Rattle.shm_graph.proofs.StepKinds.KindKeeping.{in_frame, kept_from}
-use Rattle.shm_steps.proofs.Naming.{names_same}
-use Rattle.shm_steps.proofs.BlockTold.{dying_listed}
-use Rattle.shm_graph.proofs.Memos.MemoParts.{put_same}
+use Rattle.shm_graph.specs.{Blocks.classes, Tables.contents_of, Spots.spot_at}
+use Rattle.shm_graph.proofs.States.{Holders.InReach, Reached.{Names, names_here, reached_sound}}
+use Rattle.shm_graph.proofs.Memos.{KnownChange.{KnownHolds, ValueHolds}, MemoParts.put_same}
+use Rattle.shm_graph.proofs.StepKinds.{KindKeeping.{in_frame, kept_from}, Keeping.told_fixed}
 use Rattle.shm_graph.proofs.Spots.Spotting.{same_spot_is}
-use Rattle.shm_graph.specs.Spots.{spot_at}
-use Rattle.shm_words.specs.Tags.{tag_author, tag_refs}
-use Rattle.shm_graph.proofs.StepKinds.Keeping.{told_fixed}
+use Rattle.shm_words.specs.{declared.geometry.Geometry.Geometry, Tags.{tag_author, tag_refs}}
+use Rattle.shm_steps.specs.Unlatching.{MayUnlatch}
+use Rattle.shm_steps.proofs.{Sifting.sift_values, Naming.names_same, BlockTold.dying_listed}
 
 -- what is known of a word is among what is known
 pub known_at_has : (q : Spot) (ks : List Stored) (x : ℕ) → known_at q ks ≡ Some x → Contains ks (record { spot = q; value = x })

@@ -1,52 +1,29 @@
 -- the exchange of a header that lowers a block, as machines use it
 use Rattle.std.proofs.Common.{◌≡◌, ◌≢◌, ℕ, refl, sym, ap, ◌∙◌, true, false, subst, inr, None, List, arith, ◌+◌}
-use Rattle.std.specs.List.{All, filter}
-use Rattle.shm_graph.specs.declared.memo.First.TheVariants.{Begun, Committed}
-use Rattle.shm_graph.specs.declared.memo.Op.TheVariants.{Down}
-use Rattle.shm_graph.specs.declared.ask.Ask.TheVariants.{Exchange}
-use Rattle.shm_graph.specs.Laws.{Frame, KeptAt, Stands, event_of, framed}
-use Rattle.shm_graph.specs.declared.spot.Spot.TheVariants.{QueueHead, Head, Home, Tail}
-use Rattle.shm_words.specs.declared.geometry.Geometry.{Geometry}
-use Rattle.shm_graph.specs.Events.{Happens, graph_of}
-use Rattle.shm_words.specs.declared.header.Header.{Header}
-use Rattle.shm_graph.specs.Held.{HeldAt, PartTie}
-use Rattle.shm_graph.proofs.States.Holders.{Holds, held_live_not_zero}
-use Rattle.shm_steps.specs.Raising.{IsReparted}
-use Rattle.shm_graph.specs.declared.memo.Look.{Look}
-use Rattle.shm_laws.specs.HeaderExchanges.{LowerNeeds, dying_after, lower_view, untaken_after}
-use Rattle.shm_steps.specs.Lowering.{MayLower}
-use Rattle.shm_graph.specs.declared.ask.Me.{Me}
-use Rattle.shm_graph.specs.declared.memo.Memo.{Memo}
-use Rattle.shm_graph.proofs.States.Reached.{Names, named_sound, names_here}
-use Rattle.shm_graph.specs.Ops.{On, cover, cover_of, is_op, slot_of}
-use Rattle.shm_graph.specs.declared.table.Part.{Part}
-use Rattle.shm_graph.specs.declared.spot.Spot.{Spot}
-use Rattle.shm_steps.proofs.Naming.{StaysKnown, all_lowered, all_spared, names_after, spared_named}
-use Rattle.shm_graph.specs.declared.memo.Stored.{Stored}
-use Rattle.shm_graph.specs.Asks.{Trail}
-use Rattle.shm_graph.specs.Views.{View, at1, own_word, targets, view}
-use Rattle.shm_graph.specs.Reach.{binds, cut_looks, is_reached, sifted}
-use Rattle.shm_graph.specs.Changes.{called}
-use Rattle.shm_graph.specs.Blocks.{classes, headers}
-use Rattle.shm_graph.specs.MemoAfterExchange.{committed, exchanged_on, lowered, reparted, with_untaken, cut}
 use Rattle.std.proofs.lemmas.Bool.{cond-false, true_from_ne_false}
-use Rattle.shm_graph.specs.Tables.{contents_of}
-use Rattle.shm_laws.proofs.Keep.{count_of_zero}
+use Rattle.std.specs.{List.{All, filter}, Prelude.slice_index}
+use Rattle.shm_graph.specs.declared.memo.{First.TheVariants.{Begun, Committed}, Op.TheVariants.Down, Look.Look}
+use Rattle.shm_graph.specs.declared.{memo.{Memo.Memo, Stored.Stored}, ask.{Ask.TheVariants.Exchange, Me.Me}}
+use Rattle.shm_graph.specs.declared.{spot.Spot.{TheVariants.{QueueHead, Head, Home, Tail}, Spot}, table.Part.Part}
+use Rattle.shm_graph.specs.{Laws.{Frame, KeptAt, Stands, event_of, framed}, Events.{Happens, graph_of}}
+use Rattle.shm_graph.specs.{Held.{HeldAt, PartTie}, Ops.{On, cover, cover_of, is_op, slot_of}, Asks.Trail}
+use Rattle.shm_graph.specs.{Views.{View, at1, own_word, targets, view}, Reach.{binds, cut_looks, is_reached, sifted}}
+use Rattle.shm_graph.specs.{Changes.called, Blocks.{classes, headers}}
+use Rattle.shm_graph.specs.MemoAfterExchange.{committed, exchanged_on, lowered, reparted, with_untaken, cut}
+use Rattle.shm_graph.specs.{Tables.contents_of, MemoAfterStore.not_block, Chains.part_set}
+use Rattle.shm_graph.specs.Spots.{same_spot, spot_at, upd}
+use Rattle.shm_graph.proofs.States.{Holders.{Holds, held_live_not_zero}, Reached.{Names, named_sound, names_here}}
+use Rattle.shm_graph.proofs.StepKinds.KindKeeping.{in_frame, kept_exchange}
+use Rattle.shm_graph.proofs.Memos.{MemoParts.{parts, put_parts, put_same}, BodyTold.told_exchange}
+use Rattle.shm_words.specs.{declared.{geometry.Geometry.Geometry, header.Header.Header}, Headers.header_of}
+use Rattle.shm_steps.specs.{Raising.IsReparted, Lowering.MayLower}
+use Rattle.shm_steps.proofs.Naming.{StaysKnown, all_lowered, all_spared, names_after, spared_named}
 use Rattle.shm_steps.proofs.Cutting.{cut_slot, cut_sound}
 use Rattle.shm_steps.proofs.Sifting.{dying_more, known_after, untaken_stays, values_after}
-use Rattle.shm_words.specs.Headers.{header_of}
-use Rattle.shm_graph.proofs.StepKinds.KindKeeping.{in_frame, kept_exchange}
 use Rattle.shm_steps.proofs.MemoCommits.{known_left, known_lowered, lowered_is, unsent_list, unsent_lowered, untaken_list, untaken_lowered, with_unsent_is, with_untaken_is}
-use Rattle.shm_steps.proofs.PartsSet.{known_read, loose_stays, part_tie}
-use Rattle.shm_laws.proofs.LowerBlock.{lower_event, lower_kept}
-use Rattle.shm_graph.specs.MemoAfterStore.{not_block}
-use Rattle.shm_graph.specs.Chains.{part_set}
-use Rattle.shm_graph.proofs.Memos.MemoParts.{parts, put_parts, put_same}
-use Rattle.shm_steps.proofs.RaiseBlock.{row_shows}
-use Rattle.shm_steps.proofs.BlockTold.{dying_listed}
-use Rattle.shm_graph.specs.Spots.{same_spot, spot_at, upd}
-use Rattle.std.specs.Prelude.{slice_index}
-use Rattle.shm_graph.proofs.Memos.BodyTold.{told_exchange}
+use Rattle.shm_steps.proofs.{PartsSet.{known_read, loose_stays, part_tie}, RaiseBlock.row_shows, BlockTold.dying_listed}
+use Rattle.shm_laws.specs.HeaderExchanges.{LowerNeeds, dying_after, lower_view, untaken_after}
+use Rattle.shm_laws.proofs.{Keep.count_of_zero, LowerBlock.{lower_event, lower_kept}}
 
 -- a header whose count isn't 0 is live
 pub counted_live : (g : Geometry) (w : Spot → ℕ) (v : View) (b n from : ℕ) → HeldAt g w v → w (Head b) ≡ from → n + 1 ≡ (header_of from).count → ((headers w b).live ≡ true) × ((headers w b).count ≢ 0)

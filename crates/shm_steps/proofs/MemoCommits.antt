@@ -1,14 +1,8 @@
 -- the memo of a committed step, part by part
 use Rattle.std.proofs.Common.{◌≡◌, ℕ, refl, sym, ap, ◌∙◌, Bool, true, false, cond, eqb, ◌&&◌, subst, inl, inr, List, [], ◌∷◌, ◌⊎◌}
-use Rattle.std.specs.Prelude.{slice_index}
-use Rattle.std.specs.List.{filter}
-use Rattle.std.proofs.Math.Path.{fun_ext}
-use Rattle.std.proofs.lemmas.Bool.{cases_eq, eq-eqb, ne_eqb}
-use Rattle.shm_graph.specs.declared.spot.Spot.{Spot}
-use Rattle.shm_graph.specs.declared.spot.Spot.TheVariants.{Slot}
-use Rattle.shm_graph.specs.declared.memo.Stored.{Stored}
-use Rattle.shm_graph.specs.declared.memo.Memo.{Memo}
-use Rattle.shm_graph.specs.Views.{at1}
+use Rattle.std.proofs.{Math.Path.fun_ext, lemmas.Bool.{cases_eq, eq-eqb, ne_eqb}}
+use Rattle.std.specs.{Prelude.slice_index, List.filter}
+use Rattle.shm_graph.specs.{declared.{spot.Spot.{Spot, TheVariants.Slot}, memo.{Stored.Stored, Memo.Memo}}, Views.at1}
 use Rattle.shm_graph.specs.MemoAfterStore.{put, other_than, not_block, not_of}
 use Rattle.shm_graph.specs.MemoAfterExchange.{with_unsent, with_untaken, lowered}
 use Rattle.shm_graph.proofs.Memos.Frames.{at1_same}

@@ -1,24 +1,17 @@
 -- what the memo names once its step is committed is what the new targets name
 use Rattle.std.specs.List.{All, filter}
-use Rattle.shm_laws.proofs.Keep.{All-kept}
 use Rattle.std.proofs.lemmas.List.Elements.{All-weaker, All-filter}
-use Rattle.shm_words.specs.declared.geometry.Geometry.{Geometry}
-use Rattle.shm_graph.proofs.States.Reached.{HeadNamed, Names, all_named}
-use Rattle.shm_graph.specs.declared.spot.Spot.TheVariants.{Home, Root, Slot, QueueHead, Tail}
-use Rattle.shm_graph.proofs.Memos.KnownChange.{KnownHolds}
-use Rattle.std.proofs.Common.{List, ap, cond, eq-eqb, eqb, false, refl, subst, sym, true, ℕ, ◌&&◌, ◌∙◌, ◌≡◌, ◌<◌}
-use Rattle.shm_graph.specs.declared.memo.Memo.{Memo}
-use Rattle.shm_graph.specs.Ops.{On, Quiet, cover, cover_of}
-use Rattle.shm_graph.specs.declared.spot.Spot.{Spot}
-use Rattle.shm_graph.specs.declared.memo.Stored.{Stored}
-use Rattle.shm_graph.specs.Views.{View, own_word, targets}
 use Rattle.std.proofs.lemmas.Bool.{and_left, and_right, cond-false, ne_eqb, not-true, true≢false}
+use Rattle.std.proofs.Common.{List, ap, cond, eq-eqb, eqb, false, refl, subst, sym, true, ℕ, ◌&&◌, ◌∙◌, ◌≡◌, ◌<◌}
+use Rattle.shm_laws.proofs.Keep.{All-kept}
+use Rattle.shm_words.specs.declared.geometry.Geometry.{Geometry}
+use Rattle.shm_graph.proofs.{States.Reached.{HeadNamed, Names, all_named}, Memos.KnownChange.KnownHolds}
 use Rattle.shm_graph.proofs.StepKinds.Loads.{choice}
-use Rattle.shm_graph.specs.Held.{is_slot, HeldAt}
+use Rattle.shm_graph.specs.declared.{spot.Spot.{TheVariants.{Home, Root, Slot, QueueHead, Tail}, Spot}, memo.Memo.Memo}
+use Rattle.shm_graph.specs.{declared.memo.Stored.Stored, Ops.{On, Quiet, cover, cover_of}}
+use Rattle.shm_graph.specs.{Views.{View, own_word, targets}, Held.{is_slot, HeldAt}}
+use Rattle.shm_graph.specs.{MemoAfterStore.{other_than, not_of}, Spots.{same_spot, upd}, Reach.shown}
 use Rattle.shm_steps.proofs.MemoCommits.{known_left, known_lowered}
-use Rattle.shm_graph.specs.MemoAfterStore.{other_than, not_of}
-use Rattle.shm_graph.specs.Spots.{same_spot, upd}
-use Rattle.shm_graph.specs.Reach.{shown}
 
 -- a known slot is another one than p
 abbrev pub IsSpared : Spot → Spot → Type 0

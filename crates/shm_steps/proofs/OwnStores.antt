@@ -1,37 +1,19 @@
 -- the stores of rows and of the own hold word, as machines use them
 use Rattle.std.proofs.Common.{List, ◌≡◌, ℕ, ◌≤◌, refl, sym, ap, ◌∙◌, subst, Bool, true, false, [], ◌∷◌, None, Option, cond}
-use Rattle.std.proofs.lemmas.Bool.{eq-eqb, ne_eqb}
-use Rattle.std.proofs.lemmas.List.Elements.{All-nil, All-filter}
-use Rattle.shm_words.specs.declared.geometry.Geometry.{Geometry}
+use Rattle.std.proofs.lemmas.{Bool.{eq-eqb, ne_eqb}, List.Elements.{All-nil, All-filter}}
 use Rattle.std.specs.List.{filter}
-use Rattle.shm_graph.specs.declared.memo.Fact.{Fact}
-use Rattle.shm_graph.specs.Changes.{is_lane_count}
-use Rattle.shm_graph.proofs.Memos.Calls.{FactHolds}
-use Rattle.shm_graph.specs.declared.ask.Ask.TheVariants.{Store}
-use Rattle.shm_graph.specs.declared.ask.Me.{Me}
-use Rattle.shm_graph.specs.declared.memo.Memo.{Memo}
-use Rattle.shm_graph.specs.declared.memo.Test.{Test}
-use Rattle.shm_graph.specs.declared.memo.Status.{Status}
-use Rattle.shm_graph.specs.declared.spot.Spot.{Spot}
-use Rattle.shm_graph.specs.declared.spot.Spot.TheVariants.{Hold, Era}
-use Rattle.shm_graph.specs.Spots.{spot_at}
-use Rattle.shm_graph.specs.Blocks.{classes}
-use Rattle.shm_graph.specs.Views.{View, view, at1}
-use Rattle.shm_graph.specs.Asks.{Trail}
-use Rattle.shm_graph.specs.Changes.{called}
-use Rattle.shm_graph.specs.Held.{HeldAt}
-use Rattle.shm_graph.specs.MemoAfterStore.{era_stored, with_own}
+use Rattle.shm_words.specs.declared.geometry.Geometry.{Geometry}
+use Rattle.shm_graph.specs.declared.{memo.{Fact.Fact, Memo.Memo, Test.Test, Status.Status}, ask.Ask.TheVariants.Store}
+use Rattle.shm_graph.specs.declared.{ask.Me.Me, spot.Spot.{Spot, TheVariants.{Hold, Era}}}
+use Rattle.shm_graph.specs.{Changes.{is_lane_count, called}, Spots.spot_at, Blocks.classes, Views.{View, view, at1}}
+use Rattle.shm_graph.specs.{Asks.Trail, Held.HeldAt, MemoAfterStore.{era_stored, with_own}}
 use Rattle.shm_graph.specs.Laws.{Frame, framed, Stands, KeptAt}
-use Rattle.shm_graph.proofs.Memos.Calls.{call_held}
-use Rattle.shm_graph.proofs.Memos.Frames.{at1_twice}
-use Rattle.shm_graph.proofs.StepKinds.Keeping.{told_fixed}
-use Rattle.shm_graph.proofs.StepKinds.KindKeeping.{in_frame, kept_from}
-use Rattle.shm_graph.proofs.Memos.MemoParts.{parts, put_parts, put_same}
-use Rattle.shm_graph.proofs.Spots.Spotting.{spot_there}
+use Rattle.shm_graph.proofs.Memos.{Calls.{FactHolds, call_held}, Frames.at1_twice}
+use Rattle.shm_graph.proofs.{Memos.MemoParts.{parts, put_parts, put_same}, StepKinds.Keeping.told_fixed}
+use Rattle.shm_graph.proofs.{StepKinds.KindKeeping.{in_frame, kept_from}, Spots.Spotting.spot_there}
 use Rattle.shm_laws.specs.OwnWords.{RowNeeds, row_store_view, HoldNeeds, hold_view}
+use Rattle.shm_laws.proofs.{Quiet.row_quiet, HoldStore.{hold_kept, hold_quiet}}
 use Rattle.shm_laws.proofs.RedoAndRows as rows
-use Rattle.shm_laws.proofs.Quiet.{row_quiet}
-use Rattle.shm_laws.proofs.HoldStore.{hold_kept, hold_quiet}
 use Rattle.shm_steps.specs.OwnWords.{MayShow, MayHold}
 
 -- the row of another client is stored

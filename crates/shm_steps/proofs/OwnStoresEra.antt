@@ -1,48 +1,28 @@
 -- the store of the own era, as machines use it: where the step that it closes lowers, the looks are over
 use Rattle.std.proofs.Common.{◌≡◌, ◌≢◌, ℕ, ◌+◌, ◌<◌, refl, arith, sym, ap, ◌∙◌, subst, Bool, true, false, cond, List, [], ◌∷◌, None, inl, inr, ◌⊎◌, eqb}
-use Rattle.std.specs.List.{All, filter}
 use Rattle.std.proofs.lemmas.Bool.{eq-eqb, cases_eq, false≢true}
-use Rattle.shm_words.specs.declared.geometry.Geometry.{Geometry}
-use Rattle.shm_words.specs.Headers.{header_of}
-use Rattle.shm_words.specs.Tags.{tag_author}
-use Rattle.shm_graph.specs.declared.ask.Ask.TheVariants.{Store}
-use Rattle.shm_graph.specs.declared.ask.Me.{Me}
-use Rattle.shm_graph.specs.declared.memo.ChangeStage.TheVariants.{Raising}
-use Rattle.shm_graph.specs.declared.memo.Look.{Look}
-use Rattle.shm_graph.specs.declared.memo.Memo.{Memo}
-use Rattle.shm_graph.specs.declared.memo.Op.{Op}
-use Rattle.shm_graph.specs.declared.memo.Op.TheVariants.{Nothing, Change}
-use Rattle.shm_graph.specs.declared.memo.Status.TheVariants as status
-use Rattle.shm_graph.specs.declared.memo.Stored.{Stored}
+use Rattle.std.specs.List.{All, filter}
+use Rattle.shm_words.specs.{declared.geometry.Geometry.Geometry, Headers.header_of, Tags.tag_author}
+use Rattle.shm_graph.specs.declared.{ask.{Ask.TheVariants.Store, Me.Me}, memo.ChangeStage.TheVariants.Raising}
+use Rattle.shm_graph.specs.declared.memo.{Look.Look, Memo.Memo, Op.{Op, TheVariants.{Nothing, Change}}, Stored.Stored}
 use Rattle.shm_graph.specs.declared.spot.Spot.{Spot}
 use Rattle.shm_graph.specs.declared.spot.Spot.TheVariants.{Era, Home, Root, Tail, QueueHead, Slot, Head, Tag, Body}
-use Rattle.shm_graph.specs.Spots.{spot_at, upd}
-use Rattle.shm_graph.specs.Blocks.{classes}
-use Rattle.shm_graph.specs.Views.{View, view, at1, own_word, targets}
-use Rattle.shm_graph.specs.Asks.{Trail}
-use Rattle.shm_graph.specs.Changes.{called}
-use Rattle.shm_graph.specs.Controllers.{IsEraRaised}
+use Rattle.shm_graph.specs.{Spots.{spot_at, upd}, Blocks.classes, Views.{View, view, at1, own_word, targets}}
+use Rattle.shm_graph.specs.{Asks.Trail, Changes.called, Controllers.IsEraRaised}
 use Rattle.shm_graph.specs.Events.{Nothing as Quietly, graph_of, Happens}
 use Rattle.shm_graph.specs.Held.{HeldAt, KnownAt, ValueAt, SlotOf, LooksSound, Fresh, InLooks, named_by, reach_of}
-use Rattle.shm_graph.specs.Ops.{cover, cover_of, slot_of, is_op}
-use Rattle.shm_graph.specs.Reach.{binds, is_reached}
+use Rattle.shm_graph.specs.{Ops.{cover, cover_of, slot_of, is_op}, Reach.{binds, is_reached}}
 use Rattle.shm_graph.specs.MemoAfterStore.{op_closed, is_lowering, without_looks, era_stored, with_own}
-use Rattle.shm_graph.specs.Tables.{contents_of}
-use Rattle.shm_graph.specs.Laws.{Frame, framed, Stands, KeptAt}
-use Rattle.shm_graph.proofs.Memos.Frames.{at1_all}
-use Rattle.shm_graph.proofs.StepKinds.Keeping.{told_fixed}
-use Rattle.shm_graph.proofs.StepKinds.KindKeeping.{in_frame, kept_from}
-use Rattle.shm_graph.proofs.Memos.KnownChange.{KnownHolds, ValueHolds}
-use Rattle.shm_graph.proofs.Runs.Lists.{at1_here, at1_other}
-use Rattle.shm_graph.proofs.Memos.MemoParts.{parts, put_parts, put_same}
+use Rattle.shm_graph.specs.{Tables.contents_of, Laws.{Frame, framed, Stands, KeptAt}}
+use Rattle.shm_graph.specs.declared.memo.Status.TheVariants as status
+use Rattle.shm_graph.proofs.Memos.{Frames.at1_all, KnownChange.{KnownHolds, ValueHolds}}
+use Rattle.shm_graph.proofs.{Memos.MemoParts.{parts, put_parts, put_same}, StepKinds.Keeping.told_fixed}
+use Rattle.shm_graph.proofs.{StepKinds.KindKeeping.{in_frame, kept_from}, Runs.Lists.{at1_here, at1_other}}
 use Rattle.shm_graph.proofs.States.Reached.{Names, reached_sound, shown_target, all_named}
 use Rattle.shm_laws.specs.OwnWords.{CloseNeeds, close_view}
-use Rattle.shm_laws.proofs.CloseOp.{close_kept}
-use Rattle.shm_laws.proofs.Quiet.{close_quiet}
-use Rattle.shm_laws.proofs.Keep.{All-kept}
+use Rattle.shm_laws.proofs.{CloseOp.close_kept, Quiet.close_quiet, Keep.All-kept}
 use Rattle.shm_steps.specs.OwnWords.{MayClose}
-use Rattle.shm_steps.proofs.Sifting.{sift_known}
-use Rattle.shm_steps.proofs.BlockTold.{dying_listed}
+use Rattle.shm_steps.proofs.{Sifting.sift_known, BlockTold.dying_listed}
 
 -- ---- the looks of one identity are dropped
 

@@ -1,28 +1,15 @@
 -- the stores of a tail and of a head, as machines use them
 use Rattle.std.proofs.Common.{◌≡◌, ℕ, ◌+◌, refl, sym, ap, ◌∙◌, subst, false, List, [], ◌∷◌, ◌++◌, None}
-use Rattle.std.specs.Prelude.{slice_index, slice_index_or}
 use Rattle.std.proofs.lemmas.Bool.{eq-eqb}
-use Rattle.shm_graph.specs.declared.ask.Ask.TheVariants.{Store}
-use Rattle.shm_graph.specs.declared.ask.Me.{Me}
-use Rattle.shm_graph.specs.declared.memo.Memo.{Memo}
-use Rattle.shm_graph.specs.declared.spot.Spot.{Spot}
-use Rattle.shm_graph.specs.declared.spot.Spot.TheVariants.{Tail, QueueHead}
-use Rattle.shm_graph.specs.Spots.{spot_at, upd}
-use Rattle.shm_graph.specs.Blocks.{classes}
-use Rattle.shm_graph.specs.Views.{View, view, at1, own_word}
-use Rattle.shm_graph.specs.Asks.{Trail}
-use Rattle.shm_graph.specs.Events.{Nothing, graph_of, Happens}
-use Rattle.shm_graph.specs.Held.{HeldAt}
-use Rattle.shm_graph.specs.MemoAfterStore.{put, lane_with}
-use Rattle.shm_graph.specs.Laws.{Frame, Stands, KeptAt}
-use Rattle.shm_graph.proofs.StepKinds.Keeping.{told_fixed}
-use Rattle.shm_graph.proofs.StepKinds.KindKeeping.{in_frame, kept_from}
-use Rattle.shm_graph.proofs.Memos.MemoParts.{put_same}
-use Rattle.shm_graph.proofs.Spots.Spotting.{spot_there}
+use Rattle.std.specs.Prelude.{slice_index, slice_index_or}
+use Rattle.shm_graph.specs.declared.{ask.{Ask.TheVariants.Store, Me.Me}, memo.Memo.Memo, spot.Spot.Spot}
+use Rattle.shm_graph.specs.{declared.spot.Spot.TheVariants.{Tail, QueueHead}, Spots.{spot_at, upd}, Blocks.classes}
+use Rattle.shm_graph.specs.{Views.{View, view, at1, own_word}, Asks.Trail, Events.{Nothing, graph_of, Happens}}
+use Rattle.shm_graph.specs.{Held.HeldAt, MemoAfterStore.{put, lane_with}, Laws.{Frame, Stands, KeptAt}}
+use Rattle.shm_graph.proofs.StepKinds.{Keeping.told_fixed, KindKeeping.{in_frame, kept_from}}
+use Rattle.shm_graph.proofs.{Memos.MemoParts.put_same, Spots.Spotting.spot_there}
 use Rattle.shm_laws.specs.OwnWords.{TailNeeds, tail_view, QueueHeadNeeds, head_view, at2}
-use Rattle.shm_laws.proofs.QueueTails.{tail_kept}
-use Rattle.shm_laws.proofs.QueueHeads.{head_kept}
-use Rattle.shm_laws.proofs.Quiet.{tail_quiet, head_quiet}
+use Rattle.shm_laws.proofs.{QueueTails.tail_kept, QueueHeads.head_kept, Quiet.{tail_quiet, head_quiet}}
 use Rattle.shm_steps.specs.OwnWords.{MaySend, MayReceive}
 use Rattle.shm_steps.proofs.Items.{put_at, part_at2}
 

@@ -1,49 +1,27 @@
 -- the store of the redo word, as machines use it, and what a memo shows of a step that it begins at a root
 use Rattle.std.proofs.Common.{◌≡◌, ℕ, ◌+◌, ◌^◌, ◌<◌, ◌≤◌, refl, sym, ap, ◌∙◌, subst, arith, true, false, ◌∷◌, None, Some, Option, cond, inl, inr, ◌⊎◌}
 use Rattle.std.proofs.lemmas.Bool.{and_from, eq-eqb, lt-ltb, eqb-true, false≢true}
-use Rattle.shm_words.specs.declared.geometry.Geometry.{Geometry}
-use Rattle.shm_words.specs.declared.redo.Redo.{Redo as ARedo}
+use Rattle.shm_words.specs.declared.{geometry.Geometry.Geometry, redo.Redo.Redo as ARedo}
+use Rattle.shm_words.specs.{Redos.{redo_first, redo_second, redo_of, RedoFits}, Layout.place_limit}
 use Rattle.shm_words.specs.declared.redo.Redo.TheVariants as redos
-use Rattle.shm_words.specs.Redos.{redo_first, redo_second, redo_of, RedoFits}
-use Rattle.shm_words.proofs.Placing.{total_in_format, total_small}
-use Rattle.shm_words.proofs.Words.{redo_first_small}
-use Rattle.shm_words.specs.Layout.{place_limit}
-use Rattle.shm_graph.specs.declared.ask.Ask.TheVariants.{Store}
-use Rattle.shm_graph.specs.declared.ask.Me.{Me}
-use Rattle.shm_graph.specs.declared.memo.First.TheVariants.{Begun}
-use Rattle.shm_graph.specs.declared.memo.Making.{Making}
-use Rattle.shm_graph.specs.declared.memo.Memo.{Memo}
-use Rattle.shm_graph.specs.declared.memo.Op.{Op}
-use Rattle.shm_graph.specs.declared.memo.Op.TheVariants.{Nothing, Alloc, Up, Down}
-use Rattle.shm_graph.specs.declared.spot.Spot.{Spot}
+use Rattle.shm_words.proofs.{Placing.{total_in_format, total_small}, Words.redo_first_small}
+use Rattle.shm_graph.specs.declared.{ask.{Ask.TheVariants.Store, Me.Me}, memo.{First.TheVariants.Begun, Making.Making}}
+use Rattle.shm_graph.specs.declared.{memo.{Memo.Memo, Op.{Op, TheVariants.{Nothing, Alloc, Up, Down}}}, spot.Spot.Spot}
 use Rattle.shm_graph.specs.declared.spot.Spot.TheVariants.{Redo, RedoMore, Era, Root, Tag, Body, Head, Segment}
-use Rattle.shm_graph.specs.Spots.{spot_at, spot_address, IsAt}
-use Rattle.shm_graph.specs.Blocks.{classes, IsBlock}
-use Rattle.shm_graph.specs.Views.{View, view, at1, own_word, targets}
-use Rattle.shm_graph.specs.References.{words_of}
-use Rattle.shm_graph.specs.Asks.{Trail}
+use Rattle.shm_graph.specs.{Spots.{spot_at, spot_address, IsAt}, Blocks.{classes, IsBlock}}
+use Rattle.shm_graph.specs.{Views.{View, view, at1, own_word, targets}, References.words_of, Asks.Trail}
 use Rattle.shm_graph.specs.Held.{HeldAt, MakingTie, Names, IsSecond, OpSound, OpTie, Allowed, room_of}
-use Rattle.shm_graph.specs.Ops.{Quiet, cover, cover_of, on_of, held_over_of, slot_of}
-use Rattle.shm_graph.specs.Reach.{is_reached}
+use Rattle.shm_graph.specs.{Ops.{Quiet, cover, cover_of, on_of, held_over_of, slot_of}, Reach.is_reached}
 use Rattle.shm_graph.specs.MemoAfterStore.{is_block_made, op_spelled}
-use Rattle.shm_graph.specs.Telling.{word_told, outside_or, spot_claimed, claim_of}
-use Rattle.shm_graph.specs.Laws.{Frame, Stands, KeptAt}
-use Rattle.shm_graph.proofs.Spots.Fixed.{fixed_is_at}
+use Rattle.shm_graph.specs.{Telling.{word_told, outside_or, spot_claimed, claim_of}, Laws.{Frame, Stands, KeptAt}}
+use Rattle.shm_graph.proofs.Spots.{Fixed.fixed_is_at, PageSpots.fixed_stays, Spotting.{at_below, block_within}}
 use Rattle.shm_graph.proofs.States.RedoNames.{record_said, first_again}
 use Rattle.shm_graph.proofs.States.Holders.{Holds, reach_counted, target_counted, held_live_block}
-use Rattle.shm_graph.proofs.StepKinds.Loads.{choice}
-use Rattle.shm_graph.proofs.StepKinds.Keeping.{told_fixed}
-use Rattle.shm_graph.proofs.StepKinds.KindKeeping.{in_frame, kept_from}
-use Rattle.shm_graph.proofs.Memos.MemoParts.{put_same}
-use Rattle.shm_graph.proofs.Spots.PageSpots.{fixed_stays}
-use Rattle.shm_graph.proofs.States.Reached.{reached_here, shown_target}
-use Rattle.shm_graph.proofs.Spots.Spotting.{at_below, block_within}
+use Rattle.shm_graph.proofs.{States.Reached.{reached_here, shown_target}, StepKinds.{Loads.choice, Keeping.told_fixed}}
+use Rattle.shm_graph.proofs.{StepKinds.KindKeeping.{in_frame, kept_from}, Memos.MemoParts.put_same}
 use Rattle.shm_laws.specs.OwnWords.{BeginNeeds, begin_view, MoreNeeds, more_view}
-use Rattle.shm_laws.proofs.RedoAndRows.{begin_kept}
-use Rattle.shm_laws.proofs.MoreStore.{more_kept, more_quiet}
-use Rattle.shm_laws.proofs.Quiet.{begin_quiet}
-use Rattle.shm_steps.specs.Conditions.{IsHere}
-use Rattle.shm_steps.specs.OwnWords.{MayAdd, MayRemove, op_begun, IsReady, MayReady, MayBegin}
+use Rattle.shm_laws.proofs.{RedoAndRows.begin_kept, MoreStore.{more_kept, more_quiet}, Quiet.begin_quiet}
+use Rattle.shm_steps.specs.{Conditions.IsHere, OwnWords.{MayAdd, MayRemove, op_begun, IsReady, MayReady, MayBegin}}
 
 -- the redo word is stored, which begins a step
 pub redo_stored : (me : Me) (w : Spot → ℕ) (r : ℕ → Memo) (f : Frame) (tr : Trail) (at x : ℕ) → Stands me w r f tr → f.fresh ≡ false → spot_at me.geometry (classes w) at ≡ Redo me.who → BeginNeeds me.geometry w (view r) me.who x (op_begun me.geometry me.who (r me.who) x)

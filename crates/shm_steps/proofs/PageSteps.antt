@@ -1,33 +1,19 @@
 -- the steps of segments' words, of pages' classes and of a latch that is taken, as machines use them
 use Rattle.std.proofs.Common.{◌≡◌, ℕ, ◌+◌, refl, sym, ap, subst, false, ◌∷◌, Some, None, inr}
-use Rattle.std.specs.List.{filter}
 use Rattle.std.proofs.lemmas.List.Elements.{All-contains}
-use Rattle.shm_graph.specs.declared.ask.Ask.TheVariants.{Store, Exchange}
-use Rattle.shm_graph.specs.declared.ask.Me.{Me}
-use Rattle.shm_graph.specs.declared.memo.Memo.{Memo}
-use Rattle.shm_graph.specs.declared.memo.Fact.TheVariants.{Class}
-use Rattle.shm_graph.specs.declared.spot.Spot.{Spot}
-use Rattle.shm_graph.specs.declared.spot.Spot.TheVariants.{Latch, Segment, Page, Head}
-use Rattle.shm_graph.specs.Spots.{spot_at}
-use Rattle.shm_graph.specs.Blocks.{classes}
-use Rattle.shm_graph.specs.Views.{View, view, at1}
-use Rattle.shm_graph.specs.Held.{ZeroAt}
-use Rattle.shm_graph.specs.Asks.{Trail}
-use Rattle.shm_graph.specs.MemoAfterStore.{not_segment, outside_of, other_than}
-use Rattle.shm_graph.specs.Laws.{Frame, Stands, KeptAt}
-use Rattle.shm_graph.proofs.Spots.Spotting.{spot_there}
-use Rattle.shm_graph.proofs.StepKinds.Keeping.{told_fixed}
-use Rattle.shm_graph.proofs.StepKinds.KindKeeping.{in_frame, kept_from, kept_exchange}
-use Rattle.shm_graph.proofs.Memos.MemoParts.{put_same}
+use Rattle.std.specs.List.{filter}
+use Rattle.shm_graph.specs.declared.{ask.{Ask.TheVariants.{Store, Exchange}, Me.Me}, memo.Memo.Memo}
+use Rattle.shm_graph.specs.declared.{memo.Fact.TheVariants.Class, spot.Spot.Spot}
+use Rattle.shm_graph.specs.{declared.spot.Spot.TheVariants.{Latch, Segment, Page, Head}, Spots.spot_at, Blocks.classes}
+use Rattle.shm_graph.specs.{Views.{View, view, at1}, Held.ZeroAt, Asks.Trail}
+use Rattle.shm_graph.specs.{MemoAfterStore.{not_segment, outside_of, other_than}, Laws.{Frame, Stands, KeptAt}}
+use Rattle.shm_graph.proofs.{Spots.Spotting.spot_there, StepKinds.Keeping.told_fixed}
+use Rattle.shm_graph.proofs.{StepKinds.KindKeeping.{in_frame, kept_from, kept_exchange}, Memos.MemoParts.put_same}
 use Rattle.shm_laws.specs.Segments.{ClassNeeds, class_view, ClaimNeeds, claim_view, SegmentBackNeeds, segment_back_view}
 use Rattle.shm_laws.specs.Latches.{LatchNeeds, latch_view}
-use Rattle.shm_laws.proofs.SegmentClaim.{claim_kept, claim_quiet}
-use Rattle.shm_laws.proofs.SegmentBack.{segment_back_kept, segment_back_quiet}
-use Rattle.shm_laws.proofs.PageClass.{class_kept}
-use Rattle.shm_laws.proofs.Latches.{latch_kept}
-use Rattle.shm_laws.proofs.Quiet.{class_quiet, latch_quiet}
-use Rattle.shm_steps.specs.Conditions.{IsHere}
-use Rattle.shm_steps.specs.Preparing.{MayGive, MayClass, MayLatch}
+use Rattle.shm_laws.proofs.{SegmentClaim.{claim_kept, claim_quiet}, SegmentBack.{segment_back_kept, segment_back_quiet}}
+use Rattle.shm_laws.proofs.{PageClass.class_kept, Latches.latch_kept, Quiet.{class_quiet, latch_quiet}}
+use Rattle.shm_steps.specs.{Conditions.IsHere, Preparing.{MayGive, MayClass, MayLatch}}
 
 -- a segment that nobody owns becomes the identity's
 pub claimed : (me : Me) (w : Spot → ℕ) (r : ℕ → Memo) (f : Frame) (tr : Trail) (at s : ℕ) → Stands me w r f tr → f.fresh ≡ false → spot_at me.geometry (classes w) at ≡ Segment s → w (Segment s) ≡ 0 → IsHere (r me.who)

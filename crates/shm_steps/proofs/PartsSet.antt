@@ -1,20 +1,11 @@
 -- the part of a memo once its step commits
-use Rattle.std.proofs.Common.{◌≡◌, ℕ, refl, true, List, false, sym, ◌∙◌}
-use Rattle.shm_graph.specs.declared.spot.Spot.TheVariants.{Body, Home}
+use Rattle.std.proofs.{Common.{◌≡◌, ℕ, refl, true, List, false, sym, ◌∙◌}, lemmas.Bool.false≢true}
+use Rattle.shm_graph.specs.declared.{spot.Spot.{TheVariants.{Body, Home}, Spot}, table.Part.TheVariants.{Loose, Table}}
+use Rattle.shm_graph.specs.{declared.{table.Part.Part, memo.{Stored.Stored, Memo.Memo}}, Held.{PartTie, is_loose}}
+use Rattle.shm_graph.specs.{Views.{View, targets}, Tables.contents_of, Chains.part_set, Spots.upd}
 use Rattle.shm_words.specs.declared.geometry.Geometry.{Geometry}
-use Rattle.shm_graph.specs.declared.table.Part.TheVariants.{Loose, Table}
-use Rattle.shm_graph.specs.declared.table.Part.{Part}
-use Rattle.shm_graph.specs.Held.{PartTie, is_loose}
-use Rattle.shm_graph.specs.declared.spot.Spot.{Spot}
-use Rattle.shm_graph.specs.declared.memo.Stored.{Stored}
-use Rattle.shm_graph.specs.Views.{View, targets}
-use Rattle.shm_graph.specs.Tables.{contents_of}
-use Rattle.std.proofs.lemmas.Bool.{false≢true}
 use Rattle.shm_steps.specs.Raising.{is_read, IsReparted}
 use Rattle.shm_steps.proofs.MemoCommits.{known_left}
-use Rattle.shm_graph.specs.Chains.{part_set}
-use Rattle.shm_graph.specs.Spots.{upd}
-use Rattle.shm_graph.specs.declared.memo.Memo.{Memo}
 
 pub loose_stays : (known : List Stored) (c home : ℕ) (p : Spot) (x : ℕ) (part : Part) → is_loose (part_set known c home p x part) ≡ is_loose part
 loose_stays known c home p x Loose = refl

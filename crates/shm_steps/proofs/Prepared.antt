@@ -1,36 +1,23 @@
 -- the stores of the words of a free block that is prepared, as machines use them
 use Rattle.std.proofs.Common.{◌≡◌, ◌≢◌, ℕ, ◌+◌, ◌-◌, ◌/◌, ◌%◌, ◌<◌, refl, sym, ap, ◌∙◌, subst, arith, false, ◌&&◌, List, Option, Some, None, inl, inr}
-use Rattle.std.proofs.lemmas.Bool.{cond-false}
-use Rattle.std.proofs.lemmas.List.Elements.{All-contains}
+use Rattle.std.proofs.lemmas.{Bool.cond-false, List.Elements.All-contains}
 use Rattle.shm_words.specs.declared.geometry.Geometry.{Geometry}
 use Rattle.shm_words.specs.Layout as layout
 use Rattle.shm_words.proofs.Words.{live_not_zero}
-use Rattle.shm_graph.specs.declared.ask.Ask.TheVariants.{Store}
-use Rattle.shm_graph.specs.declared.ask.Me.{Me}
-use Rattle.shm_graph.specs.declared.memo.Making.{Making}
-use Rattle.shm_graph.specs.declared.memo.Fact.{Fact}
-use Rattle.shm_graph.specs.declared.memo.Memo.{Memo}
-use Rattle.shm_graph.specs.declared.memo.Op.TheVariants as op
-use Rattle.shm_graph.specs.declared.memo.Step.{Step}
-use Rattle.shm_graph.specs.declared.spot.Spot.{Spot}
+use Rattle.shm_graph.specs.declared.{ask.{Ask.TheVariants.Store, Me.Me}, memo.{Making.Making, Fact.Fact, Memo.Memo}}
+use Rattle.shm_graph.specs.declared.{memo.Step.Step, spot.Spot.Spot}
 use Rattle.shm_graph.specs.declared.spot.Spot.TheVariants.{Era, Tail, QueueHead, Segment, Head, Tag, Body}
-use Rattle.shm_graph.specs.Spots.{spot_at, same_spot, upd, class_at, segment_of}
-use Rattle.shm_graph.specs.Blocks.{classes, IsBlock}
-use Rattle.shm_graph.specs.Views.{View, view, at1, ons}
-use Rattle.shm_graph.specs.Held.{HeldAt, MakingTie, MakingSound, ZeroAt}
-use Rattle.shm_graph.specs.Ops.{is_op, slot_of}
-use Rattle.shm_graph.specs.Asks.{Trail}
-use Rattle.shm_graph.specs.Reach.{is_dying}
+use Rattle.shm_graph.specs.{Spots.{spot_at, same_spot, upd, class_at, segment_of}, Blocks.{classes, IsBlock}}
+use Rattle.shm_graph.specs.{Views.{View, view, at1, ons}, Held.{HeldAt, MakingTie, MakingSound, ZeroAt}}
+use Rattle.shm_graph.specs.{Ops.{is_op, slot_of}, Asks.Trail, Reach.is_dying}
 use Rattle.shm_graph.specs.MemoAfterStore.{stored_on, making_with, class_told}
-use Rattle.shm_graph.specs.Telling.{spot_told, prepared, word_of_block}
-use Rattle.shm_graph.specs.Changes.{called}
-use Rattle.shm_graph.specs.Controllers.{IsController, IsEraRaised}
-use Rattle.shm_graph.specs.Events.{Event, Nothing, graph_of, Happens}
+use Rattle.shm_graph.specs.{Telling.{spot_told, prepared, word_of_block}, Changes.called}
+use Rattle.shm_graph.specs.{Controllers.{IsController, IsEraRaised}, Events.{Event, Nothing, graph_of, Happens}}
 use Rattle.shm_graph.specs.Laws.{Frame, framed, Stands, KeptAt, event_on}
+use Rattle.shm_graph.specs.declared.memo.Op.TheVariants as op
 use Rattle.shm_graph.proofs.Spots.Spotting.{tag_block, body_block, tag_spot, block_within, in_pool, spot_there}
-use Rattle.shm_graph.proofs.Memos.BodyTold.{told_in_body}
+use Rattle.shm_graph.proofs.Memos.{BodyTold.told_in_body, MemoParts.{parts, put_parts, put_same}}
 use Rattle.shm_graph.proofs.StepKinds.KindKeeping.{in_frame, kept_from}
-use Rattle.shm_graph.proofs.Memos.MemoParts.{parts, put_parts, put_same}
 use Rattle.shm_laws.specs.Preparing.{IsMaking, PrepareNeeds, prepare_view, words_with}
 use Rattle.shm_laws.proofs.PrepareStore.{prepare_kept, prepare_quiet}
 use Rattle.shm_steps.specs.Preparing.{MayTag, MayBody}

@@ -1,44 +1,24 @@
 -- the exchange of a header that raises a block, as machines use it
 use Rattle.std.proofs.Common.{◌≡◌, ◌≢◌, ℕ, ◌<◌, refl, sym, ap, ◌∙◌, true, false, subst, inl, inr, None, List, Option, [], eq-eqb, ◌%◌, ◌+◌, ◌∷◌, ◌≤◌, ◌⊎◌}
-use Rattle.std.specs.List.{All, filter}
-use Rattle.std.proofs.lemmas.List.Elements.{All-cons, All-contains, All-nil}
+use Rattle.std.proofs.lemmas.{List.Elements.{All-cons, All-contains, All-nil}, Bool.true≢false}
+use Rattle.std.specs.{List.{All, filter}, Prelude.slice_index}
 use Rattle.shm_graph.specs.Held.{Allowed, HeldAt, InLooks, LookAt, LooksSound, is_loose, is_slot, is_slot_to, named_by}
-use Rattle.shm_graph.specs.declared.memo.First.TheVariants.{Begun, Committed}
+use Rattle.shm_graph.specs.declared.memo.{First.TheVariants.{Begun, Committed}, Look.Look, Memo.Memo, Op.TheVariants.Up}
 use Rattle.shm_graph.specs.declared.spot.Spot.TheVariants.{Body, Era, QueueHead, Head, Home, Root, Slot, Tag, Tail}
-use Rattle.shm_graph.specs.declared.ask.Ask.TheVariants.{Exchange}
-use Rattle.shm_graph.specs.Laws.{Frame, KeptAt, Stands, event_of, framed}
-use Rattle.shm_words.specs.declared.geometry.Geometry.{Geometry}
-use Rattle.shm_graph.specs.Events.{Happens, graph_of}
-use Rattle.shm_graph.specs.Tables.{HasShape, contents_of}
-use Rattle.shm_graph.proofs.States.Holders.{Holds, InReach, reach_target, target_counted}
+use Rattle.shm_graph.specs.declared.{spot.Spot.Spot, ask.{Ask.TheVariants.Exchange, Me.Me}, table.Part.Part}
+use Rattle.shm_graph.specs.{Laws.{Frame, KeptAt, Stands, event_of, framed}, Events.{Happens, graph_of}}
+use Rattle.shm_graph.specs.{Tables.{HasShape, contents_of}, Ops.{On, cover, is_op, slot_of}, Asks.Trail}
+use Rattle.shm_graph.specs.{Views.{View, at1, own_word, targets, view}, Changes.called, Blocks.classes}
+use Rattle.shm_graph.specs.{MemoAfterExchange.{exchanged_on, reparted, committed}, MemoAfterStore.not_block}
+use Rattle.shm_graph.specs.{Chains.part_set, Spots.{spot_at, upd}}
+use Rattle.shm_graph.proofs.States.{Holders.{Holds, InReach, reach_target, target_counted}, Reached.reached_here}
+use Rattle.shm_graph.proofs.Memos.{KnownChange.ValueHolds, MemoParts.{parts, put_parts, put_same}}
+use Rattle.shm_graph.proofs.{Memos.BodyTold.told_exchange, StepKinds.KindKeeping.{in_frame, kept_exchange}}
+use Rattle.shm_words.specs.{declared.geometry.Geometry.Geometry, Headers.header_of, Tags.tag_author}
 use Rattle.shm_steps.specs.Raising.{IsReparted, MayRaise, OwnRowShows}
 use Rattle.shm_steps.proofs.MemoCommits.{IsSender, unsent_list, unsent_raised, with_unsent_is}
-use Rattle.shm_graph.specs.declared.memo.Look.{Look}
-use Rattle.shm_graph.specs.declared.ask.Me.{Me}
-use Rattle.shm_graph.specs.declared.memo.Memo.{Memo}
-use Rattle.shm_graph.specs.Ops.{On, cover, is_op, slot_of}
-use Rattle.shm_graph.specs.declared.table.Part.{Part}
-use Rattle.shm_laws.specs.HeaderExchanges.{RowShows, UpNeeds, up_view}
-use Rattle.shm_graph.specs.declared.spot.Spot.{Spot}
-use Rattle.shm_graph.specs.Asks.{Trail}
-use Rattle.shm_graph.specs.declared.memo.Op.TheVariants.{Up}
-use Rattle.shm_graph.proofs.Memos.KnownChange.{ValueHolds}
-use Rattle.shm_graph.specs.Views.{View, at1, own_word, targets, view}
-use Rattle.shm_graph.specs.Changes.{called}
-use Rattle.shm_graph.specs.Blocks.{classes}
-use Rattle.shm_graph.specs.MemoAfterExchange.{exchanged_on, reparted, committed}
-use Rattle.shm_words.specs.Headers.{header_of}
-use Rattle.shm_graph.proofs.StepKinds.KindKeeping.{in_frame, kept_exchange}
 use Rattle.shm_steps.proofs.PartsSet.{loose_stays, part_tie}
-use Rattle.shm_graph.specs.MemoAfterStore.{not_block}
-use Rattle.shm_graph.specs.Chains.{part_set}
-use Rattle.shm_graph.proofs.Memos.MemoParts.{parts, put_parts, put_same}
-use Rattle.shm_graph.proofs.States.Reached.{reached_here}
-use Rattle.std.specs.Prelude.{slice_index}
-use Rattle.shm_graph.specs.Spots.{spot_at, upd}
-use Rattle.shm_words.specs.Tags.{tag_author}
-use Rattle.shm_graph.proofs.Memos.BodyTold.{told_exchange}
-use Rattle.std.proofs.lemmas.Bool.{true≢false}
+use Rattle.shm_laws.specs.HeaderExchanges.{RowShows, UpNeeds, up_view}
 use Rattle.shm_laws.proofs.UpBlock.{up_event, up_kept}
 
 -- ---- what is in reach is named

@@ -1,16 +1,11 @@
 -- blocks that a memo has in reach: by its home, by a root, by a look
 use Rattle.std.proofs.Common.{◌≡◌, ◌≢◌, ℕ, zero, suc, ◌<◌, sym, ap, ◌∙◌, arith, true, not, eqb, inl, inr, [], ◌∷◌, ◌++◌, map}
-use Rattle.std.specs.Cmp.{nat_eq_equiv}
-use Rattle.std.specs.List.{Contains, list_any}
 use Rattle.std.proofs.lemmas.Bool.{cases_eq, ne_eqb, eqb-true}
 use Rattle.std.proofs.lemmas.List.Elements.{Contains-append_left, Contains-append_right}
 use Rattle.std.proofs.lemmas.Map.Views.{list_any-from_Contains, Contains-from_any}
-use Rattle.shm_graph.specs.declared.spot.Spot.TheVariants.{Home, Root}
-use Rattle.shm_graph.specs.declared.memo.Look.{Look}
-use Rattle.shm_graph.specs.declared.memo.Memo.{Memo}
-use Rattle.shm_graph.specs.declared.memo.Op.{Op}
-use Rattle.shm_graph.specs.declared.memo.Op.TheVariants.{Nothing}
-use Rattle.shm_graph.specs.Ops.{cover, cover_of}
+use Rattle.std.specs.{Cmp.nat_eq_equiv, List.{Contains, list_any}}
+use Rattle.shm_graph.specs.declared.{spot.Spot.TheVariants.{Home, Root}, memo.{Look.Look, Memo.Memo, Op.Op}}
+use Rattle.shm_graph.specs.{declared.memo.Op.TheVariants.Nothing, Ops.{cover, cover_of}}
 use Rattle.shm_graph.specs.Reach.{shown, roots_below, in_slots, not_zero, named_blocks, reached_blocks, is_reached}
 use Rattle.shm_graph.specs.Views.{own_word}
 use Rattle.shm_laws.proofs.Keep.{Contains-filter}

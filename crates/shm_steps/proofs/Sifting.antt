@@ -1,24 +1,17 @@
 -- what stays known, and which value blocks stay, once the memo has dropped what binds no more
 use Rattle.std.specs.List.{All, Contains, filter}
-use Rattle.shm_laws.proofs.Keep.{All-kept}
-use Rattle.shm_graph.specs.declared.spot.Spot.TheVariants.{Body, QueueHead, Slot, Tag, Tail}
 use Rattle.std.proofs.lemmas.List.Elements.{Contains-append_left}
-use Rattle.shm_graph.specs.Tables.{Contents, HasShape, contents_of}
-use Rattle.shm_words.specs.declared.geometry.Geometry.{Geometry}
-use Rattle.shm_graph.proofs.States.Holders.{Holds, InReach}
-use Rattle.shm_steps.proofs.Naming.{IsSpared, StaysKnown}
-use Rattle.shm_graph.specs.Held.{KnownAt, ValueAt, HeldAt, reach_of}
-use Rattle.std.proofs.Common.{List, Option, [], ap, eq-eqb, eqb, false, inl, inr, refl, subst, sym, true, ℕ, ◌%◌, ◌&&◌, ◌++◌, ◌+◌, ◌<◌, ◌∙◌, ◌∷◌, ◌≡◌, ◌⊎◌, Bool}
-use Rattle.shm_graph.specs.declared.memo.Memo.{Memo}
-use Rattle.shm_graph.specs.declared.spot.Spot.{Spot}
-use Rattle.shm_graph.specs.Views.{View, targets}
 use Rattle.std.proofs.lemmas.Bool.{and_from, and_parts, cond-false, eqb-true, false_from_ne_true, or_cases, true≢false}
-use Rattle.shm_graph.specs.Reach.{binds, is_dying, is_reached}
-use Rattle.shm_graph.proofs.StepKinds.Loads.{choice}
+use Rattle.std.proofs.Common.{List, Option, [], ap, eq-eqb, eqb, false, inl, inr, refl, subst, sym, true, ℕ, ◌%◌, ◌&&◌, ◌++◌, ◌+◌, ◌<◌, ◌∙◌, ◌∷◌, ◌≡◌, ◌⊎◌, Bool}
+use Rattle.shm_laws.proofs.Keep.{All-kept}
 use Rattle.shm_laws.specs.HeaderExchanges.{dying_after, untaken_after}
-use Rattle.shm_graph.specs.Spots.{same_spot}
-use Rattle.shm_graph.proofs.States.Reached.{Names, reached_sound}
-use Rattle.shm_graph.specs.declared.memo.Stored.{Stored}
+use Rattle.shm_graph.specs.declared.{spot.Spot.{TheVariants.{Body, QueueHead, Slot, Tag, Tail}, Spot}, memo.Memo.Memo}
+use Rattle.shm_graph.specs.{declared.memo.Stored.Stored, Tables.{Contents, HasShape, contents_of}}
+use Rattle.shm_graph.specs.{Held.{KnownAt, ValueAt, HeldAt, reach_of}, Views.{View, targets}}
+use Rattle.shm_graph.specs.{Reach.{binds, is_dying, is_reached}, Spots.same_spot}
+use Rattle.shm_graph.proofs.{States.{Holders.{Holds, InReach}, Reached.{Names, reached_sound}}, StepKinds.Loads.choice}
+use Rattle.shm_words.specs.declared.geometry.Geometry.{Geometry}
+use Rattle.shm_steps.proofs.Naming.{IsSpared, StaysKnown}
 
 -- what c knows of a word after a step, where what the memo then shows in reach is in reach, and what it shows dying is dying
 pub sift_known : (wide : Bool) (c : ℕ) (tag : ℕ → ℕ) (body : ℕ → ℕ → ℕ) (slot : ℕ → ℕ → ℕ → ℕ) (tail queue_head : ℕ → ℕ → ℕ) (untaken untaken' : ℕ → ℕ) (latch : Option ℕ) (reach reach' : ℕ → Type 0) (dying dying' : List ℕ) (n : Memo)

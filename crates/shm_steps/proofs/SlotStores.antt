@@ -1,37 +1,21 @@
 -- the store of a committed step into its slot, as machines use it
 use Rattle.std.proofs.Common.{◌≡◌, ℕ, ◌^◌, ◌<◌, refl, sym, ap, subst, false, ◌∷◌, None, inl, inr, true, ◌&&◌, ◌∙◌}
-use Rattle.shm_graph.specs.declared.ask.Ask.TheVariants.{Store}
-use Rattle.shm_graph.specs.declared.ask.Me.{Me}
-use Rattle.shm_graph.specs.declared.memo.Memo.{Memo}
-use Rattle.shm_graph.specs.declared.spot.Spot.{Spot}
-use Rattle.shm_graph.specs.declared.spot.Spot.TheVariants.{Root, Body, Home, Slot}
-use Rattle.shm_graph.specs.Spots.{spot_at, same_spot}
-use Rattle.shm_graph.specs.Blocks.{classes}
-use Rattle.shm_graph.specs.Views.{View, view, at1}
-use Rattle.shm_graph.specs.Asks.{Trail}
-use Rattle.shm_graph.specs.MemoAfterStore.{op_written, stage_written}
-use Rattle.shm_graph.specs.Laws.{Frame, Stands, KeptAt}
-use Rattle.shm_graph.proofs.StepKinds.Keeping.{told_fixed}
-use Rattle.shm_graph.proofs.StepKinds.KindKeeping.{in_frame, kept_from}
-use Rattle.shm_graph.proofs.Memos.MemoParts.{put_same, parts, put_parts}
-use Rattle.shm_laws.specs.Slotting.{RootNeeds, root_view, BodyNeeds, Writes, WritesFrom, body_view, HomeNeeds, QueueNeeds, home_view, queue_view}
-use Rattle.shm_laws.proofs.RootStore.{root_kept}
-use Rattle.shm_laws.proofs.Writing.{written}
-use Rattle.shm_laws.proofs.Quiet.{root_quiet, body_quiet}
-use Rattle.shm_steps.specs.Conditions.{IsHere, MayWrite}
-use Rattle.shm_graph.specs.declared.memo.Op.TheVariants.{Nothing, Alloc, Change, Down, Up}
-use Rattle.shm_graph.specs.declared.memo.First.{First}
-use Rattle.shm_graph.specs.declared.memo.First.TheVariants.{Begun, Committed, Written}
-use Rattle.shm_graph.specs.Ops.{On, cover_of, cover_from, is_op, slot_of}
-use Rattle.shm_graph.specs.declared.memo.Op.{Op}
-use Rattle.shm_graph.specs.declared.memo.ChangeStage.TheVariants.{Raising, Lowering}
 use Rattle.std.proofs.lemmas.Bool.{and_from, cond-true}
-use Rattle.shm_laws.proofs.BodyStore.{body_kept}
-use Rattle.shm_laws.proofs.HomeStore.{home_kept, home_quiet}
-use Rattle.shm_graph.specs.Reach.{learnt}
-use Rattle.shm_laws.proofs.QueueStore.{queue_kept, queue_quiet}
+use Rattle.shm_graph.specs.declared.{ask.{Ask.TheVariants.Store, Me.Me}, memo.Memo.Memo}
+use Rattle.shm_graph.specs.declared.memo.{Op.{TheVariants.{Nothing, Alloc, Change, Down, Up}, Op}, First.First}
+use Rattle.shm_graph.specs.declared.memo.First.TheVariants.{Begun, Committed, Written}
+use Rattle.shm_graph.specs.declared.{memo.ChangeStage.TheVariants.{Raising, Lowering}, spot.Spot.Spot}
+use Rattle.shm_graph.specs.{declared.spot.Spot.TheVariants.{Root, Body, Home, Slot}, Spots.{spot_at, same_spot}}
+use Rattle.shm_graph.specs.{Blocks.classes, Views.{View, view, at1}, Asks.Trail}
+use Rattle.shm_graph.specs.{MemoAfterStore.{op_written, stage_written}, Laws.{Frame, Stands, KeptAt}}
+use Rattle.shm_graph.specs.{Ops.{On, cover_of, cover_from, is_op, slot_of}, Reach.learnt}
+use Rattle.shm_graph.proofs.StepKinds.{Keeping.told_fixed, KindKeeping.{in_frame, kept_from}}
+use Rattle.shm_graph.proofs.Memos.{MemoParts.{put_same, parts, put_parts}, BodyTold.told_slot}
 use Rattle.shm_graph.proofs.Spots.Spotting.{same_spot_self}
-use Rattle.shm_graph.proofs.Memos.BodyTold.{told_slot}
+use Rattle.shm_laws.specs.Slotting.{RootNeeds, root_view, BodyNeeds, Writes, WritesFrom, body_view, HomeNeeds, QueueNeeds, home_view, queue_view}
+use Rattle.shm_laws.proofs.{RootStore.root_kept, Writing.written, Quiet.{root_quiet, body_quiet}, BodyStore.body_kept}
+use Rattle.shm_laws.proofs.{HomeStore.{home_kept, home_quiet}, QueueStore.{queue_kept, queue_quiet}}
+use Rattle.shm_steps.specs.Conditions.{IsHere, MayWrite}
 
 pub root_stored : (me : Me) (w : Spot → ℕ) (r : ℕ → Memo) (f : Frame) (tr : Trail) (at k x : ℕ) → Stands me w r f tr → f.fresh ≡ false → spot_at me.geometry (classes w) at ≡ Root me.who k → MayWrite (r me.who) (Root me.who k) x
     → KeptAt me w r (Store at x) f (λ n m. Unit {0}) (spot_at me.geometry (classes w) at)

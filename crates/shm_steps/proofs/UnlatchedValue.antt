@@ -1,24 +1,17 @@
 -- a value block whose number is known, and that an own root names, stays one when a latch is given back
 use Rattle.std.proofs.Common.{◌≡◌, ◌≢◌, ℕ, ◌<◌, refl, sym, ap, ◌∙◌, arith, true, Option, Some, None, []}
-use Rattle.std.specs.Cmp.{nat_eq_equiv}
-use Rattle.std.proofs.lemmas.Bool.{and_from, or_left, or_right, le-leb}
-use Rattle.std.proofs.lemmas.List.Elements.{All-contains}
+use Rattle.std.proofs.lemmas.{Bool.{and_from, or_left, or_right, le-leb}, List.Elements.All-contains}
 use Rattle.std.proofs.lemmas.Map.Views.{list_any-from_Contains}
-use Rattle.shm_words.specs.declared.geometry.Geometry.{Geometry}
-use Rattle.shm_words.specs.Tags.{tag_refs}
-use Rattle.shm_graph.specs.declared.spot.Spot.{Spot}
-use Rattle.shm_graph.specs.declared.spot.Spot.TheVariants.{Root, Tag, Body}
-use Rattle.shm_graph.specs.declared.memo.Memo.{Memo}
-use Rattle.shm_graph.specs.declared.memo.Op.TheVariants.{Nothing}
-use Rattle.shm_graph.specs.declared.memo.Stored.{Stored}
-use Rattle.shm_graph.specs.Held.{HeldAt}
+use Rattle.std.specs.Cmp.{nat_eq_equiv}
+use Rattle.shm_words.specs.{declared.geometry.Geometry.Geometry, Tags.tag_refs}
+use Rattle.shm_graph.specs.declared.{spot.Spot.{Spot, TheVariants.{Root, Tag, Body}}, memo.Memo.Memo}
+use Rattle.shm_graph.specs.{declared.memo.{Op.TheVariants.Nothing, Stored.Stored}, Held.HeldAt}
 use Rattle.shm_graph.specs.Reach.{known_at, is_reached, is_dying, is_latch_of, is_free_of_latch, binds_unlatched, unlatched}
 use Rattle.shm_graph.specs.Views.{view, own_word}
 use Rattle.shm_graph.proofs.Memos.KnownChange.{KnownHolds, ValueHolds}
 use Rattle.shm_laws.proofs.Keep.{Contains-filter}
 use Rattle.shm_steps.specs.Reparting.{sight, IsValue}
-use Rattle.shm_steps.proofs.LatchBack.{known_at_has}
-use Rattle.shm_steps.proofs.Reaching.{root_reached}
+use Rattle.shm_steps.proofs.{LatchBack.known_at_has, Reaching.root_reached}
 
 pub value_unlatched : (g : Geometry) (w : Spot → ℕ) (r : ℕ → Memo) (c v n k : ℕ) → HeldAt g w (view r) → c < g.clients → (r c).op ≡ Nothing → k < 16 → own_word (r c).own (Root c k) ≡ v → v ≢ 0 → IsValue (sight c (r c)) v n → IsValue (sight c (unlatched g.wide c (r c))) v n
 value_unlatched g w r c v n k h l idle low root some a =

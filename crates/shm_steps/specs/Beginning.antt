@@ -2,12 +2,8 @@
 use Rattle.std.specs.Prelude.{Bool, ◌≡◌, ◌≢◌, ℕ, ◌+◌, ◌%◌, ◌^◌, ◌<◌, ◌≤◌, true, ◌⊎◌, Option, Some, slice_index}
 use Rattle.std.specs.List.{Contains}
 use Rattle.shm_graph.specs.declared.spot.Spot.TheVariants.{Home, Era, Root, Tail, QueueHead, Slot, Body}
-use Rattle.shm_graph.specs.declared.memo.Fact.TheVariants.{Counter}
-use Rattle.shm_graph.specs.declared.memo.Op.TheVariants.{Nothing}
-use Rattle.shm_graph.specs.declared.memo.Memo.{Memo}
-use Rattle.shm_graph.specs.Views.{own_word}
-use Rattle.shm_graph.specs.Reach.{is_reached}
-use Rattle.shm_graph.specs.Telling.{Claim, claims}
+use Rattle.shm_graph.specs.{declared.memo.{Fact.TheVariants.Counter, Op.TheVariants.Nothing, Memo.Memo}, Views.own_word}
+use Rattle.shm_graph.specs.{Reach.is_reached, Telling.{Claim, claims}}
 use Rattle.shm_steps.specs.Conditions.{IsHere}
 
 -- no step is in progress, and the own era leaves room for one that takes it up by less than n

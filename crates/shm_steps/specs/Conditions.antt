@@ -1,10 +1,7 @@
 -- what each kind of step needs of the memo of its identity
 use Rattle.std.specs.Prelude.{◌≡◌, ◌≢◌, ℕ, ◌^◌, ◌<◌}
-use Rattle.shm_graph.specs.declared.spot.Spot.{Spot}
+use Rattle.shm_graph.specs.{declared.{spot.Spot.Spot, memo.Memo.Memo}, Ops.slot_of, MemoAfterStore.op_written}
 use Rattle.shm_graph.specs.declared.memo.Status.TheVariants as status
-use Rattle.shm_graph.specs.declared.memo.Memo.{Memo}
-use Rattle.shm_graph.specs.Ops.{slot_of}
-use Rattle.shm_graph.specs.MemoAfterStore.{op_written}
 use Rattle.shm_laws.specs.Slotting.{Writes}
 
 -- somebody has joined, and the identity isn't gone

@@ -1,12 +1,7 @@
 -- what a load of a word of a page's body needs of the memo of its identity
-use Rattle.std.specs.Prelude.{Bool, ◌≡◌, ℕ, ◌+◌, true, Option, Some, None}
-use Rattle.std.specs.List.{Contains}
-use Rattle.shm_graph.specs.declared.spot.Spot.{Spot}
-use Rattle.shm_graph.specs.declared.spot.Spot.TheVariants.{Body}
-use Rattle.shm_graph.specs.declared.memo.Memo.{Memo}
-use Rattle.shm_graph.specs.Ops.{cover, cover_of}
-use Rattle.shm_graph.specs.Telling.{Claim, claims, covers, claim_of}
-use Rattle.shm_graph.specs.MemoAfterRead.{is_latched}
+use Rattle.std.specs.{Prelude.{Bool, ◌≡◌, ℕ, ◌+◌, true, Option, Some, None}, List.Contains}
+use Rattle.shm_graph.specs.{declared.{spot.Spot.{Spot, TheVariants.Body}, memo.Memo.Memo}, Ops.{cover, cover_of}}
+use Rattle.shm_graph.specs.{Telling.{Claim, claims, covers, claim_of}, MemoAfterRead.is_latched}
 
 -- something is told of the block
 abbrev pub IsTold : Bool → ℕ → Memo → ℕ → Type 0

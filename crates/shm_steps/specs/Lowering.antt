@@ -1,16 +1,10 @@
 -- what the exchanges of headers that lower a block, and those of the halves of a change, need of the memo of their identity
 use Rattle.std.specs.Prelude.{◌≡◌, ℕ, ◌+◌, ◌^◌, ◌<◌, true}
 use Rattle.shm_words.specs.Headers.{header_of}
-use Rattle.shm_graph.specs.declared.spot.Spot.{Spot}
-use Rattle.shm_graph.specs.declared.memo.First.TheVariants.{Begun}
-use Rattle.shm_graph.specs.declared.memo.Second.TheVariants.{Open}
-use Rattle.shm_graph.specs.declared.memo.ChangeStage.TheVariants.{Raising, Lowering}
-use Rattle.shm_graph.specs.declared.memo.Op.{Op}
-use Rattle.shm_graph.specs.declared.memo.Op.TheVariants.{Down, Change}
-use Rattle.shm_graph.specs.declared.memo.Memo.{Memo}
-use Rattle.shm_graph.specs.Reach.{is_reached}
-use Rattle.shm_steps.specs.Conditions.{IsHere}
-use Rattle.shm_steps.specs.Raising.{OwnRowShows}
+use Rattle.shm_graph.specs.declared.{spot.Spot.Spot, memo.{First.TheVariants.Begun, Second.TheVariants.Open}}
+use Rattle.shm_graph.specs.declared.memo.{ChangeStage.TheVariants.{Raising, Lowering}, Op.Op}
+use Rattle.shm_graph.specs.{declared.memo.{Op.TheVariants.{Down, Change}, Memo.Memo}, Reach.is_reached}
+use Rattle.shm_steps.specs.{Conditions.IsHere, Raising.OwnRowShows}
 
 -- the step in progress is o, and the header becomes `to`, which shows c at era e and a count that is one less
 pub record Lowers (c : ℕ) (m : Memo) (o : Op) (e n from to : ℕ) : Type 0 where

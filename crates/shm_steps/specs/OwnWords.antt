@@ -1,22 +1,11 @@
 -- what the store of an own word needs of the memo of its identity
-use Rattle.std.specs.Prelude.{◌≡◌, ◌≢◌, ℕ, ◌+◌, ◌^◌, ◌<◌, ◌≤◌, true, ◌⊎◌, None, slice_index}
-use Rattle.std.specs.List.{Contains}
-use Rattle.shm_words.specs.declared.geometry.Geometry.{Geometry}
-use Rattle.shm_words.specs.Headers.{header_of}
+use Rattle.std.specs.{Prelude.{◌≡◌, ◌≢◌, ℕ, ◌+◌, ◌^◌, ◌<◌, ◌≤◌, true, ◌⊎◌, None, slice_index}, List.Contains}
+use Rattle.shm_words.specs.{declared.{geometry.Geometry.Geometry, redo.Redo.Redo as ARedo}, Headers.header_of}
 use Rattle.shm_words.specs.Redos.{redo_of, redo_first, redo_second, RedoFits}
-use Rattle.shm_words.specs.declared.redo.Redo.{Redo as ARedo}
-use Rattle.shm_graph.specs.declared.spot.Spot.TheVariants.{RedoMore, Era, Root}
-use Rattle.shm_graph.specs.declared.memo.Fact.TheVariants.{Header as HeaderRead}
-use Rattle.shm_graph.specs.declared.memo.Op.{Op}
-use Rattle.shm_graph.specs.declared.memo.Op.TheVariants.{Nothing}
-use Rattle.shm_graph.specs.declared.memo.Memo.{Memo}
-use Rattle.shm_graph.specs.Views.{own_word, view}
-use Rattle.shm_graph.specs.declared.spot.Spot.{Spot}
-use Rattle.shm_graph.specs.Blocks.{classes}
-use Rattle.shm_graph.specs.Held.{Names}
-use Rattle.shm_graph.specs.Reach.{is_reached}
-use Rattle.shm_graph.specs.MemoAfterStore.{op_closed, is_block_made, op_spelled}
-use Rattle.shm_graph.specs.Telling.{word_told}
+use Rattle.shm_graph.specs.declared.spot.Spot.{TheVariants.{RedoMore, Era, Root}, Spot}
+use Rattle.shm_graph.specs.declared.memo.{Fact.TheVariants.Header as HeaderRead, Op.{Op, TheVariants.Nothing}}
+use Rattle.shm_graph.specs.{declared.memo.Memo.Memo, Views.{own_word, view}, Blocks.classes, Held.Names}
+use Rattle.shm_graph.specs.{Reach.is_reached, MemoAfterStore.{op_closed, is_block_made, op_spelled}, Telling.word_told}
 use Rattle.shm_laws.specs.OwnWords.{Closes, BeginNeeds}
 use Rattle.shm_steps.specs.Conditions.{IsHere}
 

@@ -1,18 +1,12 @@
 -- what the steps that prepare and give up segments, pages and blocks, and that take a latch, need of the memo of their identity
-use Rattle.std.specs.Prelude.{Bool, ◌≡◌, ◌≢◌, ℕ, ◌+◌, ◌^◌, ◌<◌, ◌≤◌, true, ◌⊎◌, Some, None}
-use Rattle.std.specs.List.{Contains}
-use Rattle.shm_words.specs.declared.geometry.Geometry.{Geometry}
-use Rattle.shm_words.specs.Headers.{header_of}
-use Rattle.shm_words.specs.Tags.{tag_refs, tag_plain, tag_author, tag_link, tag_limit, tag_shape, tag_limit, tag_shape}
+use Rattle.std.specs.{Prelude.{Bool, ◌≡◌, ◌≢◌, ℕ, ◌+◌, ◌^◌, ◌<◌, ◌≤◌, true, ◌⊎◌, Some, None}, List.Contains}
+use Rattle.shm_words.specs.{declared.geometry.Geometry.Geometry, Headers.header_of}
+use Rattle.shm_words.specs.Tags.{tag_refs, tag_plain, tag_author, tag_link, tag_limit, tag_shape}
 use Rattle.shm_words.specs.Classes.{IsClass, class_for}
 use Rattle.shm_graph.specs.declared.spot.Spot.TheVariants.{Hold, Root, Page, Head, Tag, Body}
+use Rattle.shm_graph.specs.declared.memo.{First.TheVariants.Begun, Op.TheVariants.{Nothing, Alloc}, Making.Making}
+use Rattle.shm_graph.specs.{declared.memo.Memo.Memo, Views.own_word, MemoAfterStore.class_told}
 use Rattle.shm_graph.specs.declared.memo.Status.TheVariants as status
-use Rattle.shm_graph.specs.declared.memo.First.TheVariants.{Begun}
-use Rattle.shm_graph.specs.declared.memo.Op.TheVariants.{Nothing, Alloc}
-use Rattle.shm_graph.specs.declared.memo.Making.{Making}
-use Rattle.shm_graph.specs.declared.memo.Memo.{Memo}
-use Rattle.shm_graph.specs.Views.{own_word}
-use Rattle.shm_graph.specs.MemoAfterStore.{class_told}
 use Rattle.shm_steps.specs.Conditions.{IsHere}
 
 -- ---- segments and pages

@@ -1,24 +1,10 @@
 -- what the exchange of a header that raises a block needs of the memo of its identity
-use Rattle.std.specs.Prelude.{◌≡◌, ◌≢◌, ℕ, ◌+◌, ◌^◌, ◌<◌, ◌≤◌, Bool, true, false}
-use Rattle.std.specs.List.{Contains}
-use Rattle.shm_words.specs.declared.geometry.Geometry.{Geometry}
-use Rattle.shm_words.specs.declared.header.Header.{Header}
-use Rattle.shm_words.specs.Headers.{header_of}
-use Rattle.shm_graph.specs.declared.spot.Spot.{Spot}
-use Rattle.shm_graph.specs.declared.spot.Spot.TheVariants.{Home, Era, Body}
-use Rattle.shm_graph.specs.declared.memo.First.TheVariants.{Begun}
-use Rattle.shm_graph.specs.declared.memo.Op.TheVariants.{Up}
-use Rattle.shm_graph.specs.declared.memo.Memo.{Memo}
-use Rattle.shm_graph.specs.declared.table.Part.{Part}
-use Rattle.shm_graph.specs.declared.table.Part.TheVariants.{Table}
-use Rattle.shm_graph.specs.Spots.{upd}
-use Rattle.shm_graph.specs.Ops.{cover}
-use Rattle.shm_graph.specs.Ops.Cover.{On}
-use Rattle.shm_graph.specs.Tables.{contents_of}
-use Rattle.shm_graph.specs.Views.{View, own_word, targets}
-use Rattle.shm_graph.specs.Held.{PartTie, is_loose, is_slot}
-use Rattle.shm_graph.specs.Reach.{is_reached}
-use Rattle.shm_graph.specs.Chains.{part_set}
+use Rattle.std.specs.{Prelude.{◌≡◌, ◌≢◌, ℕ, ◌+◌, ◌^◌, ◌<◌, ◌≤◌, Bool, true, false}, List.Contains}
+use Rattle.shm_words.specs.{declared.{geometry.Geometry.Geometry, header.Header.Header}, Headers.header_of}
+use Rattle.shm_graph.specs.declared.{spot.Spot.{Spot, TheVariants.{Home, Era, Body}}, memo.First.TheVariants.Begun}
+use Rattle.shm_graph.specs.declared.{memo.{Op.TheVariants.Up, Memo.Memo}, table.Part.{Part, TheVariants.Table}}
+use Rattle.shm_graph.specs.{Spots.upd, Ops.{cover, Cover.On}, Tables.contents_of, Views.{View, own_word, targets}}
+use Rattle.shm_graph.specs.{Held.{PartTie, is_loose, is_slot}, Reach.is_reached, Chains.part_set}
 use Rattle.shm_steps.specs.Conditions.{IsHere}
 
 -- the row of c shows the era of this header, unless the header is c's own

@@ -1,7 +1,6 @@
 -- what the store that gives a latch back needs of the memo of its identity
 use Rattle.std.specs.Prelude.{◌≡◌, ℕ, Some}
-use Rattle.shm_graph.specs.declared.memo.Op.TheVariants.{Nothing}
-use Rattle.shm_graph.specs.declared.memo.Memo.{Memo}
+use Rattle.shm_graph.specs.declared.memo.{Op.TheVariants.Nothing, Memo.Memo}
 use Rattle.shm_steps.specs.Conditions.{IsHere}
 
 -- no step is in progress, and the latch is held

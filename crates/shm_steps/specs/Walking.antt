@@ -1,16 +1,9 @@
 -- where a walk along a chain of the own partition is, and what stays so until an entry is linked
 use Rattle.std.specs.Prelude.{◌≡◌, ◌≢◌, ℕ, ◌%◌, ◌<◌, Bool, true, false, eqb, ◌⊎◌, List, [], ◌∷◌, ◌++◌, map, Some, None}
 use Rattle.std.specs.List.{list_any}
-use Rattle.shm_graph.specs.declared.spot.Spot.{Spot}
-use Rattle.shm_graph.specs.declared.spot.Spot.TheVariants.{Home, Root, Body}
-use Rattle.shm_graph.specs.declared.memo.Look.{Look}
-use Rattle.shm_graph.specs.declared.memo.Memo.{Memo}
-use Rattle.shm_graph.specs.declared.table.Entry.{Entry}
-use Rattle.shm_graph.specs.Held.{is_loose}
-use Rattle.shm_graph.specs.Reach.{learnt}
-use Rattle.shm_graph.specs.Tables.{find}
-use Rattle.shm_graph.specs.Telling.{Role, Directory, Entry as AnEntry, role_in, roles}
-use Rattle.shm_graph.specs.Views.{own_word}
+use Rattle.shm_graph.specs.declared.{spot.Spot.{Spot, TheVariants.{Home, Root, Body}}, memo.{Look.Look, Memo.Memo}}
+use Rattle.shm_graph.specs.{declared.table.Entry.Entry, Held.is_loose, Reach.learnt, Tables.find}
+use Rattle.shm_graph.specs.{Telling.{Role, Directory, Entry as AnEntry, role_in, roles}, Views.own_word}
 use Rattle.shm_steps.specs.Reparting.{Sight, sight, chain_in, map_in, link_after, IsKnown, IsNew}
 
 -- these entries begin at a block, or there are none and it is 0

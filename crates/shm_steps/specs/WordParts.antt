@@ -4,23 +4,14 @@ use Rattle.std.specs.List.{Contains, filter}
 use Rattle.shm_words.specs.declared.geometry.Geometry.{Geometry}
 use Rattle.shm_graph.specs.declared.spot.Spot.{Spot}
 use Rattle.shm_graph.specs.declared.spot.Spot.TheVariants.{Hold, Home, Era, Tail, QueueHead, Slot, Page, Head, Body}
-use Rattle.shm_graph.specs.declared.memo.Fact.TheVariants.{Header as HeaderRead, Counter, Class}
-use Rattle.shm_graph.specs.declared.memo.Memo.{Memo}
-use Rattle.shm_graph.specs.declared.memo.Op.{Op}
-use Rattle.shm_graph.specs.declared.memo.Op.TheVariants.{Nothing}
-use Rattle.shm_graph.specs.declared.memo.Status.TheVariants as status
-use Rattle.shm_graph.specs.Agents.{recovers}
-use Rattle.shm_graph.specs.Core.{core}
-use Rattle.shm_graph.specs.Events.{Event, ChangeDown, Nothing as NoEvent}
-use Rattle.shm_graph.specs.MemoAfterExchange.{committed}
-use Rattle.shm_graph.specs.Held.{status_word}
-use Rattle.shm_graph.specs.Laws.{GoneNow}
-use Rattle.shm_graph.specs.Reach.{is_reached, learnt, unlatched}
-use Rattle.shm_graph.specs.MemoAfterRead.{op_refused, reference_read, test_from, test_on, valued}
-use Rattle.shm_graph.specs.Spots.{segment_of}
+use Rattle.shm_graph.specs.declared.memo.{Fact.TheVariants.{Header as HeaderRead, Counter, Class}, Memo.Memo, Op.Op}
+use Rattle.shm_graph.specs.{declared.memo.Op.TheVariants.Nothing, Agents.recovers, Core.core}
+use Rattle.shm_graph.specs.{Events.{Event, ChangeDown, Nothing as NoEvent}, MemoAfterExchange.committed}
+use Rattle.shm_graph.specs.{Held.status_word, Laws.GoneNow, Reach.{is_reached, learnt, unlatched}}
+use Rattle.shm_graph.specs.{MemoAfterRead.{op_refused, reference_read, test_from, test_on, valued}, Spots.segment_of}
 use Rattle.shm_graph.specs.MemoAfterStore.{with_own, written, tail_stored, head_stored, not_segment, era_stored, op_closed, without_looks}
-use Rattle.shm_graph.specs.Telling.{Claim, claims}
-use Rattle.shm_graph.specs.Views.{own_word, owner_is}
+use Rattle.shm_graph.specs.{Telling.{Claim, claims}, Views.{own_word, owner_is}}
+use Rattle.shm_graph.specs.declared.memo.Status.TheVariants as status
 
 -- ---- the form
 

@@ -2,14 +2,10 @@
 
 ghost use Rattle.std.specs.Prelude.{◌≡◌, ℕ, ◌<◌};
 ghost use Rattle.shm_words.specs.declared.geometry.Geometry.{Geometry as AGeometry};
-ghost use Rattle.shm_words.specs.declared.redo.Redo.TheVariants.{Up, Down, Change};
-ghost use Rattle.shm_words.specs.Redos.{redo_first};
-ghost use Rattle.shm_graph.specs.declared.memo.Memo.{Memo as AMemo};
-ghost use Rattle.shm_graph.specs.declared.spot.Spot.{Spot as ASpot};
-ghost use Rattle.shm_graph.specs.declared.spot.Spot.TheVariants.{Era, Home, Root, Slot, Body};
-ghost use Rattle.shm_graph.specs.Spots.{spot_address};
-ghost use Rattle.shm_graph.specs.Views.{own_word, view};
-ghost use Rattle.shm_graph.specs.Held.{HeldAt, odd};
+ghost use Rattle.shm_words.specs.{declared.redo.Redo.TheVariants.{Up, Down, Change}, Redos.redo_first};
+ghost use Rattle.shm_graph.specs.declared.{memo.Memo.Memo as AMemo, spot.Spot.Spot as ASpot};
+ghost use Rattle.shm_graph.specs.{declared.spot.Spot.TheVariants.{Era, Home, Root, Slot, Body}, Spots.spot_address};
+ghost use Rattle.shm_graph.specs.{Views.{own_word, view}, Held.{HeldAt, odd}};
 ghost use Rattle.shm_laws.specs.OwnWords.{BeginNeeds};
 ghost use Rattle.shm_steps.specs.OwnWords.{MayBegin};
 ghost use Rattle.shm_steps.specs.Beginning.{MayReplaceRoot, MaySet, MayPut, MayTake, MayTakeBack, MayFill, MayClear, MayReplace};

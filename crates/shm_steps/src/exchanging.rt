@@ -1,18 +1,10 @@
 //! The laws of the exchanges of headers that succeed, as machines use them.
 
 ghost use Rattle.std.specs.Prelude.{◌≡◌, ℕ, false};
-ghost use Rattle.shm_graph.specs.declared.ask.Ask.TheVariants.{Exchange};
-ghost use Rattle.shm_graph.specs.declared.ask.Me.{Me as AMe};
-ghost use Rattle.shm_graph.specs.declared.memo.Memo.{Memo as AMemo};
-ghost use Rattle.shm_graph.specs.declared.spot.Spot.{Spot as ASpot};
-ghost use Rattle.shm_graph.specs.declared.spot.Spot.TheVariants.{Head};
-ghost use Rattle.shm_graph.specs.Spots.{spot_at};
-ghost use Rattle.shm_graph.specs.Blocks.{classes};
-ghost use Rattle.shm_graph.specs.Views.{view};
-ghost use Rattle.shm_graph.specs.Asks.{Trail};
-ghost use Rattle.shm_graph.specs.Laws.{Frame, Stands, KeptAt};
-ghost use Rattle.shm_steps.specs.Raising.{MayRaise, IsReparted};
-ghost use Rattle.shm_steps.specs.Lowering.{MayLower, MayLowerFormer, MayChange};
+ghost use Rattle.shm_graph.specs.declared.{ask.{Ask.TheVariants.Exchange, Me.Me as AMe}, memo.Memo.Memo as AMemo};
+ghost use Rattle.shm_graph.specs.{declared.spot.Spot.{Spot as ASpot, TheVariants.Head}, Spots.spot_at, Blocks.classes};
+ghost use Rattle.shm_graph.specs.{Views.view, Asks.Trail, Laws.{Frame, Stands, KeptAt}};
+ghost use Rattle.shm_steps.specs.{Raising.{MayRaise, IsReparted}, Lowering.{MayLower, MayLowerFormer, MayChange}};
 
 /// The header of a block is exchanged: the step in progress raises the block, or takes a reference to it out of its slot; a change puts
 /// a reference to it into its slot, or takes the one that it holds over.

@@ -1,21 +1,13 @@
 //! The laws of the stores of own words, as machines use them.
 
 ghost use Rattle.std.specs.Prelude.{◌≡◌, ℕ, ◌+◌, ◌<◌, true, false};
-ghost use Rattle.shm_words.specs.declared.geometry.Geometry.{Geometry as AGeometry};
-ghost use Rattle.shm_words.specs.declared.redo.Redo.{Redo as ARedo};
-ghost use Rattle.shm_words.specs.declared.redo.Redo.TheVariants.{Up, Down};
-ghost use Rattle.shm_words.specs.Redos.{redo_second};
-ghost use Rattle.shm_graph.specs.declared.ask.Ask.TheVariants.{Store};
-ghost use Rattle.shm_graph.specs.declared.ask.Me.{Me as AMe};
-ghost use Rattle.shm_graph.specs.declared.memo.Memo.{Memo as AMemo};
+ghost use Rattle.shm_words.specs.declared.{geometry.Geometry.Geometry as AGeometry, redo.Redo.Redo as ARedo};
+ghost use Rattle.shm_words.specs.{declared.redo.Redo.TheVariants.{Up, Down}, Redos.redo_second};
+ghost use Rattle.shm_graph.specs.declared.{ask.{Ask.TheVariants.Store, Me.Me as AMe}, memo.Memo.Memo as AMemo};
 ghost use Rattle.shm_graph.specs.declared.spot.Spot.{Spot as ASpot};
 ghost use Rattle.shm_graph.specs.declared.spot.Spot.TheVariants.{Redo, RedoMore, Hold, Era, Root, Tail, QueueHead};
-ghost use Rattle.shm_graph.specs.Spots.{spot_at, spot_address};
-ghost use Rattle.shm_graph.specs.Blocks.{classes};
-ghost use Rattle.shm_graph.specs.Views.{own_word, view};
-ghost use Rattle.shm_graph.specs.Held.{HeldAt, Names};
-ghost use Rattle.shm_graph.specs.Asks.{Trail};
-ghost use Rattle.shm_graph.specs.Laws.{Frame, Stands, KeptAt};
+ghost use Rattle.shm_graph.specs.{Spots.{spot_at, spot_address}, Blocks.classes, Views.{own_word, view}};
+ghost use Rattle.shm_graph.specs.{Held.{HeldAt, Names}, Asks.Trail, Laws.{Frame, Stands, KeptAt}};
 ghost use Rattle.shm_laws.specs.OwnWords.{BeginNeeds};
 ghost use Rattle.shm_steps.specs.OwnWords.{MayShow, MayHold, MaySend, MayReceive, MayClose, MayAdd, MayRemove, op_begun, MayReady, MayBegin};
 

@@ -3,17 +3,11 @@
 ghost use Rattle.std.specs.Prelude.{◌≡◌, ℕ, ◌+◌, ◌<◌, Bool, false, Some};
 ghost use Rattle.shm_words.specs.declared.place.Place.TheVariants.{Latch, Root, Slot, Tail as TailPlace};
 ghost use Rattle.shm_words.specs.Layout.{address, total_of};
-ghost use Rattle.shm_graph.specs.declared.ask.Ask.TheVariants.{Load, Store, Exchange};
-ghost use Rattle.shm_graph.specs.declared.ask.Me.{Me as AMe};
+ghost use Rattle.shm_graph.specs.declared.ask.{Ask.TheVariants.{Load, Store, Exchange}, Me.Me as AMe};
 ghost use Rattle.shm_graph.specs.declared.memo.Memo.{Memo as AMemo};
-ghost use Rattle.shm_graph.specs.declared.spot.Spot.TheVariants.{Root as RootSpot, Tail};
-ghost use Rattle.shm_graph.specs.Views.{own_word};
+ghost use Rattle.shm_graph.specs.{declared.spot.Spot.TheVariants.{Root as RootSpot, Tail, Body}, Views.own_word};
 ghost use Rattle.shm_calls.specs.Words.{IsWord};
-ghost use Rattle.shm_steps.specs.OwnWords.{MaySend};
-ghost use Rattle.shm_steps.specs.Preparing.{MayLatch};
-ghost use Rattle.shm_steps.specs.LoadNeeds.{IsSettled};
-ghost use Rattle.shm_steps.specs.Unlatching.{MayUnlatch};
-ghost use Rattle.shm_graph.specs.declared.spot.Spot.TheVariants.{Body};
+ghost use Rattle.shm_steps.specs.{OwnWords.MaySend, Preparing.MayLatch, LoadNeeds.IsSettled, Unlatching.MayUnlatch};
 ghost use Rattle.shm_steps.specs.WordParts.{OwnLoaded, LatchTaken, LatchGiven, IsHeadSlot, HeadSlotLoaded, TailStored, IsLatchedWord, ReferenceLoaded};
 
 /// An own root is loaded; a latch is exchanged, and given back; the head slot of a queue is loaded, and the tail of one is stored; a

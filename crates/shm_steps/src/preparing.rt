@@ -1,16 +1,11 @@
 //! The laws of the kinds of word step that prepare segments, pages and blocks, as machines use them.
 
 ghost use Rattle.std.specs.Prelude.{◌≡◌, ℕ, ◌+◌, false};
-ghost use Rattle.shm_graph.specs.declared.ask.Ask.TheVariants.{Store, Exchange};
-ghost use Rattle.shm_graph.specs.declared.ask.Me.{Me as AMe};
-ghost use Rattle.shm_graph.specs.declared.memo.Making.{Making as AMaking};
-ghost use Rattle.shm_graph.specs.declared.memo.Memo.{Memo as AMemo};
+ghost use Rattle.shm_graph.specs.declared.ask.{Ask.TheVariants.{Store, Exchange}, Me.Me as AMe};
+ghost use Rattle.shm_graph.specs.declared.memo.{Making.Making as AMaking, Memo.Memo as AMemo};
 ghost use Rattle.shm_graph.specs.declared.spot.Spot.{Spot as ASpot};
 ghost use Rattle.shm_graph.specs.declared.spot.Spot.TheVariants.{Latch, Segment, Page, Head, Tag, Body};
-ghost use Rattle.shm_graph.specs.Spots.{spot_at};
-ghost use Rattle.shm_graph.specs.Blocks.{classes};
-ghost use Rattle.shm_graph.specs.Asks.{Trail};
-ghost use Rattle.shm_graph.specs.Laws.{Frame, Stands, KeptAt};
+ghost use Rattle.shm_graph.specs.{Spots.spot_at, Blocks.classes, Asks.Trail, Laws.{Frame, Stands, KeptAt}};
 ghost use Rattle.shm_steps.specs.Conditions.{IsHere};
 ghost use Rattle.shm_steps.specs.Preparing.{MayGive, MayClass, MayLatch, MayTag, MayBody, MayAlloc, MayFree, MayLink};
 

@@ -1,15 +1,10 @@
 //! The laws of loads of words of pages' bodies, and of exchanges of headers that fail, as machines use them.
 
 ghost use Rattle.std.specs.Prelude.{◌≡◌, ◌≢◌, ℕ};
-ghost use Rattle.shm_graph.specs.declared.ask.Ask.TheVariants.{Load, Exchange};
-ghost use Rattle.shm_graph.specs.declared.ask.Me.{Me as AMe};
-ghost use Rattle.shm_graph.specs.declared.memo.Memo.{Memo as AMemo};
-ghost use Rattle.shm_graph.specs.declared.spot.Spot.{Spot as ASpot};
-ghost use Rattle.shm_graph.specs.declared.spot.Spot.TheVariants.{Head, Tag, Body};
-ghost use Rattle.shm_graph.specs.Spots.{spot_at};
-ghost use Rattle.shm_graph.specs.Blocks.{classes};
-ghost use Rattle.shm_graph.specs.Asks.{Trail};
-ghost use Rattle.shm_graph.specs.Laws.{Frame, Stands, KeptAt};
+ghost use Rattle.shm_graph.specs.declared.ask.{Ask.TheVariants.{Load, Exchange}, Me.Me as AMe};
+ghost use Rattle.shm_graph.specs.declared.{memo.Memo.Memo as AMemo, spot.Spot.Spot as ASpot};
+ghost use Rattle.shm_graph.specs.{declared.spot.Spot.TheVariants.{Head, Tag, Body}, Spots.spot_at, Blocks.classes};
+ghost use Rattle.shm_graph.specs.{Asks.Trail, Laws.{Frame, Stands, KeptAt}};
 ghost use Rattle.shm_steps.specs.LoadNeeds.{IsTold, IsCovered, MayLook};
 
 /// A header is loaded; the tag of a block of which the memo tells something, and a word of a block that it tells; an exchange of a

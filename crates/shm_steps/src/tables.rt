@@ -2,13 +2,9 @@
 
 ghost use Rattle.std.specs.Prelude.{◌≡◌, ◌≢◌, ℕ, ◌<◌, ◌%◌, false, List, [], ◌∷◌, ◌++◌, None};
 ghost use Rattle.shm_words.specs.declared.geometry.Geometry.{Geometry as AGeometry};
-ghost use Rattle.shm_graph.specs.declared.memo.Memo.{Memo as AMemo};
-ghost use Rattle.shm_graph.specs.declared.spot.Spot.{Spot as ASpot};
-ghost use Rattle.shm_graph.specs.declared.spot.Spot.TheVariants.{Home, Body};
-ghost use Rattle.shm_graph.specs.declared.table.Entry.{Entry as AnEntry};
-ghost use Rattle.shm_graph.specs.Chains.{part_set};
-ghost use Rattle.shm_graph.specs.Held.{HeldAt, is_loose};
-ghost use Rattle.shm_graph.specs.Ops.{Quiet, On, cover, cover_of};
+ghost use Rattle.shm_graph.specs.declared.{memo.Memo.Memo as AMemo, spot.Spot.Spot as ASpot};
+ghost use Rattle.shm_graph.specs.declared.{spot.Spot.TheVariants.{Home, Body}, table.Entry.Entry as AnEntry};
+ghost use Rattle.shm_graph.specs.{Chains.part_set, Held.{HeldAt, is_loose}, Ops.{Quiet, On, cover, cover_of}};
 ghost use Rattle.shm_graph.specs.Views.{own_word, view};
 ghost use Rattle.shm_steps.specs.Raising.{IsReparted};
 ghost use Rattle.shm_steps.specs.Reparting.{sight, chain_in, map_in, TableStep, map_after, Begins, IsKnown};

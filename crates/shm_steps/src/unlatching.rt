@@ -1,15 +1,9 @@
 //! The law of the store that gives a latch back, as machines use it.
 
 ghost use Rattle.std.specs.Prelude.{◌≡◌, ℕ, false};
-ghost use Rattle.shm_graph.specs.declared.ask.Ask.TheVariants.{Store};
-ghost use Rattle.shm_graph.specs.declared.ask.Me.{Me as AMe};
-ghost use Rattle.shm_graph.specs.declared.memo.Memo.{Memo as AMemo};
-ghost use Rattle.shm_graph.specs.declared.spot.Spot.{Spot as ASpot};
-ghost use Rattle.shm_graph.specs.declared.spot.Spot.TheVariants.{Latch};
-ghost use Rattle.shm_graph.specs.Spots.{spot_at};
-ghost use Rattle.shm_graph.specs.Blocks.{classes};
-ghost use Rattle.shm_graph.specs.Asks.{Trail};
-ghost use Rattle.shm_graph.specs.Laws.{Frame, Stands, KeptAt};
+ghost use Rattle.shm_graph.specs.declared.{ask.{Ask.TheVariants.Store, Me.Me as AMe}, memo.Memo.Memo as AMemo};
+ghost use Rattle.shm_graph.specs.{declared.spot.Spot.{Spot as ASpot, TheVariants.Latch}, Spots.spot_at, Blocks.classes};
+ghost use Rattle.shm_graph.specs.{Asks.Trail, Laws.{Frame, Stands, KeptAt}};
 ghost use Rattle.shm_steps.specs.Unlatching.{MayUnlatch};
 
 /// A latch that is held is given back while no step is in progress.

@@ -1,15 +1,9 @@
 //! The laws of the stores into slots, as machines use them.
 
 ghost use Rattle.std.specs.Prelude.{◌≡◌, ℕ, ◌^◌, ◌<◌, false};
-ghost use Rattle.shm_graph.specs.declared.ask.Ask.TheVariants.{Store};
-ghost use Rattle.shm_graph.specs.declared.ask.Me.{Me as AMe};
-ghost use Rattle.shm_graph.specs.declared.memo.Memo.{Memo as AMemo};
-ghost use Rattle.shm_graph.specs.declared.spot.Spot.{Spot as ASpot};
-ghost use Rattle.shm_graph.specs.declared.spot.Spot.TheVariants.{Home, Root, Slot, Body};
-ghost use Rattle.shm_graph.specs.Spots.{spot_at};
-ghost use Rattle.shm_graph.specs.Ops.{On, cover_of};
-ghost use Rattle.shm_graph.specs.Blocks.{classes};
-ghost use Rattle.shm_graph.specs.Asks.{Trail};
+ghost use Rattle.shm_graph.specs.declared.{ask.{Ask.TheVariants.Store, Me.Me as AMe}, memo.Memo.Memo as AMemo};
+ghost use Rattle.shm_graph.specs.declared.spot.Spot.{Spot as ASpot, TheVariants.{Home, Root, Slot, Body}};
+ghost use Rattle.shm_graph.specs.{Spots.spot_at, Ops.{On, cover_of}, Blocks.classes, Asks.Trail};
 ghost use Rattle.shm_graph.specs.Laws.{Frame, Stands, KeptAt};
 ghost use Rattle.shm_steps.specs.Conditions.{IsHere, MayWrite};
 

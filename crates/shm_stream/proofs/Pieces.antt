@@ -1,22 +1,15 @@
 -- an image that is read as a stream
 use Rattle.std.proofs.Common.{◌≡◌, ◌≢◌, ℕ, ◌+◌, ◌-◌, ◌*◌, ◌<◌, ◌≤◌, List, [], ◌++◌, length, length-append, ltb, sym, ap, subst, ◌∙◌, arith}
-use Rattle.std.specs.Prelude.{IfErr, IfOk, OnErr, None, Option, Some, Result, Ok, Err}
-use Rattle.std.specs.Option.{option_or}
 use Rattle.std.proofs.lemmas.Bool.{cond-true, lt-ltb}
-use Rattle.shm_words.specs.declared.geometry.Geometry.{Geometry}
-use Rattle.shm_words.specs.Layout.{GeometryFits, bodies, total_of}
+use Rattle.std.specs.{Prelude.{IfErr, IfOk, OnErr, None, Option, Some, Result, Ok, Err}, Option.option_or}
+use Rattle.shm_words.specs.{declared.geometry.Geometry.Geometry, Layout.{GeometryFits, bodies, total_of}}
 use Rattle.shm_words.proofs.Placing.{total_most_wide}
 use Rattle.shm_graph.specs.Spots.{see}
-use Rattle.shm_audit.specs.declared.auditor.Auditor.{Auditor}
-use Rattle.shm_audit.specs.declared.fault.ImageFault.{ImageFault}
-use Rattle.shm_audit.specs.declared.fault.ImageFault.TheVariants as fault
-use Rattle.shm_audit.specs.declared.verdict.Verdict.{Verdict}
-use Rattle.shm_audit.specs.Faults.{frame_fault_of, image_fault_of, image_len, words_fault_of}
-use Rattle.shm_audit.specs.Frames.{Announces}
-use Rattle.shm_audit.specs.Images.{geometry_in, numbers_in, words_in}
-use Rattle.shm_audit.specs.Streams.{Seen}
-use Rattle.shm_audit.specs.Tallies.{AreFrom}
+use Rattle.shm_audit.specs.declared.{auditor.Auditor.Auditor, fault.ImageFault.ImageFault, verdict.Verdict.Verdict}
+use Rattle.shm_audit.specs.{Faults.{frame_fault_of, image_fault_of, image_len, words_fault_of}, Frames.Announces}
+use Rattle.shm_audit.specs.{Images.{geometry_in, numbers_in, words_in}, Streams.Seen, Tallies.AreFrom}
 use Rattle.shm_audit.specs.Verdicts.{verdict_of}
+use Rattle.shm_audit.specs.declared.fault.ImageFault.TheVariants as fault
 use Rattle.shm_audit.proofs.Windows.{frame_words, from_back, from_front, from_self, numbers_append, numbers_in_length}
 use Rattle.shm_io.specs.Reading.{LosesFront, TakesFront}
 use Rattle.shm_io.proofs.ReadSteps.{TakesFront-short, TakesFront-then}

@@ -2,12 +2,8 @@
 use Rattle.std.specs.Prelude.{◌≡◌, ℕ, ◌+◌, List, length, None, Some, Result, Ok, Err}
 use Rattle.shm_words.specs.declared.geometry.Geometry.{Geometry}
 use Rattle.shm_graph.specs.Spots.{see}
-use Rattle.shm_audit.specs.declared.fault.ImageFault.{ImageFault}
-use Rattle.shm_audit.specs.declared.verdict.Verdict.{Verdict}
-use Rattle.shm_audit.specs.Faults.{image_fault_of}
-use Rattle.shm_audit.specs.Frames.{Announces}
-use Rattle.shm_audit.specs.Images.{geometry_in, numbers_in, words_in}
-use Rattle.shm_audit.specs.Verdicts.{verdict_of}
+use Rattle.shm_audit.specs.{declared.{fault.ImageFault.ImageFault, verdict.Verdict.Verdict}, Faults.image_fault_of}
+use Rattle.shm_audit.specs.{Frames.Announces, Images.{geometry_in, numbers_in, words_in}, Verdicts.verdict_of}
 
 -- the verdict on the words of an image without a fault, or its first fault
 abbrev pub IsJudged : List ℕ → Result Verdict ImageFault → Type 0

@@ -2,13 +2,9 @@
 
 ghost use Rattle.std.specs.Prelude.{◌≡◌, ◌+◌, ◌*◌, ◌^◌, ◌<◌, ◌≤◌, ℕ, List, length, IfOk, IfErr, OnOk, OnErr};
 ghost use Rattle.shm_words.specs.Layout.{GeometryFits, bodies, total_of};
+ghost use Rattle.shm_audit.specs.{Faults.image_len, Images.{numbers, numbers_in}, Streams.Seen, Tallies.AreFrom};
 ghost use Rattle.shm_audit.specs.declared.fault.ImageFault.TheVariants as fault;
-ghost use Rattle.shm_audit.specs.Faults.{image_len};
-ghost use Rattle.shm_audit.specs.Images.{numbers, numbers_in};
-ghost use Rattle.shm_audit.specs.Streams.{Seen};
-ghost use Rattle.shm_audit.specs.Tallies.{AreFrom};
-ghost use Rattle.shm_io.specs.Reading.{LosesFront, TakesFront};
-ghost use Rattle.shm_io.specs.Stops.{HasCause};
+ghost use Rattle.shm_io.specs.{Reading.{LosesFront, TakesFront}, Stops.HasCause};
 ghost use Rattle.shm_stream.specs.Audits.{IsJudged, JudgesRest};
 
 use shm_audit::{Auditor, ImageFault, Verdict, read_frame};

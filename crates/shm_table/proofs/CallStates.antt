@@ -1,25 +1,15 @@
 -- a call in a run: where its machine makes its word steps, and that it fits between them
 use Rattle.std.proofs.Common.{◌≡◌, ℕ, ◌<◌, refl, sym, ap, ◌∙◌, subst, false, append_assoc, List, [], ◌∷◌, ◌++◌, length, inl, inr}
-use Rattle.std.specs.Prelude.{None, slice_index}
 use Rattle.std.proofs.lemmas.Bool.{cases_eq, cond-false, cond-true, eq-eqb, ne_eqb}
+use Rattle.std.specs.Prelude.{None, slice_index}
 use Rattle.shm_words.specs.declared.geometry.Geometry.{Geometry}
-use Rattle.shm_graph.specs.declared.ask.Me.{Me}
-use Rattle.shm_graph.specs.declared.memo.Memo.{Memo}
-use Rattle.shm_graph.specs.declared.memo.Seen.{Seen}
-use Rattle.shm_graph.specs.declared.memo.Step.{Step}
-use Rattle.shm_graph.specs.declared.run.Move.{Move}
-use Rattle.shm_graph.specs.declared.run.Move.TheVariants.{Word, Dies, Begins}
-use Rattle.shm_graph.specs.Asks.{Trail, at_of, seen_of}
-use Rattle.shm_graph.specs.CallEvents.{IsUnbroken, steps_in}
-use Rattle.shm_graph.specs.Changes.{memo_after}
-use Rattle.shm_graph.specs.Laws.{Control, Laws, step_of}
+use Rattle.shm_graph.specs.declared.{ask.Me.Me, memo.{Memo.Memo, Seen.Seen, Step.Step}, run.Move.Move}
+use Rattle.shm_graph.specs.{declared.run.Move.TheVariants.{Word, Dies, Begins}, Asks.{Trail, at_of, seen_of}}
+use Rattle.shm_graph.specs.{CallEvents.{IsUnbroken, steps_in}, Changes.memo_after, Laws.{Control, Laws, step_of}}
 use Rattle.shm_graph.specs.Runs.{Held, IsMove, Leads, State, Turned, account_after, account_at, account_died, account_entered, memos_of, moved}
-use Rattle.shm_graph.specs.Tells.{GoesOn, after_all, machine_steps}
-use Rattle.shm_graph.specs.Whole.{fits_now}
-use Rattle.shm_graph.proofs.Machines.Composing.{outcome_none}
-use Rattle.shm_graph.proofs.Machines.Wholes.{whole_keeps}
-use Rattle.shm_graph.proofs.Runs.CallEventsOf.{memo_here, memo_other}
-use Rattle.shm_graph.proofs.Runs.Lists.{length-accounts_after}
+use Rattle.shm_graph.specs.{Tells.{GoesOn, after_all, machine_steps}, Whole.fits_now}
+use Rattle.shm_graph.proofs.Machines.{Composing.outcome_none, Wholes.whole_keeps}
+use Rattle.shm_graph.proofs.Runs.{CallEventsOf.{memo_here, memo_other}, Lists.length-accounts_after}
 use Rattle.shm_graph.proofs.Runs.Running.{Leads-append, Leads-split}
 
 -- the identity of a pool

@@ -4,43 +4,33 @@ pub mod Searches
 pub mod Parts
 pub mod Commands
 use Rattle.std.proofs.Common.{◌≡◌, ℕ, zero, suc, refl, sym, ap, ◌∙◌, subst, append_assoc, append-nil, Bool, true, false, [], ◌++◌, Option, Some, None}
-use Rattle.std.specs.Prelude.{Result, Ok, Err, if◌then◌else◌}
 use Rattle.std.proofs.lemmas.List.Elements.{Contains-append_left, Contains-append_right}
-use Rattle.shm_words.specs.declared.place.Place.TheVariants as place
+use Rattle.std.specs.Prelude.{Result, Ok, Err, if◌then◌else◌}
 use Rattle.shm_words.specs.Layout.{address}
-use Rattle.shm_graph.specs.declared.ask.Ask.TheVariants.{Load}
-use Rattle.shm_graph.specs.declared.ask.Me.{Me}
-use Rattle.shm_graph.specs.declared.memo.Seen.{Seen}
-use Rattle.shm_graph.specs.Asks.{Trail, pair}
+use Rattle.shm_words.specs.declared.place.Place.TheVariants as place
+use Rattle.shm_graph.specs.{declared.{ask.{Ask.TheVariants.Load, Me.Me}, memo.Seen.Seen}, Asks.{Trail, pair}}
 use Rattle.shm_graph.specs.Laws.{Outcome}
 use Rattle.shm_calls.specs.Plans.{Planned, calls_asked, go_on, plan_trail}
-use Rattle.shm_alloc.specs.declared.alloc.AllocFault.{AllocFault}
+use Rattle.shm_alloc.specs.{declared.{alloc.AllocFault.AllocFault, request.Request.Request}, Alloc.Asks.alloc_trail}
 use Rattle.shm_alloc.specs.declared.alloc.AllocFault.TheVariants as alloc
-use Rattle.shm_alloc.specs.declared.request.Request.{Request}
-use Rattle.shm_alloc.specs.Alloc.Asks.{alloc_trail}
-use Rattle.shm_count.specs.declared.answer.UpFault.{UpFault}
-use Rattle.shm_count.specs.declared.answer.UpFault.TheVariants as up
-use Rattle.shm_count.specs.declared.point.Aim.{Aim}
-use Rattle.shm_count.specs.Refusing.{ReadsCount}
-use Rattle.shm_count.specs.Step.Asks.{step_trail}
+use Rattle.shm_count.specs.{declared.{answer.UpFault.UpFault, point.Aim.Aim}, Refusing.ReadsCount, Step.Asks.step_trail}
 use Rattle.shm_count.specs.Step.Refusing.{step_reads}
+use Rattle.shm_count.specs.declared.answer.UpFault.TheVariants as up
 use Rattle.shm_script.specs.declared.log.Answer.{Answer}
 use Rattle.shm_script.specs.declared.log.Answer.TheVariants as answer
-use Rattle.shm_table.specs.declared.answer.PutFault.{PutFault}
-use Rattle.shm_table.specs.Answers.{fault_answer, made_fault, raised_fault}
+use Rattle.shm_table.specs.{declared.answer.PutFault.PutFault, Answers.{fault_answer, made_fault, raised_fault}}
 use Rattle.shm_table.specs.Causes.{LoadsEra, LoadsRoot, Shows}
-use Rattle.shm_table.proofs.CauseTrails.Eras.{step_era}
-use Rattle.shm_table.proofs.CauseTrails.Searches.{alloc_era, alloc_roots}
+use Rattle.shm_table.proofs.CauseTrails.{Eras.step_era, Searches.{alloc_era, alloc_roots}}
 
 -- ---- any plan
 
 -- What is known between the calls holds along a trail: before the first call, and by each call of what was asked before it, until it answers
-module _ {P C B A : Type 0} (q : Planned P C B A) (K : P → Trail → Type 0) (Q : A → Trail → Type 0) (step : (p : P) (tr t : Trail) (b : B) → K p tr → (q.part p).asks (q.call p) t b → Outcome (q.turns p b) (K (q.after p b) (tr ++ t)) (λ a. Q a (tr ++ t))) where
+module _ {P C B A : Type 0} (q : Planned P C B A) (K : P → Trail → Type 0) (Q : A → Trail → Type 0) (step : (p : P) (tr t : Trail) (b : B) → K p tr → (q.part p).asks (q.steered.call p) t b → Outcome (q.steered.turns p b) (K (q.steered.after p b) (tr ++ t)) (λ a. Q a (tr ++ t))) where
   along : (n : ℕ) (p : P) (tr t : Trail) (a : A) → K p tr → calls_asked q n p t a → Q a (tr ++ t)
   along zero p tr t a k h = absurd h
-  along (suc n) p tr t a k (one, (rest, b, split, asks, on)) = go (q.turns p b) (λ known h. along n (q.after p b) (tr ++ one) rest a known h) (step p tr one b k asks) on
+  along (suc n) p tr t a k (one, (rest, b, split, asks, on)) = go (q.steered.turns p b) (λ known h. along n (q.steered.after p b) (tr ++ one) rest a known h) (step p tr one b k asks) on
     where
-      go : (o : Option A) → (K (q.after p b) (tr ++ one) → calls_asked q n (q.after p b) rest a → Q a ((tr ++ one) ++ rest)) → Outcome o (K (q.after p b) (tr ++ one)) (λ x. Q x (tr ++ one)) → go_on q (calls_asked q n) (q.after p b) o rest a → Q a (tr ++ t)
+      go : (o : Option A) → (K (q.steered.after p b) (tr ++ one) → calls_asked q n (q.steered.after p b) rest a → Q a ((tr ++ one) ++ rest)) → Outcome o (K (q.steered.after p b) (tr ++ one)) (λ x. Q x (tr ++ one)) → go_on q (calls_asked q n) (q.steered.after p b) o rest a → Q a (tr ++ t)
       go None on known h = subst (Q a) (append_assoc tr one rest ∙ ap (λ (u : Trail). tr ++ u) (sym split)) (on known h)
       go (Some x) on told h =
           subst (λ y. Q y (tr ++ t)) h.1

@@ -1,75 +1,49 @@
 -- the event of the deciding step is the one by which the map changes
 use Rattle.std.proofs.Common.{◌≡◌, ℕ, ◌%◌, Bool, true, false, refl, sym, ap, ◌∙◌, subst, [], ◌∷◌, inl, inr}
 use Rattle.std.specs.Prelude.{if◌then◌else◌, Option, Some, None, Ok, Err}
-use Rattle.shm_graph.specs.declared.ask.Me.{Me}
-use Rattle.shm_graph.specs.declared.memo.Memo.{Memo}
-use Rattle.shm_graph.specs.declared.spot.Spot.{Spot}
-use Rattle.shm_graph.specs.declared.spot.Spot.TheVariants.{Body}
-use Rattle.shm_graph.specs.Asks.{Trail}
-use Rattle.shm_graph.specs.Events.{Event}
+use Rattle.shm_graph.specs.{declared.{ask.Me.Me, memo.Memo.Memo, spot.Spot.{Spot, TheVariants.Body}}, Asks.Trail}
+use Rattle.shm_graph.specs.{Events.Event, Laws.Control, Tells.after_all}
 use Rattle.shm_graph.specs.Events as event
-use Rattle.shm_graph.specs.Laws.{Control}
-use Rattle.shm_graph.specs.Tells.{after_all}
-use Rattle.shm_calls.specs.declared.calls.Calls.{Calls}
-use Rattle.shm_calls.specs.declared.or.Or.TheVariants.{First, Second}
-use Rattle.shm_calls.specs.CallsControl.{called_on, calls_control, calls_does, planned}
-use Rattle.shm_calls.specs.CallsFit.{CallsFits}
-use Rattle.shm_calls.specs.Deciding.{where_decided}
-use Rattle.shm_calls.specs.Plans.{Planned}
-use Rattle.shm_count.specs.declared.point.Aim.{Aim}
-use Rattle.shm_count.specs.declared.point.Aim.TheVariants as aims
-use Rattle.shm_count.specs.declared.point.Half.{Half}
-use Rattle.shm_count.specs.declared.point.Half.TheVariants as part
-use Rattle.shm_count.specs.declared.point.StepPoint.{StepPoint}
-use Rattle.shm_count.specs.declared.point.StepPoint.TheVariants as point
+use Rattle.shm_calls.specs.declared.{calls.Calls.Calls, or.Or.TheVariants.{First, Second}}
+use Rattle.shm_calls.specs.{CallsControl.{called_on, calls_control, calls_does, planned}, CallsFit.CallsFits}
+use Rattle.shm_calls.specs.{Deciding.where_decided, Plans.Planned}
+use Rattle.shm_count.specs.declared.point.{Aim.Aim, Half.Half, StepPoint.StepPoint}
 use Rattle.shm_count.specs.Step.Events.{event_of_half, step_event_at}
 use Rattle.shm_count.specs.Step.ExchangeMade.{exchanged_at, exchanging_at, is_second}
+use Rattle.shm_count.specs.declared.point.Aim.TheVariants as aims
+use Rattle.shm_count.specs.declared.point.Half.TheVariants as part
+use Rattle.shm_count.specs.declared.point.StepPoint.TheVariants as point
 use Rattle.shm_script.specs.declared.log.Answer.{Answer}
 use Rattle.shm_script.specs.declared.log.Answer.TheVariants as answer
-use Rattle.shm_table.specs.declared.copy.CopyPoint.{CopyPoint}
-use Rattle.shm_table.specs.declared.copy.CopyPoint.TheVariants as copying
-use Rattle.shm_table.specs.declared.copy.CopyState.{CopyState}
-use Rattle.shm_table.specs.declared.del.DelPoint.{DelPoint}
-use Rattle.shm_table.specs.declared.del.DelPoint.TheVariants as deleting
-use Rattle.shm_table.specs.declared.del.DelState.{DelState}
-use Rattle.shm_table.specs.declared.enter.Entered.TheVariants.{Linked, Unlinked, Unmade}
-use Rattle.shm_table.specs.declared.enter.EnterPoint.{EnterPoint}
-use Rattle.shm_table.specs.declared.enter.EnterPoint.TheVariants as entering
-use Rattle.shm_table.specs.declared.enter.EnterState.{EnterState}
-use Rattle.shm_table.specs.declared.find.Found.TheVariants.{Absent, At}
-use Rattle.shm_table.specs.declared.put.PutPoint.{PutPoint}
-use Rattle.shm_table.specs.declared.put.PutPoint.TheVariants as putting
-use Rattle.shm_table.specs.declared.put.PutState.{PutState}
-use Rattle.shm_table.specs.declared.put_root.PutRootPoint.{PutRootPoint}
-use Rattle.shm_table.specs.declared.put_root.PutRootPoint.TheVariants as rooting
-use Rattle.shm_table.specs.declared.put_root.PutRootState.{PutRootState}
-use Rattle.shm_table.specs.declared.recv.RecvPoint.{RecvPoint}
-use Rattle.shm_table.specs.declared.recv.RecvPoint.TheVariants as receiving
-use Rattle.shm_table.specs.declared.recv.RecvState.{RecvState}
-use Rattle.shm_table.specs.declared.replace.ReplacePoint.{ReplacePoint}
-use Rattle.shm_table.specs.declared.replace.ReplacePoint.TheVariants as replacing
-use Rattle.shm_table.specs.declared.replace.ReplaceState.{ReplaceState}
-use Rattle.shm_table.specs.declared.unlink.UnlinkPoint.{UnlinkPoint}
-use Rattle.shm_table.specs.declared.unlink.UnlinkPoint.TheVariants as unlinking
+use Rattle.shm_table.specs.declared.{copy.{CopyPoint.CopyPoint, CopyState.CopyState}, del.DelPoint.DelPoint}
+use Rattle.shm_table.specs.declared.{del.DelState.DelState, enter.Entered.TheVariants.{Linked, Unlinked, Unmade}}
+use Rattle.shm_table.specs.declared.enter.{EnterPoint.EnterPoint, EnterState.EnterState}
+use Rattle.shm_table.specs.declared.{find.Found.TheVariants.{Absent, At}, put.{PutPoint.PutPoint, PutState.PutState}}
+use Rattle.shm_table.specs.declared.put_root.{PutRootPoint.PutRootPoint, PutRootState.PutRootState}
+use Rattle.shm_table.specs.declared.{recv.{RecvPoint.RecvPoint, RecvState.RecvState}, replace.ReplacePoint.ReplacePoint}
+use Rattle.shm_table.specs.declared.{replace.ReplaceState.ReplaceState, unlink.UnlinkPoint.UnlinkPoint}
 use Rattle.shm_table.specs.declared.unlink.UnlinkState.{UnlinkState}
-use Rattle.shm_table.specs.CopyKey.Control.{CopyCall, CopyCalls, copy_call_at, copy_parts}
-use Rattle.shm_table.specs.CopyKey.{copy_part, copy_plan}
-use Rattle.shm_table.specs.Cutting.{Cuts}
-use Rattle.shm_table.specs.Del.Control.{DelCall, DelCalls, del_call_at, del_parts}
-use Rattle.shm_table.specs.Del.{del_part, del_plan}
+use Rattle.shm_table.specs.CopyKey.{Control.{CopyCall, CopyCalls, copy_call_at, copy_parts}, copy_part, copy_plan}
+use Rattle.shm_table.specs.{Cutting.Cuts, Del.{Control.{DelCall, DelCalls, del_call_at, del_parts}, del_part, del_plan}}
 use Rattle.shm_table.specs.Effects.{copy_at, copy_by, copy_effect, copy_home, del_at, del_by, del_effect, enter_at, enter_by, enter_decided, put_at, put_by, put_effect, put_home, put_root_at, put_root_by, put_root_decided, recv_at, recv_by, recv_effect, recv_home, replace_at, replace_by, replace_decided, unlink_at, unlink_by, unlink_decided}
-use Rattle.shm_table.specs.Enter.Control.{EnterAnswer, EnterCall, enter_call_at, enter_parts, enter_spot, enter_to, raised_after}
-use Rattle.shm_table.specs.Enter.{enter_part, enter_plan}
-use Rattle.shm_table.specs.Put.Control.{PutCall, PutCalls, put_call_at, put_parts}
+use Rattle.shm_table.specs.Enter.Control.{EnterAnswer, EnterCall, enter_call_at, enter_parts, enter_spot, enter_to, raised_after, enter_steered}
+use Rattle.shm_table.specs.{Enter.{enter_part, enter_plan}, Put.Control.{PutCall, PutCalls, put_call_at, put_parts}}
 use Rattle.shm_table.specs.Put.{put_part, put_plan}
-use Rattle.shm_table.specs.PutRoot.Control.{EnterCalls, PutRootAnswer, PutRootCall, PutRootCalls, ReplaceCalls, put_root_call, put_root_parts}
+use Rattle.shm_table.specs.PutRoot.Control.{EnterCalls, PutRootAnswer, PutRootCall, PutRootCalls, ReplaceCalls, put_root_call, put_root_parts, put_root_steered}
 use Rattle.shm_table.specs.PutRoot.{Decides, Begins, Leads, Replaces, put_root_part, put_root_plan}
-use Rattle.shm_table.specs.RecvKey.Control.{RecvCall, RecvCalls, recv_call_at, recv_parts}
-use Rattle.shm_table.specs.RecvKey.{recv_part, recv_plan}
-use Rattle.shm_table.specs.Replace.Control.{ReplaceAnswer, ReplaceCall, replace_call_at, replace_parts}
+use Rattle.shm_table.specs.RecvKey.{Control.{RecvCall, RecvCalls, recv_call_at, recv_parts}, recv_part, recv_plan}
+use Rattle.shm_table.specs.Replace.Control.{ReplaceAnswer, ReplaceCall, replace_call_at, replace_parts, replace_steered}
 use Rattle.shm_table.specs.Replace.{replace_plan}
-use Rattle.shm_table.specs.Unlink.Control.{UnlinkAnswer, UnlinkCall, unlink_call_at, unlink_parts}
-use Rattle.shm_table.specs.Unlink.{UnlinkCalls, unlink_plan}
+use Rattle.shm_table.specs.Unlink.Control.{UnlinkAnswer, UnlinkCall, unlink_call_at, unlink_parts, unlink_steered, UnlinkCalls}
+use Rattle.shm_table.specs.Unlink.{unlink_plan}
+use Rattle.shm_table.specs.declared.copy.CopyPoint.TheVariants as copying
+use Rattle.shm_table.specs.declared.del.DelPoint.TheVariants as deleting
+use Rattle.shm_table.specs.declared.enter.EnterPoint.TheVariants as entering
+use Rattle.shm_table.specs.declared.put.PutPoint.TheVariants as putting
+use Rattle.shm_table.specs.declared.put_root.PutRootPoint.TheVariants as rooting
+use Rattle.shm_table.specs.declared.recv.RecvPoint.TheVariants as receiving
+use Rattle.shm_table.specs.declared.replace.ReplacePoint.TheVariants as replacing
+use Rattle.shm_table.specs.declared.unlink.UnlinkPoint.TheVariants as unlinking
 
 -- ---- what stays
 
@@ -79,16 +53,16 @@ kept_along k Q h m [] q = q
 kept_along k Q h m (x ∷ tr) q = kept_along k Q h (k.after m x.word) tr (h m x.word q)
 
 -- what a plan keeps from call to call, the machine that makes its calls keeps
-pub plan_kept : {P C B A : Type 0} (k : Control C B) (q : Planned P C B A) (R : P → Type 0) → ((p : P) (b : B) → R p → R (q.after p b)) → (m : Calls P C A B) (n : ℕ) → R m.plan → R ((calls_control k q).after m n).plan
+pub plan_kept : {P C B A : Type 0} (k : Control C B) (q : Planned P C B A) (R : P → Type 0) → ((p : P) (b : B) → R p → R (q.steered.after p b)) → (m : Calls P C A B) (n : ℕ) → R m.plan → R ((calls_control k q.steered).after m n).plan
 plan_kept {P} {C} {B} {A} k q R h m n r = go (k.turns m.call n)
   where
-    last : (b : B) (o : Option A) → R (planned k q (k.after m.call n) (q.after m.plan b) o).plan
+    last : (b : B) (o : Option A) → R (planned k q.steered (k.after m.call n) (q.steered.after m.plan b) o).plan
     last b None = h m.plan b r
     last b (Some a) = h m.plan b r
 
-    go : (o : Option B) → R (called_on k q m.plan (k.after m.call n) o).plan
+    go : (o : Option B) → R (called_on k q.steered m.plan (k.after m.call n) o).plan
     go None = r
-    go (Some b) = last b (q.turns m.plan b)
+    go (Some b) = last b (q.steered.turns m.plan b)
 
 -- ---- the exchange of a count step
 
@@ -192,7 +166,7 @@ root_kept : (m : PutRootState) (x : PutRootCall) (n : ℕ) → RootAims m x → 
 root_kept m (First w) n q = tt
 root_kept m (Second (First (First c))) n q = plan_kept replace_parts replace_plan (λ p. (p.me ≡ m.me) × (p.to ≡ m.value)) replaces c n q
   where
-    replaces : (p : ReplaceState) (b : ReplaceAnswer) → (p.me ≡ m.me) × (p.to ≡ m.value) → ((replace_plan.after p b).me ≡ m.me) × ((replace_plan.after p b).to ≡ m.value)
+    replaces : (p : ReplaceState) (b : ReplaceAnswer) → (p.me ≡ m.me) × (p.to ≡ m.value) → ((replace_steered.after p b).me ≡ m.me) × ((replace_steered.after p b).to ≡ m.value)
     replaces p (First n) r = r
     replaces p (Second (First (Ok true))) r = r
     replaces p (Second (First (Ok false))) r = r
@@ -205,7 +179,7 @@ root_kept m (Second (First (Second c))) n q = plan_kept enter_parts enter_plan (
     raises p entering.Next r = r
     raises p y r = r
 
-    enters : (p : EnterState) (b : EnterAnswer) → (p.me ≡ m.me) × (p.key ≡ m.key) × (p.home ≡ m.home) → ((enter_plan.after p b).me ≡ m.me) × ((enter_plan.after p b).key ≡ m.key) × ((enter_plan.after p b).home ≡ m.home)
+    enters : (p : EnterState) (b : EnterAnswer) → (p.me ≡ m.me) × (p.key ≡ m.key) × (p.home ≡ m.home) → ((enter_steered.after p b).me ≡ m.me) × ((enter_steered.after p b).key ≡ m.key) × ((enter_steered.after p b).home ≡ m.home)
     enters p (First (Ok made)) r = r
     enters p (First (Err f)) r = r
     enters p (Second (First (Ok done))) r = raises p p.point r
@@ -238,7 +212,7 @@ put_root_event m r0 r tr n fit d b = go m.plan m.call fit.rs r fit.t (root_aims 
 abbrev pub RootOf : Me → ℕ → ℕ → PutRootState → Type 0
 RootOf me key v p = (p.me ≡ me) × (p.key ≡ key) × (p.value ≡ v)
 
-root_of_kept : (me : Me) (key v : ℕ) (p : PutRootState) (b : PutRootAnswer) → RootOf me key v p → RootOf me key v (put_root_plan.after p b)
+root_of_kept : (me : Me) (key v : ℕ) (p : PutRootState) (b : PutRootAnswer) → RootOf me key v p → RootOf me key v (put_root_steered.after p b)
 root_of_kept me key v p (First (First (Ok done))) r = r
 root_of_kept me key v p (First (First (Err f))) r = r
 root_of_kept me key v p (First (Second (At entry before word))) r = r
@@ -375,7 +349,7 @@ unlink_event c t n there d b = go c.plan c.call (subst (UnlinkAims c.plan) there
 abbrev UnlinkOf : DelState → UnlinkState → Type 0
 UnlinkOf m p = (p.me ≡ m.me) × (p.before ≡ m.before) × (p.word ≡ m.word) × (p.entry ≡ m.entry)
 
-unlink_of_kept : (m : DelState) (p : UnlinkState) (b : UnlinkAnswer) → UnlinkOf m p → UnlinkOf m (unlink_plan.after p b)
+unlink_of_kept : (m : DelState) (p : UnlinkState) (b : UnlinkAnswer) → UnlinkOf m p → UnlinkOf m (unlink_steered.after p b)
 unlink_of_kept m p (First n) r = r
 unlink_of_kept m p (Second (First (Ok true))) r = r
 unlink_of_kept m p (Second (First (Ok false))) r = r

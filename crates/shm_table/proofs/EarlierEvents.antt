@@ -1,94 +1,55 @@
 -- no step before the deciding one is an event by which a key comes to have a value block, or goes
 use Rattle.std.proofs.Common.{◌≡◌, ◌≢◌, ℕ, ◌%◌, ◌<◌, Bool, true, false, refl, sym, ap, ◌∙◌, subst, arith, List, inl, inr}
-use Rattle.std.specs.Prelude.{◌==◌, if◌then◌else◌, None}
 use Rattle.std.proofs.lemmas.Bool.{true≢false}
-use Rattle.shm_graph.specs.declared.ask.Me.{Me}
-use Rattle.shm_graph.specs.declared.memo.Memo.{Memo}
-use Rattle.shm_graph.specs.declared.spot.Spot.{Spot}
-use Rattle.shm_words.specs.Tags.{tag_refs}
-use Rattle.shm_graph.specs.declared.spot.Spot.TheVariants.{Body, Home, Root, Slot, Tag}
-use Rattle.shm_graph.specs.Asks.{Trail}
-use Rattle.shm_graph.specs.Events.{Event}
-use Rattle.shm_graph.specs.Events as event
-use Rattle.shm_graph.specs.Held.{HeldAt, PartTie, is_loose}
-use Rattle.shm_graph.specs.declared.memo.Op.TheVariants.{Nothing}
-use Rattle.shm_graph.specs.declared.table.Part.{Part}
-use Rattle.shm_graph.specs.declared.table.Part.TheVariants.{Loose, Table}
-use Rattle.shm_graph.specs.Ops.{cover_of}
-use Rattle.shm_graph.specs.Tables.{IsPartition, contents_of}
+use Rattle.std.specs.Prelude.{◌==◌, if◌then◌else◌, None}
+use Rattle.shm_graph.specs.declared.{ask.Me.Me, memo.{Memo.Memo, Op.TheVariants.Nothing}, spot.Spot.Spot}
+use Rattle.shm_graph.specs.declared.{spot.Spot.TheVariants.{Body, Home, Root, Slot, Tag}, table.Part.Part}
+use Rattle.shm_graph.specs.{declared.table.Part.TheVariants.{Loose, Table}, Asks.Trail, Events.Event}
+use Rattle.shm_graph.specs.{Held.{HeldAt, PartTie, is_loose}, Ops.cover_of, Tables.{IsPartition, contents_of}}
 use Rattle.shm_graph.specs.Views.{own_word, targets, view}
-use Rattle.shm_calls.specs.declared.or.Or.TheVariants.{First, Second}
-use Rattle.shm_calls.specs.CallsControl.{calls_does}
-use Rattle.shm_calls.specs.CallsFit.{CallsFits}
+use Rattle.shm_graph.specs.Events as event
+use Rattle.shm_words.specs.Tags.{tag_refs}
+use Rattle.shm_calls.specs.{declared.or.Or.TheVariants.{First, Second}, CallsControl.calls_does, CallsFit.CallsFits}
 use Rattle.shm_calls.specs.Parts.{IsHeld}
-use Rattle.shm_alloc.specs.declared.point.AllocPoint.{AllocPoint}
+use Rattle.shm_alloc.specs.{declared.point.AllocPoint.AllocPoint, Alloc.Events.alloc_event_at}
 use Rattle.shm_alloc.specs.declared.point.AllocPoint.TheVariants as alloc
-use Rattle.shm_alloc.specs.Alloc.Events.{alloc_event_at}
-use Rattle.shm_count.specs.declared.point.Aim.{Aim}
+use Rattle.shm_count.specs.declared.{point.{Aim.Aim, Half.Half, StepPoint.StepPoint}, tear_point.TearPoint.TearPoint}
+use Rattle.shm_count.specs.declared.up_root.{RootingPoint.RootingPoint, RootingState.RootingState}
+use Rattle.shm_count.specs.Step.{Events.{event_of_half, step_event_at}, ExchangeMade.exchanging_at}
+use Rattle.shm_count.specs.{Tear.Events.tear_event_at, UpRoot.AsPart.RootingCalls}
+use Rattle.shm_count.specs.UpRoot.{Control.{RootingCall, rooting_parts}, rooting_part, rooting_plan}
 use Rattle.shm_count.specs.declared.point.Aim.TheVariants as aims
-use Rattle.shm_count.specs.declared.point.Half.{Half}
 use Rattle.shm_count.specs.declared.point.Half.TheVariants as part
-use Rattle.shm_count.specs.declared.point.StepPoint.{StepPoint}
 use Rattle.shm_count.specs.declared.point.StepPoint.TheVariants as point
-use Rattle.shm_count.specs.declared.tear_point.TearPoint.{TearPoint}
 use Rattle.shm_count.specs.declared.tear_point.TearPoint.TheVariants as tear
-use Rattle.shm_count.specs.Step.Events.{event_of_half, step_event_at}
-use Rattle.shm_count.specs.Step.ExchangeMade.{exchanging_at}
-use Rattle.shm_count.specs.Tear.Events.{tear_event_at}
-use Rattle.shm_count.specs.UpRoot.AsPart.{RootingCalls}
-use Rattle.shm_count.specs.UpRoot.Control.{RootingCall, rooting_parts}
-use Rattle.shm_count.specs.declared.up_root.RootingPoint.{RootingPoint}
 use Rattle.shm_count.specs.declared.up_root.RootingPoint.TheVariants as rooting_at
-use Rattle.shm_count.specs.declared.up_root.RootingState.{RootingState}
-use Rattle.shm_count.specs.UpRoot.{rooting_part, rooting_plan}
-use Rattle.shm_ref.specs.DropRoot.Control.{drop_parts}
-use Rattle.shm_ref.specs.DropRoot.{drop_plan}
-use Rattle.shm_ref.specs.DropRoots.Control.{RootsCall}
+use Rattle.shm_ref.specs.{DropRoot.{Control.drop_parts, drop_plan}, DropRoots.Control.RootsCall}
 use Rattle.shm_script.specs.declared.log.Answer.TheVariants as answer
-use Rattle.shm_steps.specs.Walking.{IsVacant}
-use Rattle.shm_steps.specs.Reparting.{IsTagged, chain_in, sight}
+use Rattle.shm_steps.specs.{Walking.IsVacant, Reparting.{IsTagged, chain_in, sight}}
 use Rattle.shm_steps.proofs.Partitions.Reparted.{home_so, tagged_own}
-use Rattle.shm_table.specs.declared.copy.CopyState.{CopyState}
-use Rattle.shm_table.specs.declared.enter.EnterPoint.{EnterPoint}
-use Rattle.shm_table.specs.declared.enter.EnterPoint.TheVariants as entering
-use Rattle.shm_table.specs.declared.enter.EnterState.{EnterState}
-use Rattle.shm_table.specs.declared.open_table.OpenPoint.{OpenPoint}
-use Rattle.shm_table.specs.declared.open_table.OpenPoint.TheVariants as opening
-use Rattle.shm_table.specs.declared.open_table.OpenState.{OpenState}
-use Rattle.shm_table.specs.declared.put.PutState.{PutState}
-use Rattle.shm_table.specs.declared.put_root.PutRootState.{PutRootState}
-use Rattle.shm_table.specs.declared.recv.RecvState.{RecvState}
-use Rattle.shm_table.specs.declared.replace.ReplaceState.{ReplaceState}
-use Rattle.shm_table.specs.declared.unlink.UnlinkState.{UnlinkState}
+use Rattle.shm_table.specs.declared.{copy.CopyState.CopyState, enter.{EnterPoint.EnterPoint, EnterState.EnterState}}
+use Rattle.shm_table.specs.declared.{open_table.{OpenPoint.OpenPoint, OpenState.OpenState}, put.PutState.PutState}
+use Rattle.shm_table.specs.declared.{put_root.PutRootState.PutRootState, recv.RecvState.RecvState}
+use Rattle.shm_table.specs.declared.{replace.ReplaceState.ReplaceState, unlink.UnlinkState.UnlinkState}
 use Rattle.shm_table.specs.declared.del.DelState.{DelState}
-use Rattle.shm_table.specs.CopyKey.Control.{CopyCall, CopyCalls, FetchCalls, copy_parts}
-use Rattle.shm_table.specs.CopyKey.{copy_part, copy_plan}
-use Rattle.shm_table.specs.Cutting.{Cuts}
-use Rattle.shm_table.specs.Del.Control.{DelCall, DelCalls, del_parts}
-use Rattle.shm_table.specs.Del.{del_part, del_plan}
+use Rattle.shm_table.specs.CopyKey.{Control.{CopyCall, CopyCalls, FetchCalls, copy_parts}, copy_part, copy_plan}
+use Rattle.shm_table.specs.{Cutting.Cuts, Del.{Control.{DelCall, DelCalls, del_parts}, del_part, del_plan}}
 use Rattle.shm_table.specs.Effects.{copy_at, copy_by, copy_effect, copy_home, del_at, del_by, del_effect, enter_at, enter_by, enter_decided, put_at, put_by, put_effect, put_home, put_root_at, put_root_by, put_root_decided, recv_at, recv_by, recv_effect, recv_home, replace_at, replace_by, replace_decided, unlink_at, unlink_by}
 use Rattle.shm_table.specs.Enter.Control.{EnterCall, enter_parts, enter_spot}
 use Rattle.shm_table.specs.Enter.{EnterKnows, IsMade, IsOnTheWay, enter_part, enter_plan}
-use Rattle.shm_table.specs.Fetch.Control.{FetchCall, fetch_parts}
-use Rattle.shm_table.specs.Fetch.{fetch_plan}
-use Rattle.shm_table.specs.FetchHead.Control.{FetchHeadCall, fetch_head_parts}
-use Rattle.shm_table.specs.FetchHead.{fetch_head_plan}
-use Rattle.shm_table.specs.Locate.Control.{LocateCall, locate_parts}
-use Rattle.shm_table.specs.Locate.{LocateCalls, locate_part, locate_plan}
-use Rattle.shm_table.specs.OpenTable.Control.{OpenCall, open_parts}
-use Rattle.shm_table.specs.OpenTable.{open_plan}
-use Rattle.shm_table.specs.Put.Control.{PutCall, PutCalls, put_parts}
-use Rattle.shm_table.specs.Put.{put_part, put_plan}
+use Rattle.shm_table.specs.Fetch.{Control.{FetchCall, fetch_parts}, fetch_plan}
+use Rattle.shm_table.specs.FetchHead.{Control.{FetchHeadCall, fetch_head_parts}, fetch_head_plan}
+use Rattle.shm_table.specs.Locate.{Control.{LocateCall, locate_parts, LocateCalls}, locate_part, locate_plan}
+use Rattle.shm_table.specs.OpenTable.{Control.{OpenCall, open_parts}, open_plan}
+use Rattle.shm_table.specs.Put.{Control.{PutCall, PutCalls, put_parts}, put_part, put_plan}
 use Rattle.shm_table.specs.PutRoot.Control.{EnterCalls, OpenCalls, PutRootCall, PutRootCalls, ReplaceCalls, put_root_parts}
 use Rattle.shm_table.specs.PutRoot.{Decides, Begins, Leads, Replaces, put_root_part, put_root_plan}
 use Rattle.shm_table.specs.RecvKey.Control.{FetchHeadCalls, RecvCall, RecvCalls, TakeHeadCalls, recv_parts}
-use Rattle.shm_table.specs.RecvKey.{recv_part, recv_plan}
-use Rattle.shm_table.specs.Replace.Control.{ReplaceCall, replace_parts}
-use Rattle.shm_table.specs.Replace.{replace_plan}
-use Rattle.shm_table.specs.TakeHead.Control.{TakeHeadCall, take_head_parts}
-use Rattle.shm_table.specs.TakeHead.{take_head_plan}
-use Rattle.shm_table.specs.Unlink.Control.{UnlinkCall, unlink_parts}
-use Rattle.shm_table.specs.Unlink.{UnlinkCalls, unlink_plan}
+use Rattle.shm_table.specs.{RecvKey.{recv_part, recv_plan}, Replace.Control.{ReplaceCall, replace_parts}}
+use Rattle.shm_table.specs.{Replace.replace_plan, TakeHead.{Control.{TakeHeadCall, take_head_parts}, take_head_plan}}
+use Rattle.shm_table.specs.Unlink.{Control.{UnlinkCall, unlink_parts, UnlinkCalls}, unlink_plan}
+use Rattle.shm_table.specs.declared.enter.EnterPoint.TheVariants as entering
+use Rattle.shm_table.specs.declared.open_table.OpenPoint.TheVariants as opening
 use Rattle.shm_table.proofs.DecidingEvents.{CopyAims, EnterAims, PutAims, RecvAims, RootAims, RootOf, copy_aims, enter_aims, not_shown, put_aims, recv_aims, root_aims}
 
 -- ---- events that change no map

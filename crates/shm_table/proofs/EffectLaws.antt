@@ -2,80 +2,52 @@
 use Rattle.std.proofs.Common.{◌≡◌, ℕ, ◌%◌, Bool, true, false, refl, sym, ap, ◌∙◌}
 use Rattle.std.specs.Prelude.{◌&&◌, ◌==◌, if◌then◌else◌, is_ok, Option, Some, None, Result, Ok, Err}
 use Rattle.shm_words.specs.Layout.{address_limit}
-use Rattle.shm_calls.specs.declared.or.Or.{Or}
-use Rattle.shm_calls.specs.declared.or.Or.TheVariants.{First, Second}
-use Rattle.shm_graph.specs.Laws.{Control}
-use Rattle.shm_calls.specs.CallsControl.{calls_control}
+use Rattle.shm_calls.specs.{declared.or.Or.{Or, TheVariants.{First, Second}}, CallsControl.calls_control}
 use Rattle.shm_calls.specs.Deciding.{Decides, Foretells, calls_decides, calls_foretell, decides_where, either, keeps_decided, mapped_foretells, or_decides, or_foretells}
-use Rattle.shm_calls.specs.Either.{or_control}
-use Rattle.shm_calls.specs.Words.{word_control}
-use Rattle.shm_count.specs.declared.answer.EraSpent.{EraSpent as AnEraSpent}
-use Rattle.shm_count.specs.declared.answer.UpFault.{UpFault}
-use Rattle.shm_count.specs.declared.answer.UpFault.TheVariants.{CountFull, EraSpent}
-use Rattle.shm_count.specs.Step.Control.{step_control}
+use Rattle.shm_calls.specs.{Either.or_control, Words.word_control}
+use Rattle.shm_graph.specs.Laws.{Control}
+use Rattle.shm_count.specs.declared.answer.{EraSpent.EraSpent as AnEraSpent, UpFault.UpFault}
+use Rattle.shm_count.specs.{declared.answer.UpFault.TheVariants.{CountFull, EraSpent}, Step.Control.step_control}
 use Rattle.shm_count.specs.Step.Decides.{down_decides, step_decides, up_decides}
-use Rattle.shm_count.specs.Step.ExchangeMade.{step_exchanged, step_exchanging}
-use Rattle.shm_count.specs.Step.Machines.{down_control, up_control}
+use Rattle.shm_count.specs.Step.{ExchangeMade.{step_exchanged, step_exchanging}, Machines.{down_control, up_control}}
 use Rattle.shm_count.specs.Tear.Control.{tear_control}
 use Rattle.shm_alloc.specs.Alloc.Control.{alloc_control}
-use Rattle.shm_queue.specs.declared.answer.SendFault.{SendFault}
+use Rattle.shm_queue.specs.{declared.answer.SendFault.SendFault, Machines.send}
 use Rattle.shm_queue.specs.declared.answer.SendFault.TheVariants as send_fault
-use Rattle.shm_queue.specs.Machines.{send}
 use Rattle.shm_ref.specs.DropRoots.Control.{drop_root}
 use Rattle.shm_script.specs.declared.log.Answer.{Answer}
 use Rattle.shm_script.specs.declared.log.Answer.TheVariants as answer
-use Rattle.shm_table.specs.declared.answer.PutFault.{PutFault}
-use Rattle.shm_table.specs.declared.copy.CopyState.{CopyState}
-use Rattle.shm_table.specs.declared.del.DelState.{DelState}
-use Rattle.shm_table.specs.declared.enter.Entered.{Entered}
-use Rattle.shm_table.specs.declared.enter.Entered.TheVariants.{Linked, Unlinked, Unmade}
-use Rattle.shm_table.specs.declared.enter.EnterPoint.{EnterPoint}
-use Rattle.shm_table.specs.declared.enter.EnterPoint.TheVariants as enter
-use Rattle.shm_table.specs.declared.enter.EnterState.{EnterState}
+use Rattle.shm_table.specs.declared.{answer.PutFault.PutFault, copy.CopyState.CopyState, del.DelState.DelState}
+use Rattle.shm_table.specs.declared.enter.Entered.{Entered, TheVariants.{Linked, Unlinked, Unmade}}
+use Rattle.shm_table.specs.declared.enter.{EnterPoint.EnterPoint, EnterState.EnterState}
 use Rattle.shm_table.specs.declared.find.Found.TheVariants.{Absent, At}
-use Rattle.shm_table.specs.declared.fetch.Fetched.TheVariants.{Missing, Refused, Rooted}
-use Rattle.shm_table.specs.declared.fetch_head.FetchedHead.TheVariants as head
-use Rattle.shm_table.specs.declared.put.PutState.{PutState}
-use Rattle.shm_table.specs.declared.put_root.PutRootState.{PutRootState}
-use Rattle.shm_table.specs.declared.recv.RecvState.{RecvState}
-use Rattle.shm_table.specs.declared.replace.ReplaceState.{ReplaceState}
-use Rattle.shm_table.specs.declared.send_key.SendKeyState.{SendKeyState}
-use Rattle.shm_table.specs.declared.unlink.UnlinkPoint.{UnlinkPoint}
-use Rattle.shm_table.specs.declared.unlink.UnlinkPoint.TheVariants as unlink
-use Rattle.shm_table.specs.declared.unlink.UnlinkState.{UnlinkState}
-use Rattle.shm_table.specs.Answers.{fault_answer, made_fault, raised_fault}
-use Rattle.shm_table.specs.Machines.Change.{del}
+use Rattle.shm_table.specs.declared.{fetch.Fetched.TheVariants.{Missing, Refused, Rooted}, put.PutState.PutState}
+use Rattle.shm_table.specs.declared.{put_root.PutRootState.PutRootState, recv.RecvState.RecvState}
+use Rattle.shm_table.specs.declared.{replace.ReplaceState.ReplaceState, send_key.SendKeyState.SendKeyState}
+use Rattle.shm_table.specs.declared.unlink.{UnlinkPoint.UnlinkPoint, UnlinkState.UnlinkState}
+use Rattle.shm_table.specs.{Answers.{fault_answer, made_fault, raised_fault}, Machines.{Change.del, Copy.copy_control}}
+use Rattle.shm_table.specs.Machines.{Put.put, Get.get, Recv.recv_control, Send.send_key}
 use Rattle.shm_table.specs.Command.{command_by, command_control, command_effect, command_parts, given}
-use Rattle.shm_table.specs.CopyKey.Control.{CopyAnswer, CopyCalls, copy_parts, fetch_control}
-use Rattle.shm_table.specs.CopyKey.Control as copying
-use Rattle.shm_table.specs.CopyKey.{copy_plan}
-use Rattle.shm_table.specs.Machines.Copy.{copy_control}
-use Rattle.shm_table.specs.Del.Control.{DelCallAnswer, DelCalls, del_parts}
-use Rattle.shm_table.specs.Del.{del_plan}
+use Rattle.shm_table.specs.CopyKey.{Control.{CopyAnswer, CopyCalls, copy_parts, fetch_control, copy_steered}, copy_plan}
+use Rattle.shm_table.specs.Del.{Control.{DelCallAnswer, DelCalls, del_parts, del_steered}, del_plan}
 use Rattle.shm_table.specs.Effects.{copy_at, copy_by, copy_effect, copy_says, del_at, del_by, del_effect, del_says, enter_at, enter_by, ends_with, enter_decided, enter_says, get_effect, is_linked, is_removed, is_sent, links, put_at, put_by, put_effect, put_root_at, put_root_by, put_root_decided, put_root_says, put_says, recv_at, recv_by, recv_effect, recv_says, replace_at, replace_by, replace_decided, replace_says, send_key_at, send_key_by, send_key_effect, send_key_says, settled, unlink_at, unlink_by, unlink_decided, unlink_says}
-use Rattle.shm_table.specs.Enter.Control.{EnterAnswer, enter_call_at, enter_parts, raised_after, raised_turns, valued_by}
-use Rattle.shm_table.specs.Enter.{enter_plan}
-use Rattle.shm_table.specs.Get.Control.{GetCalls, get_parts}
-use Rattle.shm_table.specs.Get.{get_plan}
-use Rattle.shm_table.specs.Locate.{locate_control}
-use Rattle.shm_table.specs.Put.Control.{PutAnswer, PutCalls, put_parts}
-use Rattle.shm_table.specs.Put.Control as putting
-use Rattle.shm_table.specs.Put.{put_plan}
-use Rattle.shm_table.specs.Machines.Put.{put}
-use Rattle.shm_table.specs.PutRoot.Control.{PutRootAnswer, decided_of, enter_control, fault_of, freed_turns, open_control, put_answer, put_root_parts, replace_control, stuck_answer}
-use Rattle.shm_table.specs.PutRoot.{put_root_control, put_root_plan}
-use Rattle.shm_table.specs.Machines.Get.{get}
-use Rattle.shm_table.specs.RecvKey.Control.{RecvAnswer, RecvCalls, fetch_head_control, recv_parts, take_head_control}
-use Rattle.shm_table.specs.RecvKey.{recv_plan}
-use Rattle.shm_table.specs.Machines.Recv.{recv_control}
-use Rattle.shm_table.specs.Replace.Control.{ReplaceAnswer, replace_parts}
+use Rattle.shm_table.specs.Enter.Control.{EnterAnswer, enter_call_at, enter_parts, raised_after, raised_turns, valued_by, enter_steered}
+use Rattle.shm_table.specs.{Enter.enter_plan, Get.Control.{GetCalls, get_parts, get_steered}}
+use Rattle.shm_table.specs.Put.{Control.{PutAnswer, PutCalls, put_parts, put_steered}, put_plan}
+use Rattle.shm_table.specs.PutRoot.Control.{PutRootAnswer, decided_of, enter_control, fault_of, freed_turns, open_control, put_answer, put_root_parts, replace_control, stuck_answer, put_root_steered, put_root_control}
+use Rattle.shm_table.specs.PutRoot.{put_root_plan}
+use Rattle.shm_table.specs.RecvKey.Control.{RecvAnswer, RecvCalls, fetch_head_control, recv_parts, take_head_control, recv_steered}
+use Rattle.shm_table.specs.{RecvKey.recv_plan, Replace.Control.{ReplaceAnswer, replace_parts, replace_steered}}
 use Rattle.shm_table.specs.Replace.{replace_plan}
-use Rattle.shm_table.specs.SendKey.Control.{SendKeyAnswer, SendKeyCalls, send_key_parts, sent_answer}
-use Rattle.shm_table.specs.SendKey.{send_key_plan}
-use Rattle.shm_table.specs.Machines.Send.{send_key}
-use Rattle.shm_table.specs.Unlatch.{unlatch_control}
-use Rattle.shm_table.specs.Unlink.Control.{UnlinkAnswer, unlink_call_at, unlink_parts}
-use Rattle.shm_table.specs.Unlink.{unlink_control, unlink_plan}
+use Rattle.shm_table.specs.SendKey.Control.{SendKeyAnswer, SendKeyCalls, send_key_parts, sent_answer, send_key_steered}
+use Rattle.shm_table.specs.{SendKey.send_key_plan, Unlatch.unlatch_control}
+use Rattle.shm_table.specs.Unlink.Control.{UnlinkAnswer, unlink_call_at, unlink_parts, unlink_steered, unlink_control}
+use Rattle.shm_table.specs.{Unlink.unlink_plan, Locate.Control.locate_control}
+use Rattle.shm_table.specs.declared.enter.EnterPoint.TheVariants as enter
+use Rattle.shm_table.specs.declared.fetch_head.FetchedHead.TheVariants as head
+use Rattle.shm_table.specs.declared.unlink.UnlinkPoint.TheVariants as unlink
+use Rattle.shm_table.specs.CopyKey.Control as copying
+use Rattle.shm_table.specs.Put.Control as putting
 
 -- what is told of an answer is told of the one that it is
 same_told : {A : Type 0} (tells : A → Bool) (x a : A) → Some x ≡ Some a → tells a ≡ tells x
@@ -92,7 +64,7 @@ replace_calls m =
 pub replace_decides : Decides replace_control replace_decided (λ m n. replace_by m.plan m.call n) decided_of
 replace_decides = calls_decides replace_parts replace_plan replace_at replace_by replace_says decided_of (record { calls = replace_calls; goes = goes }) ends
   where
-    goes : (m : ReplaceState) (b : ReplaceAnswer) → replace_plan.turns m b ≡ None → replace_at (replace_plan.after m b) (replace_plan.call (replace_plan.after m b)) ≡ replace_says m b
+    goes : (m : ReplaceState) (b : ReplaceAnswer) → replace_steered.turns m b ≡ None → replace_at (replace_steered.after m b) (replace_steered.call (replace_steered.after m b)) ≡ replace_says m b
     goes m (First n) e = refl
     goes m (Second (First (Ok true))) e = refl
     goes m (Second (First (Ok false))) e = cc
@@ -103,7 +75,7 @@ replace_decides = calls_decides replace_parts replace_plan replace_at replace_by
     there true a e = same_told decided_of (Ok false) a e
     there false a e = cc
 
-    ends : (m : ReplaceState) (b : ReplaceAnswer) (a : Result Bool PutFault) → replace_plan.turns m b ≡ Some a → decided_of a ≡ replace_says m b
+    ends : (m : ReplaceState) (b : ReplaceAnswer) (a : Result Bool PutFault) → replace_steered.turns m b ≡ Some a → decided_of a ≡ replace_says m b
     ends m (First n) a e = there (n % address_limit == m.to) a e
     ends m (Second (First (Ok true))) a e = cc
     ends m (Second (First (Ok false))) a e = same_told decided_of (Ok true) a e
@@ -132,7 +104,7 @@ enter_decides = calls_decides enter_parts enter_plan enter_at enter_by enter_say
     raised m enter.Next e = refl
     raised m y e = cc
 
-    goes : (m : EnterState) (b : EnterAnswer) → enter_plan.turns m b ≡ None → enter_at (enter_plan.after m b) (enter_plan.call (enter_plan.after m b)) ≡ enter_says m b
+    goes : (m : EnterState) (b : EnterAnswer) → enter_steered.turns m b ≡ None → enter_at (enter_steered.after m b) (enter_steered.call (enter_steered.after m b)) ≡ enter_says m b
     goes m (First (Ok made)) e = refl
     goes m (First (Err f)) e = cc
     goes m (Second (First (Ok done))) e = raised m m.point e
@@ -149,7 +121,7 @@ enter_decides = calls_decides enter_parts enter_plan enter_at enter_by enter_say
     no_link true = refl
     no_link false = refl
 
-    ends : (m : EnterState) (b : EnterAnswer) (a : Entered) → enter_plan.turns m b ≡ Some a → is_linked a ≡ enter_says m b
+    ends : (m : EnterState) (b : EnterAnswer) (a : Entered) → enter_steered.turns m b ≡ Some a → is_linked a ≡ enter_says m b
     ends m (First (Ok made)) a e = cc
     ends m (First (Err f)) a e = same_told is_linked (Unmade (made_fault f)) a e
     ends m (Second (First (Ok done))) a e = raised_ends m m.point a e
@@ -174,8 +146,8 @@ unlink_decides = calls_decides unlink_parts unlink_plan unlink_at unlink_by unli
     looked m true = refl
     looked m false = refl
 
-    goes : (m : UnlinkState) (b : UnlinkAnswer) → unlink_plan.turns m b ≡ None → unlink_at (unlink_plan.after m b) (unlink_plan.call (unlink_plan.after m b)) ≡ unlink_says m b
-    goes m (First n) e = looked (unlink_plan.after m (First n)) (n % address_limit == 0)
+    goes : (m : UnlinkState) (b : UnlinkAnswer) → unlink_steered.turns m b ≡ None → unlink_at (unlink_steered.after m b) (unlink_steered.call (unlink_steered.after m b)) ≡ unlink_says m b
+    goes m (First n) e = looked (unlink_steered.after m (First n)) (n % address_limit == 0)
     goes m (Second (First (Ok true))) e = refl
     goes m (Second (First (Ok false))) e = cc
     goes m (Second (First (Err f))) e = cc
@@ -184,7 +156,7 @@ unlink_decides = calls_decides unlink_parts unlink_plan unlink_at unlink_by unli
     goes m (Second (Second (First (Err f)))) e = cc
     goes m (Second (Second (Second a))) e = cc
 
-    ends : (m : UnlinkState) (b : UnlinkAnswer) (a : Result (Unit {0}) UpFault) → unlink_plan.turns m b ≡ Some a → is_ok a ≡ unlink_says m b
+    ends : (m : UnlinkState) (b : UnlinkAnswer) (a : Result (Unit {0}) UpFault) → unlink_steered.turns m b ≡ Some a → is_ok a ≡ unlink_says m b
     ends m (First n) a e = cc
     ends m (Second (First (Ok true))) a e = cc
     ends m (Second (First (Ok false))) a e = same_told is_ok (Ok tt) a e
@@ -209,7 +181,7 @@ put_root_calls m =
 pub put_root_decides : Decides put_root_control put_root_decided (λ m n. put_root_by m.plan m.call n) decided_of
 put_root_decides = calls_decides put_root_parts put_root_plan put_root_at put_root_by put_root_says decided_of (record { calls = put_root_calls; goes = goes }) ends
   where
-    goes : (m : PutRootState) (b : PutRootAnswer) → put_root_plan.turns m b ≡ None → put_root_at (put_root_plan.after m b) (put_root_plan.call (put_root_plan.after m b)) ≡ put_root_says m b
+    goes : (m : PutRootState) (b : PutRootAnswer) → put_root_steered.turns m b ≡ None → put_root_at (put_root_steered.after m b) (put_root_steered.call (put_root_steered.after m b)) ≡ put_root_says m b
     goes m (First (First (Ok done))) e = refl
     goes m (First (First (Err f))) e = cc
     goes m (First (Second (At entry before word))) e = refl
@@ -235,7 +207,7 @@ put_root_decides = calls_decides put_root_parts put_root_plan put_root_at put_ro
     stuck z None x = refl
     stuck z (Some f) x = refl
 
-    ends : (m : PutRootState) (b : PutRootAnswer) (a : Result Bool PutFault) → put_root_plan.turns m b ≡ Some a → decided_of a ≡ put_root_says m b
+    ends : (m : PutRootState) (b : PutRootAnswer) (a : Result Bool PutFault) → put_root_steered.turns m b ≡ Some a → decided_of a ≡ put_root_says m b
     ends m (First (First (Ok done))) a e = cc
     ends m (First (First (Err f))) a e = same_told decided_of (Err f) a e
     ends m (First (Second found)) a e = cc
@@ -257,17 +229,17 @@ put_calls m =
     (keeps_decided alloc_control false)
     (or_decides put_root_control drop_root put_root_decided (λ c. settled m.decided m.refused) (λ c. put_root_by c.plan c.call) (λ c n. false) decided_of (λ a. settled m.decided m.refused) put_root_decides (keeps_decided drop_root (settled m.decided m.refused)))
 
-pub put_foretells : Foretells (calls_control put_parts put_plan) (λ a. a) put_effect (λ m n. put_by m.plan m.call n)
+pub put_foretells : Foretells (calls_control put_parts put_steered) (λ a. a) put_effect (λ m n. put_by m.plan m.call n)
 put_foretells = calls_foretell put_parts put_plan put_at put_by put_says (λ a. a) (λ m. answer.Stored m.block) (record { decides = record { calls = put_calls; goes = goes }; same = same; ends = ends })
   where
-    goes : (m : PutState) (b : PutAnswer) → put_plan.turns m b ≡ None → put_at (put_plan.after m b) (put_plan.call (put_plan.after m b)) ≡ put_says m b
+    goes : (m : PutState) (b : PutAnswer) → put_steered.turns m b ≡ None → put_at (put_steered.after m b) (put_steered.call (put_steered.after m b)) ≡ put_says m b
     goes m (First (Ok made)) e = refl
     goes m (First (Err f)) e = cc
     goes m (Second (First done)) e = told_settled done
     goes m (Second (Second (Ok z))) e = cc
     goes m (Second (Second (Err x))) e = cc
 
-    same : (m : PutState) (b : PutAnswer) → put_says m b ≡ true → put_plan.turns m b ≡ None → answer.Stored (put_plan.after m b).block ≡ answer.Stored m.block
+    same : (m : PutState) (b : PutAnswer) → put_says m b ≡ true → put_steered.turns m b ≡ None → answer.Stored (put_steered.after m b).block ≡ answer.Stored m.block
     same m (First a) d e = cc
     same m (Second (First done)) d e = refl
     same m (Second (Second a)) d e = refl
@@ -280,7 +252,7 @@ put_foretells = calls_foretell put_parts put_plan put_at put_by put_says (λ a. 
     stuck z None b x d = refl
     stuck z (Some f) b x d = cc
 
-    ends : (m : PutState) (b : PutAnswer) (a : Answer) → put_says m b ≡ true → put_plan.turns m b ≡ Some a → a ≡ answer.Stored m.block
+    ends : (m : PutState) (b : PutAnswer) (a : Answer) → put_says m b ≡ true → put_steered.turns m b ≡ Some a → a ≡ answer.Stored m.block
     ends m (First b) a d e = cc
     ends m (Second (First done)) a d e = cc
     ends m (Second (Second (Ok z))) a d e = let i : a ≡ putting.put_answer m.block m.refused = cc in i ∙ given m.decided m.refused m.block d
@@ -303,10 +275,10 @@ settled_stuck : (z : Bool) (f : Option PutFault) (n b : ℕ) (x : AnEraSpent) �
 settled_stuck z None n b x d = refl
 settled_stuck z (Some f) n b x d = cc
 
-pub copy_foretells : Foretells (calls_control copy_parts copy_plan) (λ a. a) copy_effect (λ m n. copy_by m.plan m.call n)
+pub copy_foretells : Foretells (calls_control copy_parts copy_steered) (λ a. a) copy_effect (λ m n. copy_by m.plan m.call n)
 copy_foretells = calls_foretell copy_parts copy_plan copy_at copy_by copy_says (λ a. a) (λ m. answer.Value m.number m.block) (record { decides = record { calls = copy_calls; goes = goes }; same = same; ends = ends })
   where
-    goes : (m : CopyState) (b : CopyAnswer) → copy_plan.turns m b ≡ None → copy_at (copy_plan.after m b) (copy_plan.call (copy_plan.after m b)) ≡ copy_says m b
+    goes : (m : CopyState) (b : CopyAnswer) → copy_steered.turns m b ≡ None → copy_at (copy_steered.after m b) (copy_steered.call (copy_steered.after m b)) ≡ copy_says m b
     goes m (First Missing) e = cc
     goes m (First (Refused f)) e = cc
     goes m (First (Rooted k b n)) e = refl
@@ -314,12 +286,12 @@ copy_foretells = calls_foretell copy_parts copy_plan copy_at copy_by copy_says (
     goes m (Second (Second (Ok z))) e = cc
     goes m (Second (Second (Err x))) e = cc
 
-    same : (m : CopyState) (b : CopyAnswer) → copy_says m b ≡ true → copy_plan.turns m b ≡ None → answer.Value (copy_plan.after m b).number (copy_plan.after m b).block ≡ answer.Value m.number m.block
+    same : (m : CopyState) (b : CopyAnswer) → copy_says m b ≡ true → copy_steered.turns m b ≡ None → answer.Value (copy_steered.after m b).number (copy_steered.after m b).block ≡ answer.Value m.number m.block
     same m (First a) d e = cc
     same m (Second (First done)) d e = refl
     same m (Second (Second a)) d e = refl
 
-    ends : (m : CopyState) (b : CopyAnswer) (a : Answer) → copy_says m b ≡ true → copy_plan.turns m b ≡ Some a → a ≡ answer.Value m.number m.block
+    ends : (m : CopyState) (b : CopyAnswer) (a : Answer) → copy_says m b ≡ true → copy_steered.turns m b ≡ Some a → a ≡ answer.Value m.number m.block
     ends m (First b) a d e = cc
     ends m (Second (First done)) a d e = cc
     ends m (Second (Second (Ok z))) a d e = let i : a ≡ copying.copy_answer m.number m.block m.refused = cc in i ∙ settled_given m.decided m.refused m.number m.block d
@@ -333,14 +305,14 @@ del_calls m =
     (keeps_decided locate_control false)
     (or_decides unlink_control unlatch_control unlink_decided (λ c. is_removed m.answer) (λ c. unlink_by c.plan c.call) (λ c n. false) is_ok (λ a. is_removed m.answer) unlink_decides (keeps_decided unlatch_control (is_removed m.answer)))
 
-pub del_foretells : Foretells (calls_control del_parts del_plan) (λ a. a) del_effect (λ m n. del_by m.plan m.call n)
+pub del_foretells : Foretells (calls_control del_parts del_steered) (λ a. a) del_effect (λ m n. del_by m.plan m.call n)
 del_foretells = calls_foretell del_parts del_plan del_at del_by del_says (λ a. a) (λ m. answer.Ok) (record { decides = record { calls = del_calls; goes = goes }; same = λ m b d e. refl; ends = ends })
   where
     refused : (f : UpFault) → is_removed (fault_answer (raised_fault f)) ≡ false
     refused (EraSpent e) = refl
     refused (CountFull b n) = refl
 
-    goes : (m : DelState) (b : DelCallAnswer) → del_plan.turns m b ≡ None → del_at (del_plan.after m b) (del_plan.call (del_plan.after m b)) ≡ del_says m b
+    goes : (m : DelState) (b : DelCallAnswer) → del_steered.turns m b ≡ None → del_at (del_steered.after m b) (del_steered.call (del_steered.after m b)) ≡ del_says m b
     goes m (First (Absent home first)) e = refl
     goes m (First (At entry before word)) e = refl
     goes m (Second (First (Ok done))) e = refl
@@ -351,7 +323,7 @@ del_foretells = calls_foretell del_parts del_plan del_at del_by del_says (λ a. 
     is_gone answer.Ok d = refl
     is_gone a d = cc
 
-    ends : (m : DelState) (b : DelCallAnswer) (a : Answer) → del_says m b ≡ true → del_plan.turns m b ≡ Some a → a ≡ answer.Ok
+    ends : (m : DelState) (b : DelCallAnswer) (a : Answer) → del_says m b ≡ true → del_steered.turns m b ≡ Some a → a ≡ answer.Ok
     ends m (First found) a d e = cc
     ends m (Second (First done)) a d e = cc
     ends m (Second (Second done)) a d e = let i : a ≡ m.answer = cc in i ∙ is_gone m.answer d
@@ -371,7 +343,7 @@ send_key_calls m =
     (keeps_decided word_control false)
     (or_decides send unlatch_control (λ c. false) (λ c. is_sent m.outcome) (λ c n. ends_with is_ok (send.turns c n)) (λ c n. false) is_ok (λ a. is_sent m.outcome) (last_decides send is_ok) (keeps_decided unlatch_control (is_sent m.outcome))))
 
-pub send_key_foretells : Foretells (calls_control send_key_parts send_key_plan) (λ a. a) send_key_effect (λ m n. send_key_by m.plan m.call n)
+pub send_key_foretells : Foretells (calls_control send_key_parts send_key_steered) (λ a. a) send_key_effect (λ m n. send_key_by m.plan m.call n)
 send_key_foretells = calls_foretell send_key_parts send_key_plan send_key_at send_key_by send_key_says (λ a. a) (λ m. answer.Ok) (record { decides = record { calls = send_key_calls; goes = goes }; same = λ m b d e. refl; ends = ends })
   where
     refused : (f : SendFault) → is_sent (sent_answer (Err f)) ≡ false
@@ -379,7 +351,7 @@ send_key_foretells = calls_foretell send_key_parts send_key_plan send_key_at sen
     refused (send_fault.EraSpent e) = refl
     refused (send_fault.CountFull b n) = refl
 
-    goes : (m : SendKeyState) (b : SendKeyAnswer) → send_key_plan.turns m b ≡ None → send_key_at (send_key_plan.after m b) (send_key_plan.call (send_key_plan.after m b)) ≡ send_key_says m b
+    goes : (m : SendKeyState) (b : SendKeyAnswer) → send_key_steered.turns m b ≡ None → send_key_at (send_key_steered.after m b) (send_key_steered.call (send_key_steered.after m b)) ≡ send_key_says m b
     goes m (First (Absent home first)) e = refl
     goes m (First (At entry before word)) e = refl
     goes m (Second (First n)) e = refl
@@ -391,7 +363,7 @@ send_key_foretells = calls_foretell send_key_parts send_key_plan send_key_at sen
     is_gone answer.Ok d = refl
     is_gone a d = cc
 
-    ends : (m : SendKeyState) (b : SendKeyAnswer) (a : Answer) → send_key_says m b ≡ true → send_key_plan.turns m b ≡ Some a → a ≡ answer.Ok
+    ends : (m : SendKeyState) (b : SendKeyAnswer) (a : Answer) → send_key_says m b ≡ true → send_key_steered.turns m b ≡ Some a → a ≡ answer.Ok
     ends m (First found) a d e = cc
     ends m (Second (First n)) a d e = cc
     ends m (Second (Second (First b))) a d e = cc
@@ -406,10 +378,10 @@ recv_calls m =
     (or_decides fetch_head_control take_head_control (λ c. false) (λ c. settled m.decided m.refused) (λ c n. false) (λ c n. false) (λ a. false) (λ a. settled m.decided m.refused) (keeps_decided fetch_head_control false) (keeps_decided take_head_control (settled m.decided m.refused)))
     (or_decides put_root_control drop_root put_root_decided (λ c. settled m.decided m.refused) (λ c. put_root_by c.plan c.call) (λ c n. false) decided_of (λ a. settled m.decided m.refused) put_root_decides (keeps_decided drop_root (settled m.decided m.refused)))
 
-pub recv_foretells : Foretells (calls_control recv_parts recv_plan) (λ a. a) recv_effect (λ m n. recv_by m.plan m.call n)
+pub recv_foretells : Foretells (calls_control recv_parts recv_steered) (λ a. a) recv_effect (λ m n. recv_by m.plan m.call n)
 recv_foretells = calls_foretell recv_parts recv_plan recv_at recv_by recv_says (λ a. a) (λ m. answer.Value m.number m.block) (record { decides = record { calls = recv_calls; goes = goes }; same = same; ends = ends })
   where
-    goes : (m : RecvState) (b : RecvAnswer) → recv_plan.turns m b ≡ None → recv_at (recv_plan.after m b) (recv_plan.call (recv_plan.after m b)) ≡ recv_says m b
+    goes : (m : RecvState) (b : RecvAnswer) → recv_steered.turns m b ≡ None → recv_at (recv_steered.after m b) (recv_steered.call (recv_steered.after m b)) ≡ recv_says m b
     goes m (First (First (head.Empty n))) e = cc
     goes m (First (First (head.Refused f))) e = cc
     goes m (First (First (head.Rooted k b v n))) e = refl
@@ -419,14 +391,14 @@ recv_foretells = calls_foretell recv_parts recv_plan recv_at recv_by recv_says (
     goes m (Second (Second (Ok z))) e = cc
     goes m (Second (Second (Err x))) e = cc
 
-    same : (m : RecvState) (b : RecvAnswer) → recv_says m b ≡ true → recv_plan.turns m b ≡ None → answer.Value (recv_plan.after m b).number (recv_plan.after m b).block ≡ answer.Value m.number m.block
+    same : (m : RecvState) (b : RecvAnswer) → recv_says m b ≡ true → recv_steered.turns m b ≡ None → answer.Value (recv_steered.after m b).number (recv_steered.after m b).block ≡ answer.Value m.number m.block
     same m (First (First a)) d e = cc
     same m (First (Second a)) d e = refl
     same m (Second (First (Ok z))) d e = refl
     same m (Second (First (Err f))) d e = refl
     same m (Second (Second a)) d e = refl
 
-    ends : (m : RecvState) (b : RecvAnswer) (a : Answer) → recv_says m b ≡ true → recv_plan.turns m b ≡ Some a → a ≡ answer.Value m.number m.block
+    ends : (m : RecvState) (b : RecvAnswer) (a : Answer) → recv_says m b ≡ true → recv_steered.turns m b ≡ Some a → a ≡ answer.Value m.number m.block
     ends m (First (First b)) a d e = cc
     ends m (First (Second b)) a d e = cc
     ends m (Second (First b)) a d e = cc
@@ -435,7 +407,7 @@ recv_foretells = calls_foretell recv_parts recv_plan recv_at recv_by recv_says (
 
 -- ---- reading what a key has
 
-pub get_foretells : Foretells (calls_control get_parts get_plan) (λ a. a) get_effect (λ m n. false)
+pub get_foretells : Foretells (calls_control get_parts get_steered) (λ a. a) get_effect (λ m n. false)
 get_foretells = record { goes = λ m n e. refl; stays = λ m n x i e. cc; answers = λ m n x a i e. cc }
 
 -- ---- a command of a line

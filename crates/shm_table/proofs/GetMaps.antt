@@ -1,51 +1,31 @@
 -- a get that answered a number and a block in a run: where it loads the value word of the entry the author's map has them at the key
 use Rattle.std.specs.Option.{option_map}
 use Rattle.std.proofs.Common.{◌≡◌, ℕ, ◌<◌, ◌%◌, refl, sym, ap, ◌∙◌, subst, append_assoc, List, [], ◌∷◌, ◌++◌, Option, Some, None}
-use Rattle.shm_words.specs.declared.geometry.Geometry.{Geometry}
-use Rattle.shm_words.specs.Layout.{address_limit}
-use Rattle.shm_graph.specs.declared.ask.Me.{Me}
-use Rattle.shm_graph.specs.declared.memo.Memo.{Memo}
-use Rattle.shm_graph.specs.declared.memo.Seen.{Seen}
-use Rattle.shm_graph.specs.declared.memo.Step.{Step}
-use Rattle.shm_graph.specs.declared.run.Move.{Move}
-use Rattle.shm_graph.specs.declared.run.Move.TheVariants.{Word}
-use Rattle.shm_graph.specs.declared.spot.Spot.TheVariants.{Body}
-use Rattle.shm_graph.specs.Asks.{Trail}
-use Rattle.shm_graph.specs.Runs.{Held, IsMove, State, Turned, memos_of, moved}
-use Rattle.shm_graph.specs.Spots.{see}
+use Rattle.shm_words.specs.{declared.geometry.Geometry.Geometry, Layout.address_limit}
+use Rattle.shm_graph.specs.declared.{ask.Me.Me, memo.{Memo.Memo, Seen.Seen, Step.Step}, run.Move.Move}
+use Rattle.shm_graph.specs.{declared.{run.Move.TheVariants.Word, spot.Spot.TheVariants.Body}, Asks.Trail}
+use Rattle.shm_graph.specs.{Runs.{Held, IsMove, State, Turned, memos_of, moved}, Spots.see}
 use Rattle.shm_graph.specs.Tells.{GoesOn, after_all, machine_steps}
 use Rattle.shm_graph.proofs.Runs.Running.{Leads-append}
-use Rattle.shm_calls.specs.declared.or.Or.TheVariants.{First, Second}
-use Rattle.shm_calls.specs.CallsControl.{answered, called_on, calls_of}
-use Rattle.shm_calls.specs.CallsFit.{CallsFits, CallsGives}
-use Rattle.shm_calls.specs.CallsKeep.{calls_begin, calls_laws}
+use Rattle.shm_calls.specs.{declared.or.Or.TheVariants.{First, Second}, CallsControl.{answered, called_on, calls_of}}
+use Rattle.shm_calls.specs.{CallsFit.{CallsFits, CallsGives}, CallsKeep.{calls_begin, calls_laws}}
 use Rattle.shm_count.specs.Calling.{IsCall}
 use Rattle.shm_steps.specs.Reparting.{map_in}
-use Rattle.shm_script.specs.declared.line.Line.TheVariants as line
 use Rattle.shm_script.specs.declared.log.Answer.{Answer}
+use Rattle.shm_script.specs.declared.line.Line.TheVariants as line
 use Rattle.shm_script.specs.declared.log.Answer.TheVariants as answer
-use Rattle.shm_table.specs.declared.find.Found.{Found}
-use Rattle.shm_table.specs.declared.find.Found.TheVariants.{Absent, At}
-use Rattle.shm_table.specs.declared.get.GetPoint.{GetPoint}
+use Rattle.shm_table.specs.declared.{find.Found.{Found, TheVariants.{Absent, At}}, get.GetPoint.GetPoint}
 use Rattle.shm_table.specs.declared.get.GetPoint.TheVariants.{Search, Value, Number, Missing, Known}
-use Rattle.shm_table.specs.declared.get.GetState.{GetState}
-use Rattle.shm_table.specs.Command.{CommandCall, command_control, command_of, given}
-use Rattle.shm_table.specs.Find.Control.{word_ask}
-use Rattle.shm_table.specs.Find.{IsLook}
+use Rattle.shm_table.specs.{declared.get.GetState.GetState, Command.{CommandCall, command_control, command_of, given}}
+use Rattle.shm_table.specs.Find.{Control.word_ask, IsLook}
 use Rattle.shm_table.specs.Find.Tells.{HasKey, HasRead, author_has, author_maps, author_names, author_value}
-use Rattle.shm_table.specs.Get.Control.{GetAnswer, GetCall, GetCalls, get_answer, get_parts, getting}
-use Rattle.shm_table.specs.Get.Finding.{FindsAt, IsAnswered}
-use Rattle.shm_table.specs.Get.{get_plan}
-use Rattle.shm_table.specs.Get.Laws.{get_begin, get_laws}
+use Rattle.shm_table.specs.Get.Control.{GetAnswer, GetCall, GetCalls, get_answer, get_parts, getting, get_steered}
+use Rattle.shm_table.specs.Get.{Finding.{FindsAt, IsAnswered}, get_plan, Laws.{get_begin, get_laws}}
 use Rattle.shm_table.specs.Get.Tells.{HasNamed, IsReady, named_shown, ready_told}
-use Rattle.shm_table.specs.Locate.Control.{locating}
-use Rattle.shm_table.specs.Locate.{LocateCalls, MayLocate, locate_control, locate_plan}
-use Rattle.shm_table.specs.Machines.Get.{get}
-use Rattle.shm_table.specs.Unlatch.{UnlatchCalls, unlatch_control, unlatch_plan, unlatching}
-use Rattle.shm_table.proofs.CallStates.{IsCalled, IsNext, comes, next_step}
-use Rattle.shm_table.proofs.DecidingEvents.{kept_along}
-use Rattle.shm_table.proofs.Running.Roots.{start_kept}
-use Rattle.shm_table.proofs.ValueWords.{word_stays}
+use Rattle.shm_table.specs.Locate.{Control.{locating, locate_steered, LocateCalls, locate_control}, MayLocate}
+use Rattle.shm_table.specs.{Machines.Get.get, Unlatch.{UnlatchCalls, unlatch_control, unlatching, unlatch_steered}}
+use Rattle.shm_table.proofs.{CallStates.{IsCalled, IsNext, comes, next_step}, DecidingEvents.kept_along}
+use Rattle.shm_table.proofs.{Running.Roots.start_kept, ValueWords.word_stays}
 use Rattle.shm_table.proofs.Within.{answered_within, goes_within, steps_within}
 
 -- ---- by the control: which word steps it makes where it answers a number and a block
@@ -80,7 +60,7 @@ reads_before : (m : GetCalls) (x : Seen) (tr : Trail) (n v : ℕ) → Reads (get
 reads_before m w tr n v h = record { t = w ∷ h.t; y = h.y; x = h.x; z = h.z; u = h.u; split = ap (λ ys. w ∷ ys) h.split; asks = h.asks; same = h.same; named = h.named; block = h.block; ready = h.ready; has = h.has }
 
 -- where it answers them, it has them
-answers_them : (p : GetState) (o : Option GetAnswer) (n v : ℕ) → answered get_parts get_plan p o ≡ Some (answer.Value n v) → Has p n v
+answers_them : (p : GetState) (o : Option GetAnswer) (n v : ℕ) → answered get_parts get_steered p o ≡ Some (answer.Value n v) → Has p n v
 answers_them p None n v e = cc
 answers_them p (Some (First f)) n v e = cc
 answers_them p (Some (Second (First w))) n v e = cc
@@ -95,10 +75,10 @@ answers_them p (Some (Second (Second done))) n v e = of p.point refl e
 
 -- where it is once the giving back of the latch, or the search, gave this
 abbrev given_back : GetState → UnlatchCalls → Option (Unit {0}) → GetCalls
-given_back p c o = called_on get_parts get_plan p (Second (Second c)) (option_map Second (option_map Second o))
+given_back p c o = called_on get_parts get_steered p (Second (Second c)) (option_map Second (option_map Second o))
 
 abbrev searched : GetState → LocateCalls → Option Found → GetCalls
-searched p c o = called_on get_parts get_plan p (First c) (option_map First o)
+searched p c o = called_on get_parts get_steered p (First c) (option_map First o)
 
 -- while it gives back the latch
 giving_back : (p : GetState) (c : UnlatchCalls) (tr : Trail) (n v : ℕ) → GoesOn get (at p (Second (Second c))) tr → IsAnswered get (at p (Second (Second c))) tr (answer.Value n v) → Has p n v
@@ -106,7 +86,7 @@ giving_back p c [] n v on ends = absurd ends
 giving_back p c (x ∷ []) n v on ends = answers_them p (get_parts.turns (Second (Second c)) x.word) n v ends
 giving_back p c (x ∷ y ∷ tr) n v on ends = go (λ g a. giving_back p (unlatch_control.after c x.word) (y ∷ tr) n v g a) (unlatch_control.turns c x.word) on.1.0 on.1.1 ends
   where
-    go : (GoesOn get (given_back p (unlatch_control.after c x.word) None) (y ∷ tr) → IsAnswered get (given_back p (unlatch_control.after c x.word) None) (y ∷ tr) (answer.Value n v) → Has p n v) → (o : Option (Unit {0})) → answered get_parts get_plan p (option_map Second (option_map Second o)) ≡ None → GoesOn get (given_back p (unlatch_control.after c x.word) o) (y ∷ tr) → IsAnswered get (given_back p (unlatch_control.after c x.word) o) (y ∷ tr) (answer.Value n v) → Has p n v
+    go : (GoesOn get (given_back p (unlatch_control.after c x.word) None) (y ∷ tr) → IsAnswered get (given_back p (unlatch_control.after c x.word) None) (y ∷ tr) (answer.Value n v) → Has p n v) → (o : Option (Unit {0})) → answered get_parts get_steered p (option_map Second (option_map Second o)) ≡ None → GoesOn get (given_back p (unlatch_control.after c x.word) o) (y ∷ tr) → IsAnswered get (given_back p (unlatch_control.after c x.word) o) (y ∷ tr) (answer.Value n v) → Has p n v
     go rest None e g a = rest g a
     go rest (Some done) e g a = cc
 
@@ -114,14 +94,14 @@ giving_back p c (x ∷ y ∷ tr) n v on ends = go (λ g a. giving_back p (unlatc
 abbrev numbering : GetState → ℕ → GetState
 numbering p v = record p { block = v; point = Number }
 
-number_read : (p : GetState) (v : ℕ) (x z : Seen) (u : Trail) (n b : ℕ) → GoesOn get (calls_of get_plan (numbering p v)) (x ∷ z ∷ u) → IsAnswered get (calls_of get_plan (numbering p v)) (x ∷ z ∷ u) (answer.Value n b) → Has (record p { block = v; number = x.word; point = Known }) n b
-number_read p v x z u n b on ends = giving_back (record p { block = v; number = x.word; point = Known }) (calls_of unlatch_plan (unlatching p.me p.author)) (z ∷ u) n b on.1.1 ends
+number_read : (p : GetState) (v : ℕ) (x z : Seen) (u : Trail) (n b : ℕ) → GoesOn get (calls_of get_steered (numbering p v)) (x ∷ z ∷ u) → IsAnswered get (calls_of get_steered (numbering p v)) (x ∷ z ∷ u) (answer.Value n b) → Has (record p { block = v; number = x.word; point = Known }) n b
+number_read p v x z u n b on ends = giving_back (record p { block = v; number = x.word; point = Known }) (calls_of unlatch_steered (unlatching p.me p.author)) (z ∷ u) n b on.1.1 ends
 
 -- the load of the value word of an entry, and then the number
 abbrev valuing : GetState → ℕ → GetState
 valuing p e = record p { entry = e; point = Value }
 
-value_read : (p : GetState) (e : ℕ) (tr : Trail) (n v : ℕ) → GoesOn get (calls_of get_plan (valuing p e)) tr → IsAnswered get (calls_of get_plan (valuing p e)) tr (answer.Value n v) → Reads (calls_of get_plan (valuing p e)) tr n v
+value_read : (p : GetState) (e : ℕ) (tr : Trail) (n v : ℕ) → GoesOn get (calls_of get_steered (valuing p e)) tr → IsAnswered get (calls_of get_steered (valuing p e)) tr (answer.Value n v) → Reads (calls_of get_steered (valuing p e)) tr n v
 value_read p e [] n v on ends = absurd ends
 value_read p e (y ∷ []) n v on ends = cc
 value_read p e (y ∷ x ∷ []) n v on ends = cc
@@ -134,7 +114,7 @@ searching : (p : GetState) (c : LocateCalls) (tr : Trail) (n v : ℕ) → GoesOn
 searching p c [] n v on ends = absurd ends
 searching p c (x ∷ []) n v on ends = last (locate_control.turns c x.word) ends
   where
-    last : (o : Option Found) → answered get_parts get_plan p (option_map First o) ≡ Some (answer.Value n v) → Reads (at p (First c)) (x ∷ []) n v
+    last : (o : Option Found) → answered get_parts get_steered p (option_map First o) ≡ Some (answer.Value n v) → Reads (at p (First c)) (x ∷ []) n v
     last None e = cc
     last (Some f) e = cc
 searching p c (x ∷ y ∷ tr) n v on ends = reads_before (at p (First c)) x (y ∷ tr) n v (go (λ g a. searching p (locate_control.after c x.word) (y ∷ tr) n v g a) (locate_control.turns c x.word) on.1.1 ends)
@@ -145,7 +125,7 @@ searching p c (x ∷ y ∷ tr) n v on ends = reads_before (at p (First c)) x (y 
     go : (GoesOn get (searched p (locate_control.after c x.word) None) (y ∷ tr) → IsAnswered get (searched p (locate_control.after c x.word) None) (y ∷ tr) (answer.Value n v) → Reads (searched p (locate_control.after c x.word) None) (y ∷ tr) n v) → (o : Option Found) → GoesOn get (searched p (locate_control.after c x.word) o) (y ∷ tr) → IsAnswered get (searched p (locate_control.after c x.word) o) (y ∷ tr) (answer.Value n v) → Reads (searched p (locate_control.after c x.word) o) (y ∷ tr) n v
     go rest None g a = rest g a
     go rest (Some (At e b w)) g a = value_read p (e % address_limit) (y ∷ tr) n v g a
-    go rest (Some (Absent home first)) g a = absurd (nowhere (giving_back (record p { point = Missing }) (calls_of unlatch_plan (unlatching p.me p.author)) (y ∷ tr) n v g a))
+    go rest (Some (Absent home first)) g a = absurd (nowhere (giving_back (record p { point = Missing }) (calls_of unlatch_steered (unlatching p.me p.author)) (y ∷ tr) n v g a))
 
 -- ---- in a run
 
@@ -159,7 +139,7 @@ one_number i j d o e f = ap number_of {x = Some (i, d)} {y = Some (j, d)} (sym e
 
 module _ (me : Me) (author key : ℕ) (low : me.who < me.geometry.clients) (b : State) (r0 : Memo) where
   abbrev m : GetCalls
-  m = calls_of get_plan (getting me author key)
+  m = calls_of get_steered (getting me author key)
 
   abbrev g : Geometry
   g = me.geometry
@@ -171,8 +151,8 @@ module _ (me : Me) (author key : ℕ) (low : me.who < me.geometry.clients) (b : 
   Next = IsNext get (CallsFits get_parts get_plan) (CallsGives get_parts get_plan) (calls_laws get_parts get_plan get_laws) g me.who low b r0
 
   -- it is made for the same key on the way
-  made_so : (t : Trail) → get_plan.start (after_all get m t).plan ≡ getting me author key
-  made_so t = kept_along get (λ (x : GetCalls). get_plan.start x.plan ≡ getting me author key) (start_kept get_parts get_plan get_laws (getting me author key)) m t refl
+  made_so : (t : Trail) → get_steered.start (after_all get m t).plan ≡ getting me author key
+  made_so t = kept_along get (λ (x : GetCalls). get_steered.start x.plan ≡ getting me author key) (start_kept get_parts get_plan get_laws (getting me author key)) m t refl
 
   -- a machine that is made so
   record IsMade (c : GetCalls) : Type 0 where
@@ -180,10 +160,10 @@ module _ (me : Me) (author key : ℕ) (low : me.who < me.geometry.clients) (b : 
     author_is : c.plan.author ≡ author
     key_is : c.plan.key ≡ key
 
-  made_after : (c : GetCalls) (n : ℕ) → get_plan.start c.plan ≡ getting me author key → get_plan.start (get.after c n).plan ≡ getting me author key
+  made_after : (c : GetCalls) (n : ℕ) → get_steered.start c.plan ≡ getting me author key → get_steered.start (get.after c n).plan ≡ getting me author key
   made_after c n e = start_kept get_parts get_plan get_laws (getting me author key) c n e
 
-  is_made : (c : GetCalls) → get_plan.start c.plan ≡ getting me author key → IsMade c
+  is_made : (c : GetCalls) → get_steered.start c.plan ≡ getting me author key → IsMade c
   is_made c so = record { me_is = ap (λ (p : GetState). p.me) so; author_is = ap (λ (p : GetState). p.author) so; key_is = ap (λ (p : GetState). p.key) so }
 
   -- the memo shows the chain up to this entry, and that its value word names v
@@ -221,7 +201,7 @@ module _ (me : Me) (author key : ℕ) (low : me.who < me.geometry.clients) (b : 
       let c0 : GetCalls = after_all get m h.t in
       let c1 : GetCalls = get.after c0 h.y.word in
       let c2 : GetCalls = get.after c1 h.x.word in
-      let so : get_plan.start c0.plan ≡ getting me author key = made_so h.t in
+      let so : get_steered.start c0.plan ≡ getting me author key = made_so h.t in
       let n1 : Next (λ q. Unit {0}) s0 after c0 h.y (h.x ∷ h.z ∷ h.u) =
       next_step get (CallsFits get_parts get_plan) (CallsGives get_parts get_plan) (calls_laws get_parts get_plan get_laws) g me.who low b r0 (λ q. Unit {0}) (memos_of s0.accounts me.who) (λ q z held memo may turned before. tt) c0 h.y [] h.x (h.z ∷ h.u) s0 after refl tt here in
       let s1 : State = moved n1.s (Word n1.t) in
@@ -252,11 +232,11 @@ module _ (me : Me) (author key : ℕ) (low : me.who < me.geometry.clients) (b : 
         map = names ∙ (ap (λ k. Some (k, c1.plan.block)) number ∙ ap (λ k. Some (n, k)) h.block);
       }
 
-pub found_in_run : (me : Me) (author key : ℕ) (a : State) (ms : List Move) (b : State) (tr : Trail) (n v : ℕ) → MayLocate me author (memos_of a.accounts me.who) → IsCall get (calls_of get_plan (getting me author key)) a ms b tr → IsAnswered get (calls_of get_plan (getting me author key)) tr (answer.Value n v) → FindsAt me author key n v a ms b
+pub found_in_run : (me : Me) (author key : ℕ) (a : State) (ms : List Move) (b : State) (tr : Trail) (n v : ℕ) → MayLocate me author (memos_of a.accounts me.who) → IsCall get (calls_of get_steered (getting me author key)) a ms b tr → IsAnswered get (calls_of get_steered (getting me author key)) tr (answer.Value n v) → FindsAt me author key n v a ms b
 found_in_run me author key a ms b tr n v may call ends =
     let r0 : Memo = memos_of a.accounts me.who in
-    let begins : CallsFits get_parts get_plan (calls_of get_plan (getting me author key)) r0 r0 [] = calls_begin get_parts get_plan get_laws (getting me author key) r0 refl refl (get_begin me author key r0 may) in
-    let h = searching (getting me author key) (calls_of locate_plan (locating me author key)) tr n v call.goes ends in
+    let begins : CallsFits get_parts get_plan (calls_of get_steered (getting me author key)) r0 r0 [] = calls_begin get_parts get_plan get_laws (getting me author key) r0 refl refl (get_begin me author key r0 may) in
+    let h = searching (getting me author key) (calls_of locate_steered (locating me author key)) tr n v call.goes ends in
     finds me author key call.who b r0 a ms tr n v h
     (record {
       long = call.account;
@@ -265,8 +245,8 @@ found_in_run me author key a ms b tr n v may call ends =
       run = call.run;
       me = refl;
       fit = begins;
-      goes = subst (GoesOn get (calls_of get_plan (getting me author key))) h.split call.goes;
-      steps = call.steps ∙ ap (machine_steps get (calls_of get_plan (getting me author key))) h.split;
+      goes = subst (GoesOn get (calls_of get_steered (getting me author key))) h.split call.goes;
+      steps = call.steps ∙ ap (machine_steps get (calls_of get_steered (getting me author key))) h.split;
     })
 
 -- ---- as a command
@@ -281,7 +261,7 @@ answers_same (Some a) = refl
 
 pub found_by_command : (me : Me) (author key : ℕ) (a : State) (ms : List Move) (b : State) (tr : Trail) (n v : ℕ) → MayLocate me author (memos_of a.accounts me.who) → IsCall command_control (command_of me (line.Get author key)) a ms b tr → IsAnswered command_control (command_of me (line.Get author key)) tr (answer.Value n v) → FindsAt me author key n v a ms b
 found_by_command me author key a ms b tr n v may call ends =
-    let c : GetCalls = calls_of get_plan (getting me author key) in
+    let c : GetCalls = calls_of get_steered (getting me author key) in
     let turns : (m : GetCalls) (i : ℕ) → command_control.turns (commanded m) i ≡ get.turns m i = λ m i. answers_same (get.turns m i) in
     found_in_run me author key a ms b tr n v may
     (record {

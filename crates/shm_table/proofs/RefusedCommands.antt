@@ -1,31 +1,18 @@
 -- what a command that is refused leaves as it was, whichever it is
 use Rattle.std.proofs.Common.{◌≡◌, ◌≢◌, ℕ, ap, ◌∙◌, true, false, inl, inr, ◌⊎◌, List, [], Option, Some, None}
 use Rattle.std.proofs.lemmas.Bool.{false≢true, true≢false}
-use Rattle.shm_graph.specs.declared.ask.Me.{Me}
-use Rattle.shm_graph.specs.declared.memo.Memo.{Memo}
-use Rattle.shm_graph.specs.declared.spot.Spot.{Spot}
-use Rattle.shm_graph.specs.declared.spot.Spot.TheVariants.{Home}
-use Rattle.shm_graph.specs.Asks.{Trail}
-use Rattle.shm_graph.specs.Core.{core}
-use Rattle.shm_graph.specs.Events.{Event}
-use Rattle.shm_graph.specs.Views.{own_word}
-use Rattle.shm_script.specs.declared.line.Line.{Line}
+use Rattle.shm_graph.specs.{declared.{ask.Me.Me, memo.Memo.Memo, spot.Spot.{Spot, TheVariants.Home}}, Asks.Trail}
+use Rattle.shm_graph.specs.{Core.core, Events.Event, Views.own_word}
+use Rattle.shm_script.specs.declared.{line.Line.Line, log.Answer.Answer}
 use Rattle.shm_script.specs.declared.line.Line.TheVariants as line
-use Rattle.shm_script.specs.declared.log.Answer.{Answer}
 use Rattle.shm_script.specs.declared.log.Answer.TheVariants as answer
 use Rattle.shm_steps.specs.Reparting.{map_in}
-use Rattle.shm_count.specs.Roots.{root_word}
-use Rattle.shm_count.specs.Tear.Memos.{is_lasting}
-use Rattle.shm_table.specs.declared.answer.PutFault.{PutFault}
-use Rattle.shm_table.specs.declared.answer.PutFault.TheVariants as fault
-use Rattle.shm_table.specs.Answers.{fault_answer}
-use Rattle.shm_table.specs.Get.{Visited}
-use Rattle.shm_table.specs.OpenTable.{HomeSo}
-use Rattle.shm_table.specs.PutRoot.{IsEraSpent}
-use Rattle.shm_table.specs.PutRoot.Undoing.{still_same}
+use Rattle.shm_count.specs.{Roots.root_word, Tear.Memos.is_lasting}
+use Rattle.shm_table.specs.{declared.answer.PutFault.PutFault, Answers.fault_answer, Get.Visited, OpenTable.HomeSo}
+use Rattle.shm_table.specs.PutRoot.{IsEraSpent, Undoing.still_same}
 use Rattle.shm_table.specs.Refusals.{CommandLeaves, is_refusal, is_spent, taken_by}
-use Rattle.shm_table.specs.Staying.{Cleared, Keeps, SameMap, Still, is_set}
-use Rattle.shm_table.specs.Undoing.{CommandUndone, IsTakenBack}
+use Rattle.shm_table.specs.{Staying.{Cleared, Keeps, SameMap, Still, is_set}, Undoing.{CommandUndone, IsTakenBack}}
+use Rattle.shm_table.specs.declared.answer.PutFault.TheVariants as fault
 
 -- a value at a key is not none
 pub some_not : (o : Option (ℕ × ℕ)) (x : ℕ × ℕ) → o ≡ Some x → o ≢ None

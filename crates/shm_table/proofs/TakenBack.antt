@@ -1,23 +1,16 @@
 -- what the events of a command that was taken back leave of roots, homes and other spots
 use Rattle.std.proofs.Common.{◌≡◌, ◌≢◌, ℕ, zero, suc, refl, sym, ap, ◌∙◌, Bool, true, false, List, [], ◌∷◌, ◌++◌, inl, inr, ◌⊎◌, eqb}
-use Rattle.std.specs.Prelude.{if◌then◌else◌, ◌&&◌}
 use Rattle.std.proofs.lemmas.Bool.{cond-false, cond-true, false≢true, not-true}
-use Rattle.shm_graph.specs.declared.spot.Spot.{Spot}
-use Rattle.shm_graph.specs.declared.spot.Spot.TheVariants.{Body, Home, Root}
-use Rattle.shm_graph.specs.Events.{Event}
+use Rattle.std.specs.Prelude.{if◌then◌else◌, ◌&&◌}
+use Rattle.shm_graph.specs.{declared.spot.Spot.{Spot, TheVariants.{Body, Home, Root}}, Events.Event, Spots.same_spot}
 use Rattle.shm_graph.specs.Events as event
-use Rattle.shm_graph.specs.Spots.{same_spot}
 use Rattle.shm_graph.proofs.Spots.Spotting.{same_spot_self}
-use Rattle.shm_count.specs.Tear.Events.{Walk, events_of}
-use Rattle.shm_count.specs.Tear.Events.Walk.{Freed, Kept, Fell}
+use Rattle.shm_count.specs.Tear.Events.{Walk, events_of, Walk.{Freed, Kept, Fell}}
 use Rattle.shm_ref.specs.Lefts.{RootEvents}
 use Rattle.shm_script.specs.declared.line.Line.{Line}
 use Rattle.shm_script.specs.declared.line.Line.TheVariants as line
-use Rattle.shm_table.specs.Enter.{IsHalfMade}
-use Rattle.shm_table.specs.OpenTable.{IsOpening}
-use Rattle.shm_table.specs.PutRoot.{IsUnlinking, IsUnlisted}
-use Rattle.shm_table.specs.Refusals.{is_apart, named_after, taken_by}
-use Rattle.shm_table.specs.Undoing.{IsTakenBack}
+use Rattle.shm_table.specs.{Enter.IsHalfMade, OpenTable.IsOpening, PutRoot.{IsUnlinking, IsUnlisted}}
+use Rattle.shm_table.specs.{Refusals.{is_apart, named_after, taken_by}, Undoing.IsTakenBack}
 
 -- events one after the other
 after_append : (p : Spot) (es ds : List Event) (x : ℕ) → named_after p (es ++ ds) x ≡ named_after p ds (named_after p es x)

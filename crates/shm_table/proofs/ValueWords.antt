@@ -1,26 +1,15 @@
 -- the words of a block without reference words, as of a value block, stay in each turn of a run while it is live
 use Rattle.std.proofs.Common.{◌≡◌, ℕ, ◌<◌, refl, ap, ◌∙◌, subst, arith, cond, eqb, ◌⊎◌, inl, inr}
 use Rattle.std.proofs.lemmas.Bool.{cases_Bool, cond-false, eqb-true}
-use Rattle.shm_words.specs.declared.geometry.Geometry.{Geometry}
-use Rattle.shm_words.specs.Tags.{tag_refs}
+use Rattle.shm_words.specs.{declared.geometry.Geometry.Geometry, Tags.tag_refs}
 use Rattle.shm_words.proofs.Words.{live_not_zero}
-use Rattle.shm_graph.specs.declared.ask.Ask.{Ask}
-use Rattle.shm_graph.specs.declared.ask.Ask.TheVariants.{Load, Store, Exchange}
-use Rattle.shm_graph.specs.declared.memo.Memo.{Memo}
-use Rattle.shm_graph.specs.declared.run.Move.{Move}
-use Rattle.shm_graph.specs.declared.run.Move.TheVariants.{Word, Dies, Begins}
-use Rattle.shm_graph.specs.declared.spot.Spot.{Spot}
-use Rattle.shm_graph.specs.declared.spot.Spot.TheVariants.{Head, Tag, Body}
-use Rattle.shm_graph.specs.Asks.{at_of, words_after}
-use Rattle.shm_graph.specs.Blocks.{IsLive, headers}
-use Rattle.shm_graph.specs.Controllers.{IsAllowed, IsController, IsOpen}
-use Rattle.shm_graph.specs.Held.{HeldAt}
+use Rattle.shm_graph.specs.declared.{ask.Ask.{Ask, TheVariants.{Load, Store, Exchange}}, memo.Memo.Memo, run.Move.Move}
+use Rattle.shm_graph.specs.declared.{run.Move.TheVariants.{Word, Dies, Begins}, spot.Spot.Spot}
+use Rattle.shm_graph.specs.{declared.spot.Spot.TheVariants.{Head, Tag, Body}, Asks.{at_of, words_after}}
+use Rattle.shm_graph.specs.{Blocks.{IsLive, headers}, Controllers.{IsAllowed, IsController, IsOpen}, Held.HeldAt}
 use Rattle.shm_graph.specs.Runs.{Held, IsMove, State, Turned, memos_of, moved}
-use Rattle.shm_graph.specs.Spots.{classes_in, same_spot, see, spot_at, upd}
-use Rattle.shm_graph.specs.Views.{View, view}
-use Rattle.shm_graph.proofs.Runs.Going.{acts_within}
-use Rattle.shm_graph.proofs.Runs.Lists.{see-words_set}
-use Rattle.shm_graph.proofs.Spots.Spotting.{same_spot_is}
+use Rattle.shm_graph.specs.{Spots.{classes_in, same_spot, see, spot_at, upd}, Views.{View, view}}
+use Rattle.shm_graph.proofs.{Runs.{Going.acts_within, Lists.see-words_set}, Spots.Spotting.same_spot_is}
 use Rattle.shm_graph.proofs.States.Holders.{step_holds}
 
 -- a step leaves each word that its identity may not store

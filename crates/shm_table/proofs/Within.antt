@@ -1,9 +1,6 @@
 -- a machine within another one that does as it does: its calls in a run are those of the other
 use Rattle.std.proofs.Common.{◌≡◌, ℕ, refl, sym, ap, ◌∙◌, subst, [], ◌∷◌, List}
-use Rattle.shm_graph.specs.declared.memo.Step.{Step}
-use Rattle.shm_graph.specs.Asks.{Trail}
-use Rattle.shm_graph.specs.Laws.{Control, step_of}
-use Rattle.shm_graph.specs.Tells.{GoesOn, machine_steps}
+use Rattle.shm_graph.specs.{declared.memo.Step.Step, Asks.Trail, Laws.{Control, step_of}, Tells.{GoesOn, machine_steps}}
 use Rattle.shm_table.specs.Get.Finding.{IsAnswered}
 
 module _ {S T A : Type 0} (k : Control S A) (j : Control T A) (within : S → T) (step : (m : S) (n : ℕ) → step_of j (within m) n ≡ step_of k m n) (after : (m : S) (n : ℕ) → j.after (within m) n ≡ within (k.after m n)) (finished : (m : S) → j.finished (within m) ≡ k.finished m) (turns : (m : S) (n : ℕ) → j.turns (within m) n ≡ k.turns m n) where

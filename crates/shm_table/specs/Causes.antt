@@ -1,14 +1,10 @@
 -- what the trail of a command shows of why it was refused
-use Rattle.std.specs.Prelude.{◌≡◌, ◌≢◌, ℕ, ◌<◌, Err, ◌++◌}
-use Rattle.std.specs.List.{Contains}
-use Rattle.shm_words.specs.declared.place.Place.TheVariants as place
+use Rattle.std.specs.{Prelude.{◌≡◌, ◌≢◌, ℕ, ◌<◌, Err, ◌++◌}, List.Contains}
 use Rattle.shm_words.specs.Layout.{address}
-use Rattle.shm_graph.specs.declared.ask.Ask.TheVariants.{Load}
-use Rattle.shm_graph.specs.declared.ask.Me.{Me}
-use Rattle.shm_graph.specs.Asks.{Trail, pair}
+use Rattle.shm_words.specs.declared.place.Place.TheVariants as place
+use Rattle.shm_graph.specs.{declared.ask.{Ask.TheVariants.Load, Me.Me}, Asks.{Trail, pair}}
+use Rattle.shm_alloc.specs.{declared.request.Request.Request, Alloc.Asks.alloc_trail}
 use Rattle.shm_alloc.specs.declared.alloc.AllocFault.TheVariants as alloc
-use Rattle.shm_alloc.specs.declared.request.Request.{Request}
-use Rattle.shm_alloc.specs.Alloc.Asks.{alloc_trail}
 use Rattle.shm_count.specs.Refusing.{ReadsCount}
 use Rattle.shm_script.specs.declared.log.Answer.{Answer}
 use Rattle.shm_script.specs.declared.log.Answer.TheVariants as answer

@@ -6,45 +6,25 @@ pub mod Maps
 pub mod Sends
 pub mod Operates
 use Rattle.std.specs.Prelude.{◌≢◌, ℕ, ◌<◌, Bool, false, Option}
-use Rattle.shm_graph.specs.declared.ask.Me.{Me}
-use Rattle.shm_graph.specs.declared.memo.Memo.{Memo}
-use Rattle.shm_graph.specs.Asks.{Trail}
-use Rattle.shm_graph.specs.Events.{Event}
-use Rattle.shm_graph.specs.Laws.{Control}
+use Rattle.shm_graph.specs.{declared.{ask.Me.Me, memo.Memo.Memo}, Asks.Trail, Events.Event, Laws.Control}
 use Rattle.shm_graph.specs.Mapped.{MappedGives, mapped}
-use Rattle.shm_calls.specs.declared.calls.Calls.{Calls}
-use Rattle.shm_calls.specs.declared.or.Or.{Or}
-use Rattle.shm_calls.specs.declared.or.Or.TheVariants.{First, Second}
-use Rattle.shm_calls.specs.CallsControl.{calls_does, calls_of}
-use Rattle.shm_calls.specs.CallsFit.{CallsFits, CallsGives}
-use Rattle.shm_calls.specs.Deciding.{either}
+use Rattle.shm_calls.specs.declared.{calls.Calls.Calls, or.Or.{Or, TheVariants.{First, Second}}}
+use Rattle.shm_calls.specs.{CallsControl.{calls_does, calls_of}, CallsFit.{CallsFits, CallsGives}, Deciding.either}
 use Rattle.shm_calls.specs.Either.{OrFits, OrGives, or_control, or_does}
-use Rattle.shm_script.specs.declared.line.Line.{Line}
+use Rattle.shm_script.specs.declared.{line.Line.Line, log.Answer.Answer}
 use Rattle.shm_script.specs.declared.line.Line.TheVariants as line
-use Rattle.shm_script.specs.declared.log.Answer.{Answer}
-use Rattle.shm_table.specs.declared.copy.CopyState.{CopyState}
-use Rattle.shm_table.specs.declared.del.DelState.{DelState}
-use Rattle.shm_table.specs.declared.get.GetState.{GetState}
-use Rattle.shm_table.specs.declared.put.PutState.{PutState}
-use Rattle.shm_table.specs.Machines.Change.{del}
-use Rattle.shm_table.specs.CopyKey.Control.{CopyCalls, CopyAnswer, CopyCall, copy_parts, copying}
+use Rattle.shm_table.specs.declared.{copy.CopyState.CopyState, del.DelState.DelState, get.GetState.GetState}
+use Rattle.shm_table.specs.{declared.put.PutState.PutState, Machines.{Change.del, Copy.copy_control, Put.put, Get.get}}
+use Rattle.shm_table.specs.Machines.{Recv.recv_control, Send.send_key}
+use Rattle.shm_table.specs.CopyKey.Control.{CopyCalls, CopyAnswer, CopyCall, copy_parts, copying, copy_steered}
 use Rattle.shm_table.specs.CopyKey.{copy_plan}
-use Rattle.shm_table.specs.Machines.Copy.{copy_control}
-use Rattle.shm_table.specs.Del.Control.{DelCalls, DelCall, DelCallAnswer, del_parts, deleting}
-use Rattle.shm_table.specs.Del.{del_plan}
+use Rattle.shm_table.specs.Del.{Control.{DelCalls, DelCall, DelCallAnswer, del_parts, deleting, del_steered}, del_plan}
 use Rattle.shm_table.specs.Effects.{copy_by, copy_effect, del_by, del_effect, get_effect, put_by, put_effect, recv_by, recv_effect, send_key_by, send_key_effect}
-use Rattle.shm_table.specs.Get.Control.{GetCalls, GetAnswer, GetCall, get_parts, getting}
-use Rattle.shm_table.specs.Get.{get_plan}
-use Rattle.shm_table.specs.Put.Control.{PutCalls, PutAnswer, PutCall, put_parts, putting}
-use Rattle.shm_table.specs.Put.{put_plan}
-use Rattle.shm_table.specs.Machines.Put.{put}
-use Rattle.shm_table.specs.Machines.Get.{get}
-use Rattle.shm_table.specs.RecvKey.Control.{RecvCalls, receiving_key, recv_parts}
-use Rattle.shm_table.specs.RecvKey.{recv_plan}
-use Rattle.shm_table.specs.Machines.Recv.{recv_control}
-use Rattle.shm_table.specs.SendKey.Control.{SendKeyCalls, send_key_parts, sending_key}
+use Rattle.shm_table.specs.Get.{Control.{GetCalls, GetAnswer, GetCall, get_parts, getting, get_steered}, get_plan}
+use Rattle.shm_table.specs.Put.{Control.{PutCalls, PutAnswer, PutCall, put_parts, putting, put_steered}, put_plan}
+use Rattle.shm_table.specs.RecvKey.{Control.{RecvCalls, receiving_key, recv_parts, recv_steered}, recv_plan}
+use Rattle.shm_table.specs.SendKey.Control.{SendKeyCalls, send_key_parts, sending_key, send_key_steered}
 use Rattle.shm_table.specs.SendKey.{send_key_plan}
-use Rattle.shm_table.specs.Machines.Send.{send_key}
 
 -- its machines: a put or a copy, a removal or a reading, a send or a receive
 abbrev pub CommandCall : Type 0
@@ -75,12 +55,12 @@ MayStand me (line.Recv from key) = (from < me.geometry.clients) × (from ≢ me.
 
 -- the machine of a line, before its first word step
 abbrev pub command_of : Me → Line → CommandCall
-command_of me (line.Put key n) = First (First (calls_of put_plan (putting me key n)))
-command_of me (line.Copy key a other) = First (Second (calls_of copy_plan (copying me key a other)))
-command_of me (line.Del key) = Second (First (First (calls_of del_plan (deleting me key))))
-command_of me (line.Get a key) = Second (First (Second (calls_of get_plan (getting me a key))))
-command_of me (line.Send to key) = Second (Second (First (calls_of send_key_plan (sending_key me to key))))
-command_of me (line.Recv from key) = Second (Second (Second (calls_of recv_plan (receiving_key me from key))))
+command_of me (line.Put key n) = First (First (calls_of put_steered (putting me key n)))
+command_of me (line.Copy key a other) = First (Second (calls_of copy_steered (copying me key a other)))
+command_of me (line.Del key) = Second (First (First (calls_of del_steered (deleting me key))))
+command_of me (line.Get a key) = Second (First (Second (calls_of get_steered (getting me a key))))
+command_of me (line.Send to key) = Second (Second (First (calls_of send_key_steered (sending_key me to key))))
+command_of me (line.Recv from key) = Second (Second (Second (calls_of recv_steered (receiving_key me from key))))
 
 -- ---- when it fits, what it gives, and which events it tells of
 

@@ -1,29 +1,19 @@
 -- what commands that bring a value block into the own table share: when they may begin, why they are refused, and what is settled before its root is dropped
 use Rattle.std.proofs.Common.{◌≡◌, ◌≢◌, ℕ, ◌^◌, ◌<◌, ◌≤◌, ◌∙◌, ◌⊎◌, sym, subst, false, Option, Some, None, List, ◌++◌}
-use Rattle.std.specs.List.{All, Contains}
 use Rattle.std.proofs.lemmas.List.Elements.{All-append, All-weaker}
+use Rattle.std.specs.List.{All, Contains}
 use Rattle.shm_words.specs.Layout.{GeometryFits}
-use Rattle.shm_graph.specs.declared.ask.Me.{Me}
-use Rattle.shm_graph.specs.declared.memo.Memo.{Memo}
-use Rattle.shm_graph.specs.declared.spot.Spot.TheVariants.{Home}
+use Rattle.shm_graph.specs.{declared.{ask.Me.Me, memo.Memo.Memo, spot.Spot.TheVariants.Home}, Agents.recovers}
+use Rattle.shm_graph.specs.{Events.Event, Held.is_loose, Idle.IsIdle, Views.own_word}
 use Rattle.shm_graph.specs.declared.spot.Spot.TheVariants as spot
-use Rattle.shm_graph.specs.Agents.{recovers}
-use Rattle.shm_graph.specs.Events.{Event}
-use Rattle.shm_graph.specs.Held.{is_loose}
-use Rattle.shm_graph.specs.Idle.{IsIdle}
-use Rattle.shm_graph.specs.Views.{own_word}
 use Rattle.shm_steps.specs.Reparting.{map_in}
 use Rattle.shm_laws.proofs.Keep.{filter_from}
-use Rattle.shm_count.specs.Roots.{root_word}
-use Rattle.shm_count.specs.Tear.Events.{Visit}
-use Rattle.shm_count.specs.Tear.{is_outside}
+use Rattle.shm_count.specs.{Roots.root_word, Tear.{Events.Visit, is_outside}}
 use Rattle.shm_ref.specs.Lefts.{Stopped}
-use Rattle.shm_table.specs.declared.answer.PutFault.{PutFault}
-use Rattle.shm_table.specs.declared.answer.PutFault.TheVariants.{EraSpent, RootsFull, Full, CountFull}
-use Rattle.shm_table.specs.declared.answer.PutFault.TheVariants as fault
-use Rattle.shm_table.specs.PutRoot.{IsDecided, IsEraSpent}
-use Rattle.shm_table.specs.Staying.{IsSpent, MapSet, PutCause, SameMap}
+use Rattle.shm_table.specs.declared.answer.PutFault.{PutFault, TheVariants.{EraSpent, RootsFull, Full, CountFull}}
+use Rattle.shm_table.specs.{PutRoot.{IsDecided, IsEraSpent}, Staying.{IsSpent, MapSet, PutCause, SameMap}}
 use Rattle.shm_table.specs.Staying.Laws.{spent_later}
+use Rattle.shm_table.specs.declared.answer.PutFault.TheVariants as fault
 
 -- between two calls of a client, in a pool for tables, with no latch
 pub record MayCommand (me : Me) (key : ℕ) (r : Memo) : Type 0 where

@@ -4,41 +4,23 @@ pub mod Laws
 pub mod Bound
 use Rattle.std.specs.Prelude.{◌≡◌, ◌≢◌, ℕ, ◌+◌, ◌*◌, ◌<◌, ◌⊎◌, false, Option, Some, None, List, [], ◌∷◌, length, Bool}
 use Rattle.std.specs.List.{All, Contains}
-use Rattle.shm_graph.specs.declared.ask.Me.{Me}
-use Rattle.shm_graph.specs.declared.memo.Memo.{Memo}
-use Rattle.shm_graph.specs.declared.spot.Spot.TheVariants.{Home, Root}
-use Rattle.shm_graph.specs.Asks.{Trail, IsWithin}
-use Rattle.shm_graph.specs.Bounds.{tear_steps, redo_steps}
-use Rattle.shm_graph.specs.Events.{Event}
+use Rattle.shm_graph.specs.declared.{ask.Me.Me, memo.Memo.Memo, spot.Spot.TheVariants.{Home, Root}}
+use Rattle.shm_graph.specs.{Asks.{Trail, IsWithin}, Bounds.{tear_steps, redo_steps}, Events.Event, Views.own_word}
 use Rattle.shm_graph.specs.Events as event
-use Rattle.shm_graph.specs.Views.{own_word}
-use Rattle.shm_calls.specs.CallsPart.{calls_part}
-use Rattle.shm_calls.specs.Either.{or_part}
-use Rattle.shm_calls.specs.Parts.{Part}
-use Rattle.shm_calls.specs.Plans.{Planned}
+use Rattle.shm_calls.specs.{CallsPart.calls_part, Either.or_part, Parts.Part, Plans.Planned}
 use Rattle.shm_steps.specs.Reparting.{map_in}
-use Rattle.shm_count.specs.Roots.{root_word}
-use Rattle.shm_count.specs.Tear.Events.{Visit, frees}
-use Rattle.shm_ref.specs.DropRoot.Control.{drop_parts}
-use Rattle.shm_ref.specs.DropRoot.{drop_plan}
-use Rattle.shm_script.specs.declared.line.Line.TheVariants as line
+use Rattle.shm_count.specs.{Roots.root_word, Tear.Events.{Visit, frees}}
+use Rattle.shm_ref.specs.DropRoot.{Control.drop_parts, drop_plan}
 use Rattle.shm_script.specs.declared.log.Answer.{Answer}
+use Rattle.shm_script.specs.declared.line.Line.TheVariants as line
 use Rattle.shm_script.specs.declared.log.Answer.TheVariants as answer
-use Rattle.shm_script.specs.Text.{line_spelled}
-use Rattle.shm_table.specs.declared.answer.PutFault.{PutFault}
-use Rattle.shm_table.specs.declared.answer.PutFault.TheVariants.{EraSpent, RootsFull, Full, CountFull}
-use Rattle.shm_table.specs.declared.copy.CopyPoint.{CopyPoint}
-use Rattle.shm_table.specs.declared.copy.CopyPoint.TheVariants.{Fetch, Put, Drop}
-use Rattle.shm_table.specs.declared.copy.CopyState.{CopyState}
-use Rattle.shm_table.specs.CopyKey.Control.{CopyAnswer, CopyCall, copy_after, copy_call_at, copy_turns, copying, is_fetch}
-use Rattle.shm_table.specs.Fetch.Control.{fetch_parts}
-use Rattle.shm_table.specs.Fetch.{IsRooted, fetch_plan, fetch_steps}
-use Rattle.shm_table.specs.Get.{GotNone, IsReading, IsTold}
-use Rattle.shm_table.specs.Commands.{CommandCause, MayCommand, RestSo, ValueSo}
-use Rattle.shm_table.specs.PutRoot.Control.{put_root_parts}
+use Rattle.shm_table.specs.declared.answer.PutFault.{PutFault, TheVariants.{EraSpent, RootsFull, Full, CountFull}}
+use Rattle.shm_table.specs.declared.copy.{CopyPoint.{CopyPoint, TheVariants.{Fetch, Put, Drop}}, CopyState.CopyState}
+use Rattle.shm_table.specs.{CopyKey.Control.{CopyAnswer, CopyCall, copy_steered}, Fetch.Control.fetch_parts}
+use Rattle.shm_table.specs.{Fetch.{IsRooted, fetch_plan, fetch_steps}, Get.{GotNone, IsReading, IsTold}}
+use Rattle.shm_table.specs.{Commands.{CommandCause, MayCommand, RestSo, ValueSo}, PutRoot.Control.put_root_parts}
 use Rattle.shm_table.specs.PutRoot.{HasSearch, IsDecided, IsEraSpent, put_root_plan, put_root_steps}
-use Rattle.shm_table.specs.Staying.{Cleared, Ended, Keeps, MapSet, SameMap}
-use Rattle.shm_table.specs.Undoing.{BlockUndone, CommandUndone}
+use Rattle.shm_table.specs.{Staying.{Cleared, Ended, Keeps, MapSet, SameMap}, Undoing.{BlockUndone, CommandUndone}}
 
 -- ---- when it may begin
 
@@ -138,13 +120,7 @@ copy_part = or_part (calls_part fetch_parts fetch_plan) (or_part (calls_part put
 abbrev pub copy_plan : Planned CopyState CopyCall CopyAnswer Answer
 copy_plan =
     record {
-      me = λ m. m.me;
-      line = λ m. line_spelled (line.Copy m.key m.author m.other);
-      first = λ m. is_fetch m.point;
-      start = λ m. copying m.me m.key m.author m.other;
-      call = λ m. copy_call_at m m.point;
-      after = copy_after;
-      turns = copy_turns;
+      steered = copy_steered;
       part = λ m. copy_part;
       knows = λ m. CopyKnows m m.point;
       leaves = CopyLeaves;

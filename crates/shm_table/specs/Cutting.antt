@@ -1,7 +1,6 @@
 -- the event by which a key goes
 use Rattle.std.specs.Prelude.{◌≡◌, ◌⊎◌, ℕ}
-use Rattle.shm_graph.specs.declared.spot.Spot.TheVariants.{Body}
-use Rattle.shm_graph.specs.Events.{Event}
+use Rattle.shm_graph.specs.{declared.spot.Spot.TheVariants.Body, Events.Event}
 use Rattle.shm_graph.specs.Events as event
 
 -- word i of block d, which led to the entry e, loses it: it comes to be empty, or to name the next entry

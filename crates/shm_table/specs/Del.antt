@@ -2,48 +2,25 @@
 pub mod Control
 pub mod Laws
 pub mod Bound
-use Rattle.std.specs.Prelude.{◌≡◌, ℕ, ◌+◌, ◌*◌, ◌<◌, false, Some, None, List, [], ◌++◌, length}
-use Rattle.std.specs.List.{All, Contains}
+use Rattle.std.specs.{Prelude.{◌≡◌, ℕ, ◌+◌, ◌*◌, ◌<◌, false, Some, None, List, [], ◌++◌, length}, List.{All, Contains}}
 use Rattle.shm_words.specs.Layout.{GeometryFits}
-use Rattle.shm_graph.specs.declared.ask.Me.{Me}
-use Rattle.shm_graph.specs.declared.memo.Memo.{Memo}
-use Rattle.shm_graph.specs.declared.spot.Spot.TheVariants.{Home}
-use Rattle.shm_graph.specs.Agents.{recovers}
-use Rattle.shm_graph.specs.Asks.{Trail, IsWithin}
-use Rattle.shm_graph.specs.Bounds.{tear_steps, redo_steps}
-use Rattle.shm_graph.specs.Events.{Event}
-use Rattle.shm_graph.specs.Held.{is_loose}
-use Rattle.shm_graph.specs.Idle.{IsIdle}
-use Rattle.shm_graph.specs.Views.{own_word}
-use Rattle.shm_calls.specs.CallsPart.{calls_part}
-use Rattle.shm_calls.specs.Either.{or_part}
-use Rattle.shm_calls.specs.Parts.{IsHeld, Part}
-use Rattle.shm_calls.specs.Plans.{Planned}
+use Rattle.shm_graph.specs.{declared.{ask.Me.Me, memo.Memo.Memo, spot.Spot.TheVariants.Home}, Agents.recovers}
+use Rattle.shm_graph.specs.{Asks.{Trail, IsWithin}, Bounds.{tear_steps, redo_steps}, Events.Event, Held.is_loose}
+use Rattle.shm_graph.specs.{Idle.IsIdle, Views.own_word}
+use Rattle.shm_calls.specs.{CallsPart.calls_part, Either.or_part, Parts.{IsHeld, Part}, Plans.Planned}
 use Rattle.shm_calls.specs.Words.{word_control}
 use Rattle.shm_steps.specs.Reparting.{map_in}
-use Rattle.shm_count.specs.declared.answer.UpFault.{UpFault}
-use Rattle.shm_count.specs.declared.answer.UpFault.TheVariants.{CountFull, EraSpent}
-use Rattle.shm_count.specs.Roots.{root_word}
+use Rattle.shm_count.specs.{declared.answer.UpFault.{UpFault, TheVariants.{CountFull, EraSpent}}, Roots.root_word}
 use Rattle.shm_count.specs.Tear.Events.{Visit, frees}
-use Rattle.shm_script.specs.declared.line.Line.TheVariants as line
 use Rattle.shm_script.specs.declared.log.Answer.{Answer}
+use Rattle.shm_script.specs.declared.line.Line.TheVariants as line
 use Rattle.shm_script.specs.declared.log.Answer.TheVariants as answer
-use Rattle.shm_script.specs.Text.{line_spelled}
-use Rattle.shm_table.specs.declared.del.DelPoint.{DelPoint}
-use Rattle.shm_table.specs.declared.del.DelPoint.TheVariants.{Search, Cut, Back}
-use Rattle.shm_table.specs.declared.del.DelState.{DelState}
-use Rattle.shm_table.specs.declared.find.Found.{Found}
-use Rattle.shm_table.specs.declared.find.Found.TheVariants.{Absent, At}
-use Rattle.shm_table.specs.Del.Control.{DelCall, DelCallAnswer, del_after, del_call_at, del_turns, deleting, is_search}
-use Rattle.shm_table.specs.Find.Bound.{IsWhole, keys_read}
-use Rattle.shm_table.specs.Find.Control.{Passed}
-use Rattle.shm_table.specs.Find.{EndsNowhere}
-use Rattle.shm_table.specs.Locate.Control.{locate_parts}
-use Rattle.shm_table.specs.Locate.{Located, locate_plan}
-use Rattle.shm_table.specs.Staying.{Cleared, Ended, Keeps, MapCut, SameMap}
-use Rattle.shm_table.specs.Unlatch.{unlatch_plan}
-use Rattle.shm_table.specs.Unlink.Control.{unlink_parts}
-use Rattle.shm_table.specs.Unlink.{UnlinkCause, UnlinkEvents, UnlinkRefusal, unlink_plan}
+use Rattle.shm_table.specs.declared.del.{DelPoint.{DelPoint, TheVariants.{Search, Cut, Back}}, DelState.DelState}
+use Rattle.shm_table.specs.declared.find.Found.{Found, TheVariants.{Absent, At}}
+use Rattle.shm_table.specs.{Del.Control.{DelCall, DelCallAnswer, del_steered}, Find.Bound.{IsWhole, keys_read}}
+use Rattle.shm_table.specs.{Find.{Control.Passed, EndsNowhere}, Locate.{Control.locate_parts, Located, locate_plan}}
+use Rattle.shm_table.specs.{Staying.{Cleared, Ended, Keeps, MapCut, SameMap}, Unlatch.unlatch_plan}
+use Rattle.shm_table.specs.Unlink.{Control.unlink_parts, UnlinkCause, UnlinkEvents, UnlinkRefusal, unlink_plan}
 
 -- ---- when it may begin
 
@@ -157,13 +134,7 @@ del_part = or_part (calls_part locate_parts locate_plan) (or_part (calls_part un
 abbrev pub del_plan : Planned DelState DelCall DelCallAnswer Answer
 del_plan =
     record {
-      me = λ m. m.me;
-      line = λ m. line_spelled (line.Del m.key);
-      first = λ m. is_search m.point;
-      start = λ m. deleting m.me m.key;
-      call = λ m. del_call_at m m.point;
-      after = del_after;
-      turns = del_turns;
+      steered = del_steered;
       part = λ m. del_part;
       knows = λ m. DelKnows m m.point;
       leaves = DelLeaves;

@@ -5,31 +5,20 @@ use Rattle.shm_count.specs.Step.ExchangeMade.{step_exchanged, step_exchanging}
 use Rattle.shm_queue.specs.Machines.{send}
 use Rattle.shm_script.specs.declared.log.Answer.{Answer}
 use Rattle.shm_script.specs.declared.log.Answer.TheVariants as answer
-use Rattle.shm_table.specs.declared.answer.PutFault.{PutFault}
-use Rattle.shm_table.specs.declared.copy.CopyState.{CopyState}
-use Rattle.shm_table.specs.declared.del.DelState.{DelState}
-use Rattle.shm_table.specs.declared.enter.Entered.{Entered}
-use Rattle.shm_table.specs.declared.enter.Entered.TheVariants.{Linked}
-use Rattle.shm_table.specs.declared.enter.EnterPoint.{EnterPoint}
-use Rattle.shm_table.specs.declared.enter.EnterPoint.TheVariants.{Value, Next}
-use Rattle.shm_table.specs.declared.enter.EnterState.{EnterState}
-use Rattle.shm_table.specs.declared.put.PutState.{PutState}
-use Rattle.shm_table.specs.declared.put_root.PutRootState.{PutRootState}
-use Rattle.shm_table.specs.declared.recv.RecvState.{RecvState}
-use Rattle.shm_table.specs.declared.replace.ReplaceState.{ReplaceState}
-use Rattle.shm_table.specs.declared.send_key.SendKeyState.{SendKeyState}
-use Rattle.shm_table.specs.declared.unlink.UnlinkState.{UnlinkState}
+use Rattle.shm_table.specs.declared.{answer.PutFault.PutFault, copy.CopyState.CopyState, del.DelState.DelState}
+use Rattle.shm_table.specs.declared.enter.{Entered.{Entered, TheVariants.Linked}, EnterPoint.EnterPoint}
+use Rattle.shm_table.specs.declared.enter.{EnterPoint.TheVariants.{Value, Next}, EnterState.EnterState}
+use Rattle.shm_table.specs.declared.{put.PutState.PutState, put_root.PutRootState.PutRootState}
+use Rattle.shm_table.specs.declared.{recv.RecvState.RecvState, replace.ReplaceState.ReplaceState}
+use Rattle.shm_table.specs.declared.{send_key.SendKeyState.SendKeyState, unlink.UnlinkState.UnlinkState}
 use Rattle.shm_table.specs.CopyKey.Control.{CopyCalls, CopyAnswer, CopyCall}
-use Rattle.shm_table.specs.Del.Control.{DelCalls, DelCall, DelCallAnswer}
-use Rattle.shm_table.specs.Enter.Control.{EnterAnswer, EnterCall}
-use Rattle.shm_table.specs.Get.Control.{GetCalls}
-use Rattle.shm_table.specs.Put.Control.{PutCalls, PutAnswer, PutCall}
+use Rattle.shm_table.specs.{Del.Control.{DelCalls, DelCall, DelCallAnswer}, Enter.Control.{EnterAnswer, EnterCall}}
+use Rattle.shm_table.specs.{Get.Control.GetCalls, Put.Control.{PutCalls, PutAnswer, PutCall}}
 use Rattle.shm_table.specs.PutRoot.Control.{EnterCalls, PutRootAnswer, PutRootCall, PutRootCalls, ReplaceCalls, decided_of}
 use Rattle.shm_table.specs.RecvKey.Control.{RecvCalls, RecvAnswer, RecvCall}
 use Rattle.shm_table.specs.Replace.Control.{ReplaceAnswer, ReplaceCall}
 use Rattle.shm_table.specs.SendKey.Control.{SendKeyCalls, SendKeyAnswer, SendKeyCall}
-use Rattle.shm_table.specs.Unlink.Control.{UnlinkAnswer, UnlinkCall}
-use Rattle.shm_table.specs.Unlink.{UnlinkCalls}
+use Rattle.shm_table.specs.Unlink.Control.{UnlinkAnswer, UnlinkCall, UnlinkCalls}
 
 -- Of each plan: by its call in progress whether the deciding step was made, whether the word step that finds n is that step, and whether an answer of a call tells that it was made
 

@@ -5,31 +5,19 @@ pub mod Memos
 pub mod Laws
 use Rattle.std.specs.Prelude.{◌≡◌, ◌≢◌, ℕ, zero, suc, ◌+◌, ◌*◌, ◌%◌, ◌^◌, ◌<◌, ◌⊎◌, false, List, [], ◌∷◌, Bool}
 use Rattle.shm_words.specs.Layout.{GeometryFits}
-use Rattle.shm_graph.specs.declared.ask.Me.{Me}
-use Rattle.shm_graph.specs.declared.memo.Memo.{Memo}
+use Rattle.shm_graph.specs.{declared.{ask.Me.Me, memo.Memo.Memo}, Agents.recovers, Asks.{Trail, IsWithin}}
+use Rattle.shm_graph.specs.{Bounds.{alloc_steps, change_steps, up_steps}, Events.Event, Idle.IsIdle, Views.own_word}
 use Rattle.shm_graph.specs.declared.spot.Spot.TheVariants as spot
-use Rattle.shm_graph.specs.Agents.{recovers}
-use Rattle.shm_graph.specs.Asks.{Trail, IsWithin}
-use Rattle.shm_graph.specs.Bounds.{alloc_steps, change_steps, up_steps}
-use Rattle.shm_graph.specs.Events.{Event}
 use Rattle.shm_graph.specs.Events as event
-use Rattle.shm_graph.specs.Idle.{IsIdle}
-use Rattle.shm_graph.specs.Views.{own_word}
-use Rattle.shm_calls.specs.Either.{or_part}
-use Rattle.shm_calls.specs.Parts.{IsHeld, Part}
-use Rattle.shm_calls.specs.Plans.{Planned}
-use Rattle.shm_steps.specs.Reparting.{sight, IsValue}
-use Rattle.shm_steps.specs.Walking.{IsComing, IsVacant}
-use Rattle.shm_count.specs.Roots.{root_word}
-use Rattle.shm_count.specs.Slots.Parts.{change_slot_part, up_slot_part}
+use Rattle.shm_calls.specs.{Either.or_part, Parts.{IsHeld, Part}, Plans.Planned}
+use Rattle.shm_steps.specs.{Reparting.{sight, IsValue}, Walking.{IsComing, IsVacant}}
+use Rattle.shm_count.specs.{Roots.root_word, Slots.Parts.{change_slot_part, up_slot_part}}
 use Rattle.shm_alloc.specs.Alloc.AsPart.{alloc_part}
-use Rattle.shm_table.specs.declared.answer.PutFault.{PutFault}
-use Rattle.shm_table.specs.declared.enter.Entered.{Entered}
-use Rattle.shm_table.specs.declared.enter.Entered.TheVariants.{Linked, Unlinked, Unmade}
-use Rattle.shm_table.specs.declared.enter.EnterPoint.{EnterPoint}
+use Rattle.shm_table.specs.declared.{answer.PutFault.PutFault, enter.Entered.Entered}
+use Rattle.shm_table.specs.declared.enter.{Entered.TheVariants.{Linked, Unlinked, Unmade}, EnterPoint.EnterPoint}
 use Rattle.shm_table.specs.declared.enter.EnterPoint.TheVariants.{Make, Value, Next, Link, Change}
 use Rattle.shm_table.specs.declared.enter.EnterState.{EnterState}
-use Rattle.shm_table.specs.Enter.Control.{EnterCall, EnterAnswer, enter_after, enter_call_at, enter_spot, enter_turns, is_make}
+use Rattle.shm_table.specs.Enter.Control.{EnterCall, EnterAnswer, enter_spot, enter_steered}
 use Rattle.shm_table.specs.Staying.{Cleared, Keeps, MapSet, PutCause, SameMap}
 
 -- ---- when it may begin
@@ -163,13 +151,7 @@ enter_part m y = or_part alloc_part (or_part (up_slot_part (enter_spot m y) fals
 abbrev pub enter_plan : Planned EnterState EnterCall EnterAnswer Entered
 enter_plan =
     record {
-      me = λ m. m.me;
-      line = λ m. [];
-      first = λ m. is_make m.point;
-      start = λ m. record m { root = 0; entry = 0; point = Make };
-      call = λ m. enter_call_at m m.point;
-      after = enter_after;
-      turns = enter_turns;
+      steered = enter_steered;
       part = λ m. enter_part m m.point;
       knows = λ m. EnterKnows m m.point;
       leaves = EnterLeaves;

@@ -2,36 +2,17 @@
 use Rattle.std.proofs.Common.{◌≡◌, ◌≢◌, ℕ, ◌+◌, ◌<◌, sym, ap, ◌∙◌, subst, arith, Bool, eqb, List, [], ◌∷◌, ◌++◌, length, length-append, inl, inr}
 use Rattle.std.proofs.lemmas.Bool.{cond-false, cond-true, eq-eqb, ne_eqb, cases_eq}
 use Rattle.shm_words.specs.Layout.{total_of}
-use Rattle.shm_graph.specs.declared.ask.Ask.{Ask}
-use Rattle.shm_graph.specs.declared.ask.Ask.TheVariants.{Load}
-use Rattle.shm_graph.specs.declared.ask.Me.{Me}
-use Rattle.shm_graph.specs.declared.spot.Spot.{Spot}
-use Rattle.shm_graph.specs.declared.spot.Spot.TheVariants.{Body}
-use Rattle.shm_graph.specs.declared.memo.Look.{Look}
-use Rattle.shm_graph.specs.declared.memo.Memo.{Memo}
-use Rattle.shm_graph.specs.declared.memo.Op.TheVariants.{Nothing}
-use Rattle.shm_graph.specs.declared.table.Entry.{Entry}
-use Rattle.shm_graph.specs.Asks.{at_of, seen_of, words_after}
-use Rattle.shm_graph.specs.Blocks.{classes}
-use Rattle.shm_graph.specs.Changes.{memo_on}
-use Rattle.shm_graph.specs.Core.{core}
-use Rattle.shm_graph.specs.Held.{HeldAt}
-use Rattle.shm_graph.specs.Laws.{Frame, framed, Stands}
-use Rattle.shm_graph.specs.Ops.{cover_of}
-use Rattle.shm_graph.specs.Reach.{learnt}
-use Rattle.shm_graph.specs.MemoAfterRead.{values_read}
-use Rattle.shm_graph.specs.Spots.{spot_at}
-use Rattle.shm_graph.specs.Views.{at1, view}
+use Rattle.shm_graph.specs.declared.{ask.{Ask.{Ask, TheVariants.Load}, Me.Me}, spot.Spot.{Spot, TheVariants.Body}}
+use Rattle.shm_graph.specs.declared.{memo.{Look.Look, Memo.Memo, Op.TheVariants.Nothing}, table.Entry.Entry}
+use Rattle.shm_graph.specs.{Asks.{at_of, seen_of, words_after}, Blocks.classes, Changes.memo_on, Core.core, Held.HeldAt}
+use Rattle.shm_graph.specs.{Laws.{Frame, framed, Stands}, Ops.cover_of, Reach.learnt, MemoAfterRead.values_read}
+use Rattle.shm_graph.specs.{Spots.spot_at, Views.{at1, view}}
 use Rattle.shm_graph.proofs.Runs.Lists.{at1_here}
-use Rattle.shm_calls.specs.declared.word.Word.{Word}
-use Rattle.shm_calls.specs.Words.{IsWord}
-use Rattle.shm_steps.specs.Reparting.{sight, IsKnown}
-use Rattle.shm_steps.specs.Walking.{IsSeeking, Reads}
+use Rattle.shm_calls.specs.{declared.word.Word.Word, Words.IsWord}
+use Rattle.shm_steps.specs.{Reparting.{sight, IsKnown}, Walking.{IsSeeking, Reads}}
 use Rattle.shm_steps.specs.WordParts.{IsLatchedWord, IsPlainWord, ReferenceLoaded, WordLoaded}
-use Rattle.shm_steps.proofs.Partitions.Seeking.{seek_kept, seek_known, seek_next}
-use Rattle.shm_steps.proofs.Partitions.Walked.{walk_key}
-use Rattle.shm_steps.proofs.Words.Blocks.{plain_load, reference_load, idle_settled}
-use Rattle.shm_steps.proofs.Words.Own.{word_for}
+use Rattle.shm_steps.proofs.Partitions.{Seeking.{seek_kept, seek_known, seek_next}, Walked.walk_key}
+use Rattle.shm_steps.proofs.Words.{Blocks.{plain_load, reference_load, idle_settled}, Own.word_for}
 use Rattle.shm_count.specs.TableReading.{word_reads, look_reads}
 
 -- ---- what is so of a walk after a load

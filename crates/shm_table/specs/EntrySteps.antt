@@ -1,42 +1,21 @@
 -- what may be done at an entry of the own table that a walk found, once its value word or its next word was read, and what that makes of the map
 use Rattle.std.proofs.Common.{◌≡◌, ◌≢◌, ℕ, ◌+◌, ◌%◌, ◌<◌, refl, sym, ap, ◌∙◌, subst, arith, true, false, List, ◌∷◌, inl, inr}
-use Rattle.std.specs.Prelude.{◌==◌, if◌then◌else◌, Some, None}
 use Rattle.std.proofs.lemmas.Bool.{cases_eq}
+use Rattle.std.specs.Prelude.{◌==◌, if◌then◌else◌, Some, None}
 use Rattle.shm_words.specs.Layout.{GeometryFits, address_limit}
 use Rattle.shm_words.proofs.Placing.{total_small}
-use Rattle.shm_graph.specs.declared.ask.Me.{Me}
-use Rattle.shm_graph.specs.declared.memo.Memo.{Memo}
-use Rattle.shm_graph.specs.declared.memo.Op.TheVariants.{Nothing}
-use Rattle.shm_graph.specs.declared.spot.Spot.{Spot}
-use Rattle.shm_graph.specs.declared.spot.Spot.TheVariants.{Body}
-use Rattle.shm_graph.specs.declared.table.Entry.{Entry}
-use Rattle.shm_graph.specs.Agents.{recovers}
-use Rattle.shm_graph.specs.Held.{HeldAt}
-use Rattle.shm_graph.specs.Ops.{cover_of}
-use Rattle.shm_graph.specs.Reach.{is_reached}
-use Rattle.shm_graph.specs.Spots.{spot_address}
-use Rattle.shm_graph.specs.Views.{view}
+use Rattle.shm_graph.specs.declared.{ask.Me.Me, memo.{Memo.Memo, Op.TheVariants.Nothing}, spot.Spot.Spot}
+use Rattle.shm_graph.specs.{declared.{spot.Spot.TheVariants.Body, table.Entry.Entry}, Agents.recovers, Held.HeldAt}
+use Rattle.shm_graph.specs.{Ops.cover_of, Reach.is_reached, Spots.spot_address, Views.view}
 use Rattle.shm_calls.specs.Parts.{IsHeld}
-use Rattle.shm_steps.specs.Beginning.{IsOwnWord}
-use Rattle.shm_steps.specs.Conditions.{IsHere}
-use Rattle.shm_steps.specs.Reparting.{sight, map_in, IsKnown, IsValue}
-use Rattle.shm_steps.specs.Reparting.TableStep.{Unlinks, Replaces}
-use Rattle.shm_steps.specs.Walking.{IsSeeking, is_looked}
-use Rattle.shm_steps.proofs.BeginAt.{SlotHas}
-use Rattle.shm_steps.proofs.BeginWords.{own_word_has, word_address}
-use Rattle.shm_steps.proofs.Reaching.{look_reached}
-use Rattle.shm_steps.proofs.Partitions.Reparted.{table_mapped}
-use Rattle.shm_steps.proofs.Partitions.Seeking.{seek_own}
-use Rattle.shm_steps.proofs.Partitions.Words.{entry_word}
+use Rattle.shm_steps.specs.{Beginning.IsOwnWord, Conditions.IsHere, Reparting.{sight, map_in, IsKnown, IsValue}}
+use Rattle.shm_steps.specs.{Reparting.TableStep.{Unlinks, Replaces}, Walking.{IsSeeking, is_looked}}
+use Rattle.shm_steps.proofs.{BeginAt.SlotHas, BeginWords.{own_word_has, word_address}, Reaching.look_reached}
+use Rattle.shm_steps.proofs.Partitions.{Reparted.table_mapped, Seeking.seek_own, Words.entry_word}
 use Rattle.shm_steps.proofs.Partitions.Walked.{entry_numbered, entry_some, entry_valued, next_other, value_some, walk_has}
-use Rattle.shm_count.specs.declared.point.Aim.{Aim}
-use Rattle.shm_count.specs.declared.point.Aim.TheVariants.{Up, Down, Change}
-use Rattle.shm_count.specs.declared.point.StepPoint.TheVariants.{Era}
-use Rattle.shm_count.specs.Deciding.{entry_goes, last_goes, value_changes}
-use Rattle.shm_count.specs.Slots.{IsSlotFor, MayStepAt}
-use Rattle.shm_count.specs.Slots.Parts.{era_room}
-use Rattle.shm_count.specs.Step.Control.{AimFits, AimSmall, IsInside}
-use Rattle.shm_count.specs.Step.{CanStep}
+use Rattle.shm_count.specs.declared.point.{Aim.{Aim, TheVariants.{Up, Down, Change}}, StepPoint.TheVariants.Era}
+use Rattle.shm_count.specs.{Deciding.{entry_goes, last_goes, value_changes}, Slots.{IsSlotFor, MayStepAt}}
+use Rattle.shm_count.specs.{Slots.Parts.era_room, Step.{Control.{AimFits, AimSmall, IsInside}, CanStep}}
 use Rattle.shm_count.specs.Step.Parts.{part_after}
 
 -- the value word of the entry at block `at` was read and names `old`: the map has that value block at the key, and it may be changed to another one

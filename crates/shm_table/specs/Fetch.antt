@@ -5,44 +5,25 @@ pub mod Laws
 use Rattle.std.specs.Prelude.{◌≡◌, ◌≢◌, ℕ, ◌+◌, ◌*◌, ◌<◌, true, false, Option, Some, None, List, [], ◌∷◌, Bool}
 use Rattle.std.specs.List.{Contains}
 use Rattle.shm_words.specs.Layout.{address_limit}
-use Rattle.shm_graph.specs.declared.ask.Me.{Me}
-use Rattle.shm_graph.specs.declared.memo.Memo.{Memo}
-use Rattle.shm_graph.specs.declared.spot.Spot.TheVariants.{Body, Home, Root}
-use Rattle.shm_graph.specs.Agents.{recovers}
-use Rattle.shm_graph.specs.Asks.{Trail, IsWithin}
-use Rattle.shm_graph.specs.Bounds.{up_steps}
-use Rattle.shm_graph.specs.Events.{Event}
+use Rattle.shm_graph.specs.declared.{ask.Me.Me, memo.Memo.Memo, spot.Spot.TheVariants.{Body, Home, Root}}
+use Rattle.shm_graph.specs.{Agents.recovers, Asks.{Trail, IsWithin}, Bounds.up_steps, Events.Event, Idle.IsIdle}
+use Rattle.shm_graph.specs.{Reach.is_reached, Views.own_word}
 use Rattle.shm_graph.specs.Events as event
-use Rattle.shm_graph.specs.Idle.{IsIdle}
-use Rattle.shm_graph.specs.Reach.{is_reached}
-use Rattle.shm_graph.specs.Views.{own_word}
-use Rattle.shm_calls.specs.declared.word.Word.{Word}
-use Rattle.shm_calls.specs.CallsPart.{calls_part}
-use Rattle.shm_calls.specs.Either.{or_part}
-use Rattle.shm_calls.specs.Parts.{IsHeld, Part}
-use Rattle.shm_calls.specs.Plans.{Planned}
-use Rattle.shm_calls.specs.Words.{word_control, word_part}
-use Rattle.shm_steps.specs.Reparting.{sight, map_in, IsValue}
-use Rattle.shm_steps.specs.WordParts.{ReferenceLoaded, WordLoaded}
-use Rattle.shm_count.specs.Roots.{root_word}
-use Rattle.shm_count.specs.UpRoot.AsPart.{up_root_part}
+use Rattle.shm_calls.specs.{declared.word.Word.Word, CallsPart.calls_part, Either.or_part, Parts.{IsHeld, Part}}
+use Rattle.shm_calls.specs.{Plans.Planned, Words.{word_control, word_part}}
+use Rattle.shm_steps.specs.{Reparting.{sight, map_in, IsValue}, WordParts.{ReferenceLoaded, WordLoaded}}
+use Rattle.shm_count.specs.{Roots.root_word, UpRoot.AsPart.up_root_part}
 use Rattle.shm_ref.specs.AskedParts.{asked_part}
-use Rattle.shm_table.specs.declared.answer.PutFault.{PutFault}
-use Rattle.shm_table.specs.declared.fetch.FetchPoint.{FetchPoint}
+use Rattle.shm_table.specs.declared.{answer.PutFault.PutFault, fetch.FetchPoint.FetchPoint}
 use Rattle.shm_table.specs.declared.fetch.FetchPoint.TheVariants.{Search, Value, Number, Share, Give}
-use Rattle.shm_table.specs.declared.fetch.FetchState.{FetchState}
-use Rattle.shm_table.specs.declared.fetch.Fetched.{Fetched}
-use Rattle.shm_table.specs.declared.fetch.Fetched.TheVariants.{Missing, Refused, Rooted}
-use Rattle.shm_table.specs.declared.get.GetPoint.TheVariants as get
-use Rattle.shm_table.specs.declared.get.GetPoint.{GetPoint}
+use Rattle.shm_table.specs.declared.fetch.{FetchState.FetchState, Fetched.Fetched}
+use Rattle.shm_table.specs.declared.{fetch.Fetched.TheVariants.{Missing, Refused, Rooted}, get.GetPoint.GetPoint}
 use Rattle.shm_table.specs.declared.get.GetState.{GetState}
-use Rattle.shm_table.specs.Fetch.Control.{FetchCall, FetchAnswer, fetch_after, fetch_ask, fetch_call, fetch_turns, fetching, is_search}
-use Rattle.shm_table.specs.Get.{GetKnows, GotNone, IsNowhere, IsReading, IsTold}
-use Rattle.shm_table.specs.Locate.Control.{locate_parts}
-use Rattle.shm_table.specs.Locate.{MayLocate, locate_plan}
-use Rattle.shm_table.specs.PutRoot.{HasSearch}
-use Rattle.shm_table.specs.Staying.{Cleared, Keeps, PutCause, SameMap}
-use Rattle.shm_table.specs.Unlatch.{unlatch_plan}
+use Rattle.shm_table.specs.Fetch.Control.{FetchCall, FetchAnswer, fetch_ask, is_search, fetch_steered}
+use Rattle.shm_table.specs.{Get.{GetKnows, GotNone, IsNowhere, IsReading, IsTold}, Locate.Control.locate_parts}
+use Rattle.shm_table.specs.{Locate.{MayLocate, locate_plan}, PutRoot.HasSearch}
+use Rattle.shm_table.specs.{Staying.{Cleared, Keeps, PutCause, SameMap}, Unlatch.unlatch_plan}
+use Rattle.shm_table.specs.declared.get.GetPoint.TheVariants as get
 
 -- ---- when it may begin
 
@@ -153,13 +134,7 @@ fetch_part m y = or_part (calls_part locate_parts locate_plan) (or_part (fetch_w
 abbrev pub fetch_plan : Planned FetchState FetchCall FetchAnswer Fetched
 fetch_plan =
     record {
-      me = λ m. m.me;
-      line = λ m. [];
-      first = λ m. is_search m.point;
-      start = λ m. fetching m.me m.author m.key;
-      call = λ m. fetch_call m m.point;
-      after = fetch_after;
-      turns = fetch_turns;
+      steered = fetch_steered;
       part = λ m. fetch_part m m.point;
       knows = λ m. FetchKnows m m.point;
       leaves = FetchLeaves;

@@ -1,42 +1,23 @@
 -- giving the value block at the head of a queue a root as a plan: what is known before each call, and what is left
 pub mod Control
 pub mod Laws
-use Rattle.std.specs.Prelude.{◌≡◌, ◌≢◌, ℕ, ◌+◌, ◌%◌, ◌<◌, false, List, [], ◌∷◌, Bool}
-use Rattle.std.specs.List.{Contains}
+use Rattle.std.specs.{Prelude.{◌≡◌, ◌≢◌, ℕ, ◌+◌, ◌%◌, ◌<◌, false, List, [], ◌∷◌, Bool}, List.Contains}
 use Rattle.shm_words.specs.Layout.{total_of, address_limit}
-use Rattle.shm_graph.specs.declared.ask.Me.{Me}
-use Rattle.shm_graph.specs.declared.memo.Fact.TheVariants.{Counter}
-use Rattle.shm_graph.specs.declared.memo.Memo.{Memo}
-use Rattle.shm_graph.specs.declared.spot.Spot.TheVariants as spot
-use Rattle.shm_graph.specs.Agents.{recovers}
-use Rattle.shm_graph.specs.Asks.{Trail, IsWithin}
-use Rattle.shm_graph.specs.Bounds.{up_steps}
-use Rattle.shm_graph.specs.Events.{Event}
-use Rattle.shm_graph.specs.Events as event
-use Rattle.shm_graph.specs.Held.{is_loose}
-use Rattle.shm_graph.specs.Idle.{IsIdle}
+use Rattle.shm_graph.specs.{declared.{ask.Me.Me, memo.{Fact.TheVariants.Counter, Memo.Memo}}, Agents.recovers}
+use Rattle.shm_graph.specs.{Asks.{Trail, IsWithin}, Bounds.up_steps, Events.Event, Held.is_loose, Idle.IsIdle}
 use Rattle.shm_graph.specs.Views.{own_word}
-use Rattle.shm_calls.specs.Either.{or_part}
-use Rattle.shm_calls.specs.Grown.{grown}
-use Rattle.shm_calls.specs.Parts.{IsHeld, Part}
-use Rattle.shm_calls.specs.Plans.{Planned}
-use Rattle.shm_calls.specs.Words.{word_part}
-use Rattle.shm_steps.specs.Reparting.{sight, IsValue}
-use Rattle.shm_steps.specs.WordParts.{CountLoaded, HeadSlotLoaded, IsHeadSlot, WordLoaded}
-use Rattle.shm_count.specs.Roots.{root_word}
-use Rattle.shm_count.specs.Tear.Memos.{Knows}
-use Rattle.shm_count.specs.UpRoot.AsPart.{up_root_part}
-use Rattle.shm_queue.specs.QueueWords.{TailSeen}
-use Rattle.shm_queue.specs.Take.{IsHeadRead, IsItemRead, MayTakeFrom, TakeEmpty}
-use Rattle.shm_table.specs.declared.answer.PutFault.{PutFault}
-use Rattle.shm_table.specs.declared.fetch_head.FetchHeadPoint.{FetchHeadPoint}
+use Rattle.shm_graph.specs.declared.spot.Spot.TheVariants as spot
+use Rattle.shm_graph.specs.Events as event
+use Rattle.shm_calls.specs.{Either.or_part, Grown.grown, Parts.{IsHeld, Part}, Plans.Planned, Words.word_part}
+use Rattle.shm_steps.specs.{Reparting.{sight, IsValue}, WordParts.{CountLoaded, HeadSlotLoaded, IsHeadSlot, WordLoaded}}
+use Rattle.shm_count.specs.{Roots.root_word, Tear.Memos.Knows, UpRoot.AsPart.up_root_part}
+use Rattle.shm_queue.specs.{QueueWords.TailSeen, Take.{IsHeadRead, IsItemRead, MayTakeFrom, TakeEmpty}}
+use Rattle.shm_table.specs.declared.{answer.PutFault.PutFault, fetch_head.FetchHeadPoint.FetchHeadPoint}
 use Rattle.shm_table.specs.declared.fetch_head.FetchHeadPoint.TheVariants.{Head, Tail, Slot, Number, Share}
-use Rattle.shm_table.specs.declared.fetch_head.FetchHeadState.{FetchHeadState}
-use Rattle.shm_table.specs.declared.fetch_head.FetchedHead.{FetchedHead}
+use Rattle.shm_table.specs.declared.fetch_head.{FetchHeadState.FetchHeadState, FetchedHead.FetchedHead}
 use Rattle.shm_table.specs.declared.fetch_head.FetchedHead.TheVariants.{Empty, Refused, Rooted}
-use Rattle.shm_table.specs.FetchHead.Control.{FetchHeadAnswer, FetchHeadCall, fetch_head_after, fetch_head_ask, fetch_head_call, fetch_head_turns, fetching_head, is_head}
-use Rattle.shm_table.specs.Get.UnderLatch.{ReadsMore}
-use Rattle.shm_table.specs.Staying.{Cleared, Keeps, PutCause, SameMap}
+use Rattle.shm_table.specs.FetchHead.Control.{FetchHeadAnswer, FetchHeadCall, fetch_head_ask, is_head, fetch_head_steered}
+use Rattle.shm_table.specs.{Get.UnderLatch.ReadsMore, Staying.{Cleared, Keeps, PutCause, SameMap}}
 
 -- ---- when it may begin
 
@@ -137,13 +118,7 @@ fetch_head_part m y = grown (is_head y) (or_part (word_part (is_head y) m.me (fe
 abbrev pub fetch_head_plan : Planned FetchHeadState FetchHeadCall FetchHeadAnswer FetchedHead
 fetch_head_plan =
     record {
-      me = λ m. m.me;
-      line = λ m. [];
-      first = λ m. is_head m.point;
-      start = λ m. fetching_head m.me m.from;
-      call = λ m. fetch_head_call m m.point;
-      after = fetch_head_after;
-      turns = fetch_head_turns;
+      steered = fetch_head_steered;
       part = λ m. fetch_head_part m m.point;
       knows = λ m. FetchHeadKnows m m.point;
       leaves = FetchHeadLeaves;

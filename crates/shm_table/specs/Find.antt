@@ -7,36 +7,18 @@ pub mod Tells
 use Rattle.std.specs.Prelude.{◌≡◌, ◌≢◌, ℕ, ◌+◌, ◌%◌, ◌<◌, ◌⊎◌, Some, None, false, List, [], ◌∷◌, ◌++◌}
 use Rattle.std.specs.List.{All, Contains}
 use Rattle.shm_words.specs.Layout.{GeometryFits, total_of}
-use Rattle.shm_graph.specs.declared.ask.Me.{Me}
-use Rattle.shm_graph.specs.declared.spot.Spot.{Spot}
-use Rattle.shm_graph.specs.declared.spot.Spot.TheVariants.{Home, Body}
-use Rattle.shm_graph.specs.declared.memo.Look.{Look}
-use Rattle.shm_graph.specs.declared.memo.Memo.{Memo}
-use Rattle.shm_graph.specs.declared.memo.Op.TheVariants.{Nothing}
-use Rattle.shm_graph.specs.declared.memo.Stored.{Stored}
-use Rattle.shm_graph.specs.declared.table.Entry.{Entry}
-use Rattle.shm_graph.specs.Asks.{Trail, pair}
-use Rattle.shm_graph.specs.Core.{core}
-use Rattle.shm_graph.specs.Events.{Event}
-use Rattle.shm_graph.specs.Held.{is_loose}
-use Rattle.shm_graph.specs.Telling.{Directory, Entry as AnEntry}
-use Rattle.shm_graph.specs.Views.{own_word}
-use Rattle.shm_steps.specs.Conditions.{IsHere}
-use Rattle.shm_steps.specs.Reparting.{sight, map_in, IsKnown}
-use Rattle.shm_steps.specs.Walking.{IsIn, IsSeeking, IsVacant}
+use Rattle.shm_graph.specs.declared.{ask.Me.Me, spot.Spot.{Spot, TheVariants.{Home, Body}}, memo.{Look.Look, Memo.Memo}}
+use Rattle.shm_graph.specs.declared.{memo.{Op.TheVariants.Nothing, Stored.Stored}, table.Entry.Entry}
+use Rattle.shm_graph.specs.{Asks.{Trail, pair}, Core.core, Events.Event, Held.is_loose}
+use Rattle.shm_graph.specs.{Telling.{Directory, Entry as AnEntry}, Views.own_word}
+use Rattle.shm_steps.specs.{Conditions.IsHere, Reparting.{sight, map_in, IsKnown}, Walking.{IsIn, IsSeeking, IsVacant}}
 use Rattle.shm_steps.specs.WordParts.{HomeLooked, ReferenceLoaded, WordLoaded}
-use Rattle.shm_calls.specs.declared.word.Word.{Word}
-use Rattle.shm_calls.specs.Parts.{Part}
-use Rattle.shm_calls.specs.Plans.{Planned}
-use Rattle.shm_calls.specs.Words.{word_part}
+use Rattle.shm_calls.specs.{declared.word.Word.Word, Parts.Part, Plans.Planned, Words.word_part}
 use Rattle.shm_ref.specs.AskedParts.{asked_part}
-use Rattle.shm_table.specs.declared.find.FindPoint.{FindPoint}
+use Rattle.shm_table.specs.declared.find.{FindPoint.FindPoint, FindState.FindState, Found.Found}
+use Rattle.shm_table.specs.{declared.find.Found.TheVariants.{Absent, At}, EntryReads.EntryRead}
+use Rattle.shm_table.specs.Find.Control.{home_ask, word_ask, find_ask, is_home, Passed, begin_of, walk_trail, led_from, find_steered}
 use Rattle.shm_table.specs.declared.find.FindPoint.TheVariants as point
-use Rattle.shm_table.specs.declared.find.FindState.{FindState}
-use Rattle.shm_table.specs.declared.find.Found.{Found}
-use Rattle.shm_table.specs.declared.find.Found.TheVariants.{Absent, At}
-use Rattle.shm_table.specs.EntryReads.{EntryRead}
-use Rattle.shm_table.specs.Find.Control.{finding, home_ask, word_ask, find_ask, find_call, find_after, find_turns, is_home, Passed, begin_of, walk_trail, led_from}
 
 -- ---- when it may begin
 
@@ -167,13 +149,7 @@ find_part m y = asked_part (word_part (is_home y) m.me (find_ask m y) (FindFinds
 abbrev pub find_plan : Planned FindState Word ℕ Found
 find_plan =
     record {
-      me = λ m. m.me;
-      line = λ m. [];
-      first = λ m. is_home m.point;
-      start = λ m. finding m.me m.author m.key;
-      call = λ m. find_call m m.point;
-      after = λ m. find_after m m.point;
-      turns = λ m. find_turns m m.point;
+      steered = find_steered;
       part = λ m. find_part m m.point;
       knows = λ m. FindKnows m m.point;
       leaves = FindLeaves;

@@ -5,44 +5,23 @@ pub mod Laws
 pub mod Bound
 pub mod Tells
 pub mod Finding
-use Rattle.std.specs.Prelude.{◌≡◌, ℕ, ◌+◌, ◌<◌, false, Option, Some, None, List, [], ◌∷◌, ◌++◌}
-use Rattle.std.specs.List.{Contains}
+use Rattle.std.specs.{Prelude.{◌≡◌, ℕ, ◌+◌, ◌<◌, false, Option, Some, None, List, [], ◌∷◌, ◌++◌}, List.Contains}
 use Rattle.shm_words.specs.Layout.{total_of}
-use Rattle.shm_graph.specs.declared.ask.Me.{Me}
-use Rattle.shm_graph.specs.declared.memo.Memo.{Memo}
-use Rattle.shm_graph.specs.declared.memo.Stored.{Stored}
-use Rattle.shm_graph.specs.declared.spot.Spot.{Spot}
-use Rattle.shm_graph.specs.declared.spot.Spot.TheVariants.{Hold, Body}
-use Rattle.shm_graph.specs.Asks.{Trail, pair, IsWithin}
-use Rattle.shm_graph.specs.Core.{core}
-use Rattle.shm_graph.specs.Events.{Event}
-use Rattle.shm_graph.specs.Spots.{same_spot}
-use Rattle.shm_graph.specs.Telling.{Entry as AnEntry, Value as AValue}
-use Rattle.shm_graph.specs.Views.{own_word}
-use Rattle.shm_calls.specs.declared.word.Word.{Word}
-use Rattle.shm_calls.specs.CallsPart.{calls_part}
-use Rattle.shm_calls.specs.Either.{or_part}
-use Rattle.shm_calls.specs.Parts.{IsHeld, Part}
-use Rattle.shm_calls.specs.Plans.{Planned}
-use Rattle.shm_calls.specs.Words.{word_control, word_part}
-use Rattle.shm_steps.specs.Reparting.{map_in}
-use Rattle.shm_steps.specs.Walking.{IsIn}
-use Rattle.shm_steps.specs.WordParts.{ReferenceLoaded, WordLoaded}
+use Rattle.shm_graph.specs.declared.{ask.Me.Me, memo.{Memo.Memo, Stored.Stored}, spot.Spot.Spot}
+use Rattle.shm_graph.specs.{declared.spot.Spot.TheVariants.{Hold, Body}, Asks.{Trail, pair, IsWithin}, Core.core}
+use Rattle.shm_graph.specs.{Events.Event, Spots.same_spot, Telling.{Entry as AnEntry, Value as AValue}, Views.own_word}
+use Rattle.shm_calls.specs.{declared.word.Word.Word, CallsPart.calls_part, Either.or_part, Parts.{IsHeld, Part}}
+use Rattle.shm_calls.specs.{Plans.Planned, Words.{word_control, word_part}}
+use Rattle.shm_steps.specs.{Reparting.map_in, Walking.IsIn, WordParts.{ReferenceLoaded, WordLoaded}}
 use Rattle.shm_ref.specs.AskedParts.{asked_part}
-use Rattle.shm_script.specs.declared.line.Line.TheVariants as line
 use Rattle.shm_script.specs.declared.log.Answer.{Answer}
+use Rattle.shm_script.specs.declared.line.Line.TheVariants as line
 use Rattle.shm_script.specs.declared.log.Answer.TheVariants as answer
-use Rattle.shm_script.specs.Text.{line_spelled}
-use Rattle.shm_table.specs.declared.get.GetPoint.{GetPoint}
-use Rattle.shm_table.specs.declared.get.GetPoint.TheVariants.{Search, Value, Number, Missing, Known}
-use Rattle.shm_table.specs.declared.get.GetState.{GetState}
-use Rattle.shm_table.specs.Find.Control.{Passed, walk_trail, word_ask}
-use Rattle.shm_table.specs.Find.{AreOthers, EndsNowhere, IsLook}
-use Rattle.shm_table.specs.Find.Tells.{HasRead}
-use Rattle.shm_table.specs.Get.Control.{GetCall, GetAnswer, get_after, get_ask, get_call, get_turns, is_search}
-use Rattle.shm_table.specs.Locate.Control.{locate_parts}
-use Rattle.shm_table.specs.Locate.{MayLocate, locate_plan}
-use Rattle.shm_table.specs.Staying.{Cleared, Keeps, SameMap}
+use Rattle.shm_table.specs.declared.get.GetPoint.{GetPoint, TheVariants.{Search, Value, Number, Missing, Known}}
+use Rattle.shm_table.specs.{declared.get.GetState.GetState, Find.Control.{Passed, walk_trail, word_ask}}
+use Rattle.shm_table.specs.Find.{AreOthers, EndsNowhere, IsLook, Tells.HasRead}
+use Rattle.shm_table.specs.Get.Control.{GetCall, GetAnswer, get_ask, is_search, get_steered}
+use Rattle.shm_table.specs.{Locate.{Control.locate_parts, MayLocate, locate_plan}, Staying.{Cleared, Keeps, SameMap}}
 use Rattle.shm_table.specs.Unlatch.{unlatch_plan, unlatch_trail}
 
 -- ---- on the way
@@ -166,13 +145,7 @@ get_part m y = or_part (calls_part locate_parts locate_plan) (or_part (get_word_
 abbrev pub get_plan : Planned GetState GetCall GetAnswer Answer
 get_plan =
     record {
-      me = λ m. m.me;
-      line = λ m. line_spelled (line.Get m.author m.key);
-      first = λ m. is_search m.point;
-      start = λ m. record m { entry = 0; block = 0; number = 0; point = Search };
-      call = λ m. get_call m m.point;
-      after = get_after;
-      turns = get_turns;
+      steered = get_steered;
       part = λ m. get_part m m.point;
       knows = λ m. GetKnows m m.point;
       leaves = GetLeaves;

@@ -1,32 +1,16 @@
 -- the store that gives a latch back, in any step of a machine: also in its first one, which forgets what the calls before have read
 use Rattle.std.proofs.Common.{◌≡◌, ℕ, List, [], Bool, true, false, None, sym, ap, ◌∙◌, subst, refl}
-use Rattle.std.specs.Prelude.{Option}
-use Rattle.std.specs.List.{filter}
 use Rattle.std.proofs.lemmas.List.Elements.{All-nil, All-filter}
+use Rattle.std.specs.{Prelude.Option, List.filter}
 use Rattle.shm_words.specs.declared.geometry.Geometry.{Geometry}
-use Rattle.shm_graph.specs.declared.ask.Ask.TheVariants.{Store}
-use Rattle.shm_graph.specs.declared.ask.Me.{Me}
-use Rattle.shm_graph.specs.declared.spot.Spot.{Spot}
-use Rattle.shm_graph.specs.declared.spot.Spot.TheVariants.{Latch}
-use Rattle.shm_graph.specs.declared.memo.Fact.{Fact}
-use Rattle.shm_graph.specs.declared.memo.Memo.{Memo}
-use Rattle.shm_graph.specs.declared.memo.Stored.{Stored}
-use Rattle.shm_graph.specs.declared.memo.Test.{Test}
-use Rattle.shm_graph.specs.Asks.{Trail}
-use Rattle.shm_graph.specs.Blocks.{classes}
-use Rattle.shm_graph.specs.Changes.{is_lane_count}
-use Rattle.shm_graph.specs.Held.{HeldAt}
-use Rattle.shm_graph.specs.Laws.{Frame, KeptAt, Stands}
-use Rattle.shm_graph.specs.Spots.{spot_at}
+use Rattle.shm_graph.specs.declared.{ask.{Ask.TheVariants.Store, Me.Me}, spot.Spot.{Spot, TheVariants.Latch}}
+use Rattle.shm_graph.specs.{declared.memo.{Fact.Fact, Memo.Memo, Stored.Stored, Test.Test}, Asks.Trail, Blocks.classes}
+use Rattle.shm_graph.specs.{Changes.is_lane_count, Held.HeldAt, Laws.{Frame, KeptAt, Stands}, Spots.spot_at}
 use Rattle.shm_graph.specs.Views.{View, at1, view}
-use Rattle.shm_graph.proofs.Memos.Calls.{FactHolds, call_held}
-use Rattle.shm_graph.proofs.Memos.Frames.{at1_twice}
-use Rattle.shm_graph.proofs.StepKinds.Keeping.{told_fixed}
-use Rattle.shm_graph.proofs.StepKinds.KindKeeping.{kept_from}
-use Rattle.shm_graph.proofs.Memos.MemoParts.{put_same}
+use Rattle.shm_graph.proofs.Memos.{Calls.{FactHolds, call_held}, Frames.at1_twice, MemoParts.put_same}
+use Rattle.shm_graph.proofs.StepKinds.{Keeping.told_fixed, KindKeeping.kept_from}
 use Rattle.shm_laws.specs.Latches.{BackNeeds, back_view}
-use Rattle.shm_laws.proofs.Latches.{back_kept}
-use Rattle.shm_laws.proofs.Quiet.{back_quiet}
+use Rattle.shm_laws.proofs.{Latches.back_kept, Quiet.back_quiet}
 use Rattle.shm_steps.specs.Unlatching.{MayUnlatch}
 use Rattle.shm_steps.proofs.LatchBack.{back_step, kept, latch_back, values}
 

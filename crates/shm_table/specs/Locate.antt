@@ -3,32 +3,13 @@ pub mod Control
 pub mod Laws
 use Rattle.std.specs.Prelude.{◌≡◌, ℕ, ◌<◌, false, None, List, [], ◌++◌}
 use Rattle.shm_words.specs.Layout.{GeometryFits}
-use Rattle.shm_graph.specs.declared.ask.Me.{Me}
-use Rattle.shm_graph.specs.declared.memo.Memo.{Memo}
-use Rattle.shm_graph.specs.declared.spot.Spot.{Spot}
-use Rattle.shm_graph.specs.Asks.{Trail, IsWithin}
-use Rattle.shm_graph.specs.Core.{core}
-use Rattle.shm_graph.specs.Events.{Event}
-use Rattle.shm_graph.specs.Held.{is_loose}
-use Rattle.shm_graph.specs.Idle.{IsIdle}
-use Rattle.shm_graph.specs.Laws.{Control as ControlOf}
-use Rattle.shm_graph.specs.Views.{own_word}
-use Rattle.shm_calls.specs.declared.calls.Calls.{Calls}
-use Rattle.shm_calls.specs.CallsControl.{calls_control}
-use Rattle.shm_calls.specs.CallsPart.{calls_part}
-use Rattle.shm_calls.specs.Either.{or_part}
-use Rattle.shm_calls.specs.Parts.{Part}
-use Rattle.shm_calls.specs.Plans.{Planned}
-use Rattle.shm_calls.specs.Words.{word_control}
+use Rattle.shm_graph.specs.{declared.{ask.Me.Me, memo.Memo.Memo, spot.Spot.Spot}, Asks.{Trail, IsWithin}, Core.core}
+use Rattle.shm_graph.specs.{Events.Event, Held.is_loose, Idle.IsIdle, Views.own_word}
+use Rattle.shm_calls.specs.{CallsPart.calls_part, Either.or_part, Parts.Part, Plans.Planned, Words.word_control}
 use Rattle.shm_ref.specs.Hold.{hold_plan}
-use Rattle.shm_table.specs.declared.find.Found.{Found}
-use Rattle.shm_table.specs.declared.locate.LocatePoint.{LocatePoint}
-use Rattle.shm_table.specs.declared.locate.LocatePoint.TheVariants.{Take, Search}
-use Rattle.shm_table.specs.declared.locate.LocateState.{LocateState}
-use Rattle.shm_table.specs.Find.Control.{finding}
-use Rattle.shm_table.specs.Find.{FindLeaves, find_plan}
-use Rattle.shm_table.specs.Locate.Control.{LocateCall, LocateAnswer, is_take, locate_after, locate_call, locate_parts, locate_turns}
-use Rattle.shm_table.specs.Staying.{Latched}
+use Rattle.shm_table.specs.declared.{find.Found.Found, locate.LocatePoint.{LocatePoint, TheVariants.Search}}
+use Rattle.shm_table.specs.{declared.locate.LocateState.LocateState, Find.{Control.finding, FindLeaves, find_plan}}
+use Rattle.shm_table.specs.{Locate.Control.{LocateCall, LocateAnswer, locate_steered}, Staying.Latched}
 
 -- ---- when it may begin
 
@@ -84,21 +65,8 @@ locate_part = or_part (calls_part word_control hold_plan) (calls_part word_contr
 abbrev pub locate_plan : Planned LocateState LocateCall LocateAnswer Found
 locate_plan =
     record {
-      me = λ m. m.me;
-      line = λ m. [];
-      first = λ m. is_take m.point;
-      start = λ m. record m { point = Take };
-      call = λ m. locate_call m m.point;
-      after = locate_after;
-      turns = locate_turns;
+      steered = locate_steered;
       part = λ m. locate_part;
       knows = λ m. LocateKnows m m.point;
       leaves = λ m. Located m.me m.author m.key;
     }
-
--- it as a call of larger machines, and its control
-abbrev pub LocateCalls : Type 0
-LocateCalls = Calls LocateState LocateCall Found LocateAnswer
-
-abbrev pub locate_control : ControlOf LocateCalls Found
-locate_control = calls_control locate_parts locate_plan

@@ -4,43 +4,21 @@ pub mod Laws
 use Rattle.std.specs.Prelude.{◌≡◌, ◌≢◌, ℕ, ◌+◌, ◌<◌, ◌⊎◌, false, None, Result, Ok, Err, List, [], ◌∷◌, length}
 use Rattle.std.specs.List.{Contains}
 use Rattle.shm_words.specs.Layout.{GeometryFits}
-use Rattle.shm_graph.specs.declared.ask.Me.{Me}
-use Rattle.shm_graph.specs.declared.memo.Memo.{Memo}
-use Rattle.shm_graph.specs.declared.spot.Spot.TheVariants.{Home}
-use Rattle.shm_graph.specs.Agents.{recovers}
-use Rattle.shm_graph.specs.Asks.{Trail, IsWithin}
-use Rattle.shm_graph.specs.Bounds.{alloc_steps, tear_steps, up_steps, redo_steps}
-use Rattle.shm_graph.specs.Core.{core}
-use Rattle.shm_graph.specs.Events.{Event}
+use Rattle.shm_graph.specs.{declared.{ask.Me.Me, memo.Memo.Memo, spot.Spot.TheVariants.Home}, Agents.recovers}
+use Rattle.shm_graph.specs.{Asks.{Trail, IsWithin}, Bounds.{alloc_steps, tear_steps, up_steps, redo_steps}, Core.core}
+use Rattle.shm_graph.specs.{Events.Event, Held.is_loose, Idle.IsIdle, Views.own_word}
 use Rattle.shm_graph.specs.Events as event
-use Rattle.shm_graph.specs.Held.{is_loose}
-use Rattle.shm_graph.specs.Idle.{IsIdle}
-use Rattle.shm_graph.specs.Views.{own_word}
 use Rattle.shm_steps.specs.Reparting.{sight, IsBare}
-use Rattle.shm_calls.specs.CallsPart.{calls_part}
-use Rattle.shm_calls.specs.Either.{or_part}
-use Rattle.shm_calls.specs.Parts.{IsHeld, Part}
-use Rattle.shm_calls.specs.Plans.{Planned}
-use Rattle.shm_count.specs.declared.answer.UpFault.{UpFault}
-use Rattle.shm_count.specs.declared.point.StepState.{StepState}
-use Rattle.shm_count.specs.MadeSteps.{made_up_part}
-use Rattle.shm_count.specs.Roots.{root_word}
-use Rattle.shm_count.specs.Slots.Parts.{up_slot_part}
-use Rattle.shm_count.specs.Step.Control.{IsInside}
+use Rattle.shm_calls.specs.{CallsPart.calls_part, Either.or_part, Parts.{IsHeld, Part}, Plans.Planned}
+use Rattle.shm_count.specs.{declared.{answer.UpFault.UpFault, point.StepState.StepState}, MadeSteps.made_up_part}
+use Rattle.shm_count.specs.{Roots.root_word, Slots.Parts.up_slot_part, Step.Control.IsInside}
 use Rattle.shm_count.specs.Tear.Events.{Visit, frees}
-use Rattle.shm_alloc.specs.declared.alloc.AllocFault.{AllocFault}
-use Rattle.shm_alloc.specs.Alloc.AsPart.{alloc_part}
-use Rattle.shm_ref.specs.DropRoot.Control.{drop_parts}
-use Rattle.shm_ref.specs.DropRoot.{drop_plan}
-use Rattle.shm_ref.specs.HomeParts.{home_part}
-use Rattle.shm_ref.specs.Lefts.{RootEvents, Stopped}
-use Rattle.shm_table.specs.declared.answer.PutFault.{PutFault}
-use Rattle.shm_table.specs.declared.answer.PutFault.TheVariants.{EraSpent as Spent}
-use Rattle.shm_table.specs.declared.open_table.OpenPoint.{OpenPoint}
-use Rattle.shm_table.specs.declared.open_table.OpenPoint.TheVariants.{Look, Make, Name, Drop}
-use Rattle.shm_table.specs.declared.open_table.OpenState.{OpenState}
-use Rattle.shm_table.specs.Answers.{made_fault}
-use Rattle.shm_table.specs.OpenTable.Control.{OpenAnswer, OpenCall, is_look, open_after, open_call_at, open_turns}
+use Rattle.shm_alloc.specs.{declared.alloc.AllocFault.AllocFault, Alloc.AsPart.alloc_part}
+use Rattle.shm_ref.specs.{DropRoot.{Control.drop_parts, drop_plan}, HomeParts.home_part, Lefts.{RootEvents, Stopped}}
+use Rattle.shm_table.specs.declared.answer.PutFault.{PutFault, TheVariants.EraSpent as Spent}
+use Rattle.shm_table.specs.declared.open_table.OpenPoint.{OpenPoint, TheVariants.{Look, Make, Name, Drop}}
+use Rattle.shm_table.specs.{declared.open_table.OpenState.OpenState, Answers.made_fault}
+use Rattle.shm_table.specs.OpenTable.Control.{OpenAnswer, OpenCall, is_look, open_steered}
 use Rattle.shm_table.specs.Staying.{Cleared, Keeps, PutCause, SameMap}
 
 -- ---- when it may begin
@@ -166,13 +144,7 @@ name_part m y = up_slot_part (Home m.me.who) false
 abbrev pub open_plan : Planned OpenState OpenCall OpenAnswer (Result (Unit {0}) PutFault)
 open_plan =
     record {
-      me = λ m. m.me;
-      line = λ m. [];
-      first = λ m. is_look m.point;
-      start = λ m. record m { root = 0; block = 0; point = Look };
-      call = λ m. open_call_at m m.point;
-      after = open_after;
-      turns = open_turns;
+      steered = open_steered;
       part = λ m. or_part (home_part m.me (is_look m.point)) (or_part alloc_part (or_part (name_part m m.point) (calls_part drop_parts drop_plan)));
       knows = λ m. OpenKnows m m.point;
       leaves = OpenLeaves;

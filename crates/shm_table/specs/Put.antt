@@ -5,40 +5,24 @@ pub mod Bound
 pub mod Fresh
 use Rattle.std.specs.Prelude.{◌≡◌, ◌≢◌, ℕ, ◌+◌, ◌*◌, ◌^◌, ◌<◌, ◌⊎◌, false, Option, Some, None, List, [], ◌∷◌, length, Bool}
 use Rattle.std.specs.List.{All, Contains}
-use Rattle.shm_graph.specs.declared.ask.Me.{Me}
-use Rattle.shm_graph.specs.declared.memo.Memo.{Memo}
-use Rattle.shm_graph.specs.declared.spot.Spot.TheVariants.{Home}
-use Rattle.shm_graph.specs.Agents.{recovers}
-use Rattle.shm_graph.specs.Asks.{Trail, IsWithin}
-use Rattle.shm_graph.specs.Bounds.{alloc_steps, tear_steps, redo_steps}
-use Rattle.shm_graph.specs.Events.{Event}
-use Rattle.shm_graph.specs.Events as event
+use Rattle.shm_graph.specs.{declared.{ask.Me.Me, memo.Memo.Memo, spot.Spot.TheVariants.Home}, Agents.recovers}
+use Rattle.shm_graph.specs.{Asks.{Trail, IsWithin}, Bounds.{alloc_steps, tear_steps, redo_steps}, Events.Event}
 use Rattle.shm_graph.specs.Views.{own_word}
-use Rattle.shm_calls.specs.CallsPart.{calls_part}
-use Rattle.shm_calls.specs.Either.{or_part}
-use Rattle.shm_calls.specs.Parts.{Part}
-use Rattle.shm_calls.specs.Plans.{Planned}
+use Rattle.shm_graph.specs.Events as event
+use Rattle.shm_calls.specs.{CallsPart.calls_part, Either.or_part, Parts.Part, Plans.Planned}
 use Rattle.shm_steps.specs.Reparting.{sight, map_in, IsValue}
 use Rattle.shm_alloc.specs.Alloc.AsPart.{alloc_part}
-use Rattle.shm_count.specs.Roots.{root_word}
-use Rattle.shm_count.specs.Tear.Events.{Visit, frees}
-use Rattle.shm_ref.specs.DropRoot.Control.{drop_parts}
-use Rattle.shm_ref.specs.DropRoot.{drop_plan}
-use Rattle.shm_script.specs.declared.line.Line.TheVariants as line
+use Rattle.shm_count.specs.{Roots.root_word, Tear.Events.{Visit, frees}}
+use Rattle.shm_ref.specs.DropRoot.{Control.drop_parts, drop_plan}
 use Rattle.shm_script.specs.declared.log.Answer.{Answer}
+use Rattle.shm_script.specs.declared.line.Line.TheVariants as line
 use Rattle.shm_script.specs.declared.log.Answer.TheVariants as answer
-use Rattle.shm_script.specs.Text.{line_spelled}
-use Rattle.shm_table.specs.declared.answer.PutFault.{PutFault}
-use Rattle.shm_table.specs.declared.answer.PutFault.TheVariants.{EraSpent, RootsFull, Full, CountFull}
-use Rattle.shm_table.specs.declared.put.PutPoint.{PutPoint}
-use Rattle.shm_table.specs.declared.put.PutPoint.TheVariants.{Make, Put, Drop}
-use Rattle.shm_table.specs.declared.put.PutState.{PutState}
+use Rattle.shm_table.specs.declared.answer.PutFault.{PutFault, TheVariants.{EraSpent, RootsFull, Full, CountFull}}
+use Rattle.shm_table.specs.declared.put.{PutPoint.{PutPoint, TheVariants.{Make, Put, Drop}}, PutState.PutState}
 use Rattle.shm_table.specs.Commands.{CommandCause, MayCommand, RestSo, ValueSo}
-use Rattle.shm_table.specs.Put.Control.{PutAnswer, PutCall, is_make, put_after, put_call_at, put_turns, putting}
-use Rattle.shm_table.specs.PutRoot.Control.{put_root_parts}
+use Rattle.shm_table.specs.{Put.Control.{PutAnswer, PutCall, put_steered}, PutRoot.Control.put_root_parts}
 use Rattle.shm_table.specs.PutRoot.{HasSearch, IsDecided, IsEraSpent, put_root_plan, put_root_steps}
-use Rattle.shm_table.specs.Staying.{Cleared, Ended, Keeps, MapSet, SameMap}
-use Rattle.shm_table.specs.Undoing.{BlockUndone, CommandUndone}
+use Rattle.shm_table.specs.{Staying.{Cleared, Ended, Keeps, MapSet, SameMap}, Undoing.{BlockUndone, CommandUndone}}
 
 -- ---- on the way
 
@@ -135,13 +119,7 @@ put_part = or_part alloc_part (or_part (calls_part put_root_parts put_root_plan)
 abbrev pub put_plan : Planned PutState PutCall PutAnswer Answer
 put_plan =
     record {
-      me = λ m. m.me;
-      line = λ m. line_spelled (line.Put m.key m.number);
-      first = λ m. is_make m.point;
-      start = λ m. putting m.me m.key m.number;
-      call = λ m. put_call_at m m.point;
-      after = put_after;
-      turns = put_turns;
+      steered = put_steered;
       part = λ m. put_part;
       knows = λ m. PutKnows m m.point;
       leaves = PutLeaves;

@@ -8,49 +8,26 @@ pub mod Bound
 use Rattle.std.specs.Prelude.{◌≡◌, ◌≢◌, Bool, ℕ, ◌+◌, ◌*◌, ◌%◌, ◌^◌, ◌<◌, ◌⊎◌, false, Option, Some, None, IfSome, Result, Ok, Err, List, [], ◌∷◌, ◌++◌, length}
 use Rattle.std.specs.List.{All, Contains}
 use Rattle.shm_words.specs.Layout.{GeometryFits}
-use Rattle.shm_graph.specs.declared.ask.Me.{Me}
-use Rattle.shm_graph.specs.declared.memo.Memo.{Memo}
-use Rattle.shm_graph.specs.declared.spot.Spot.TheVariants.{Body, Home}
-use Rattle.shm_graph.specs.Agents.{recovers}
+use Rattle.shm_graph.specs.{declared.{ask.Me.Me, memo.Memo.Memo, spot.Spot.TheVariants.{Body, Home}}, Agents.recovers}
 use Rattle.shm_graph.specs.Asks.{Trail, IsWithin}
-use Rattle.shm_graph.specs.Bounds.{alloc_steps, change_steps, tear_steps, up_steps, redo_steps}
-use Rattle.shm_graph.specs.Events.{Event}
+use Rattle.shm_graph.specs.{Bounds.{alloc_steps, change_steps, tear_steps, up_steps, redo_steps}, Events.Event}
+use Rattle.shm_graph.specs.{Held.is_loose, Idle.IsIdle, Views.own_word}
 use Rattle.shm_graph.specs.Events as event
-use Rattle.shm_graph.specs.Held.{is_loose}
-use Rattle.shm_graph.specs.Idle.{IsIdle}
-use Rattle.shm_graph.specs.Views.{own_word}
-use Rattle.shm_graph.specs.Laws.{Control as ControlOf}
-use Rattle.shm_calls.specs.CallsControl.{calls_control}
-use Rattle.shm_calls.specs.CallsPart.{calls_part}
-use Rattle.shm_calls.specs.Either.{or_part}
-use Rattle.shm_calls.specs.Parts.{IsHeld, Part}
-use Rattle.shm_calls.specs.Plans.{Planned}
+use Rattle.shm_calls.specs.{CallsPart.calls_part, Either.or_part, Parts.{IsHeld, Part}, Plans.Planned}
 use Rattle.shm_calls.specs.Words.{word_control}
 use Rattle.shm_steps.specs.Reparting.{sight, map_in, IsValue}
-use Rattle.shm_count.specs.Roots.{root_word}
-use Rattle.shm_count.specs.Tear.Events.{Visit, frees}
-use Rattle.shm_ref.specs.DropRoot.Control.{drop_parts}
-use Rattle.shm_ref.specs.DropRoot.{drop_plan}
-use Rattle.shm_ref.specs.Lefts.{RootEvents}
-use Rattle.shm_table.specs.declared.answer.PutFault.{PutFault}
-use Rattle.shm_table.specs.declared.answer.PutFault.TheVariants.{EraSpent}
+use Rattle.shm_count.specs.{Roots.root_word, Tear.Events.{Visit, frees}}
+use Rattle.shm_ref.specs.{DropRoot.{Control.drop_parts, drop_plan}, Lefts.RootEvents}
+use Rattle.shm_table.specs.declared.answer.PutFault.{PutFault, TheVariants.EraSpent}
 use Rattle.shm_table.specs.declared.put_root.PutRootPoint.{PutRootPoint}
 use Rattle.shm_table.specs.declared.put_root.PutRootPoint.TheVariants.{Open, Locate, Replace, Enter, Unlatch, Drop}
-use Rattle.shm_table.specs.declared.put_root.PutRootState.{PutRootState}
-use Rattle.shm_table.specs.declared.find.Found.{Found}
-use Rattle.shm_table.specs.Enter.Control.{enter_parts}
-use Rattle.shm_table.specs.Enter.{IsHalfMade, MayEnter, enter_plan, enter_steps}
-use Rattle.shm_table.specs.Find.Bound.{IsWhole, keys_read}
-use Rattle.shm_table.specs.Find.Control.{Passed}
-use Rattle.shm_table.specs.Locate.Control.{locate_parts}
-use Rattle.shm_table.specs.Locate.{locate_plan}
-use Rattle.shm_table.specs.OpenTable.Control.{open_parts}
-use Rattle.shm_table.specs.OpenTable.{HomeSo, IsOpening, open_plan}
-use Rattle.shm_table.specs.PutRoot.Control.{PutRootAnswer, PutRootCall, PutRootCalls, put_root_parts, is_open, put_root_after, put_root_call, put_root_turns, putting_root}
-use Rattle.shm_table.specs.Replace.Control.{replace_parts}
-use Rattle.shm_table.specs.Replace.{MayReplace, replace_plan}
-use Rattle.shm_table.specs.Staying.{Cleared, Ended, Keeps, MapSet, PutCause, SameMap, Still}
-use Rattle.shm_table.specs.Unlatch.{unlatch_plan}
+use Rattle.shm_table.specs.{declared.{put_root.PutRootState.PutRootState, find.Found.Found}, Enter.Control.enter_parts}
+use Rattle.shm_table.specs.{Enter.{IsHalfMade, MayEnter, enter_plan, enter_steps}, Find.Bound.{IsWhole, keys_read}}
+use Rattle.shm_table.specs.{Find.Control.Passed, Locate.{Control.locate_parts, locate_plan}}
+use Rattle.shm_table.specs.OpenTable.{Control.open_parts, HomeSo, IsOpening, open_plan}
+use Rattle.shm_table.specs.PutRoot.Control.{PutRootAnswer, PutRootCall, put_root_steered}
+use Rattle.shm_table.specs.Replace.{Control.replace_parts, MayReplace, replace_plan}
+use Rattle.shm_table.specs.{Staying.{Cleared, Ended, Keeps, MapSet, PutCause, SameMap, Still}, Unlatch.unlatch_plan}
 
 -- ---- when it may begin
 
@@ -229,18 +206,8 @@ put_root_part =
 abbrev pub put_root_plan : Planned PutRootState PutRootCall PutRootAnswer (Result Bool PutFault)
 put_root_plan =
     record {
-      me = λ m. m.me;
-      line = λ m. [];
-      first = λ m. is_open m.point;
-      start = λ m. putting_root m.me m.key m.value;
-      call = λ m. put_root_call m m.point;
-      after = put_root_after;
-      turns = put_root_turns;
+      steered = put_root_steered;
       part = λ m. put_root_part;
       knows = λ m. PutRootKnows m m.point;
       leaves = PutRootLeaves;
     }
-
--- its control
-abbrev pub put_root_control : ControlOf PutRootCalls (Result Bool PutFault)
-put_root_control = calls_control put_root_parts put_root_plan

@@ -5,43 +5,27 @@ pub mod Laws
 pub mod Bound
 use Rattle.std.specs.Prelude.{◌≡◌, ◌≢◌, ℕ, ◌+◌, ◌*◌, ◌%◌, ◌<◌, ◌⊎◌, false, Option, Some, None, List, [], ◌∷◌, length, slice_index, Bool}
 use Rattle.std.specs.List.{All, Contains}
-use Rattle.shm_graph.specs.declared.ask.Me.{Me}
-use Rattle.shm_graph.specs.declared.memo.Memo.{Memo}
+use Rattle.shm_graph.specs.{declared.{ask.Me.Me, memo.Memo.Memo}, Asks.{Trail, IsWithin}}
+use Rattle.shm_graph.specs.{Bounds.{tear_steps, redo_steps}, Events.Event, MemoAfterStore.lane_with, Views.own_word}
 use Rattle.shm_graph.specs.declared.spot.Spot.TheVariants as spot
-use Rattle.shm_graph.specs.Asks.{Trail, IsWithin}
-use Rattle.shm_graph.specs.Bounds.{tear_steps, redo_steps}
-use Rattle.shm_graph.specs.Events.{Event}
 use Rattle.shm_graph.specs.Events as event
-use Rattle.shm_graph.specs.MemoAfterStore.{lane_with}
-use Rattle.shm_graph.specs.Views.{own_word}
-use Rattle.shm_calls.specs.CallsPart.{calls_part}
-use Rattle.shm_calls.specs.Either.{or_part}
-use Rattle.shm_calls.specs.Parts.{IsHeld, Part}
-use Rattle.shm_calls.specs.Plans.{Planned}
+use Rattle.shm_calls.specs.{CallsPart.calls_part, Either.or_part, Parts.{IsHeld, Part}, Plans.Planned}
 use Rattle.shm_steps.specs.Reparting.{map_in}
-use Rattle.shm_count.specs.Roots.{root_word}
-use Rattle.shm_count.specs.Tear.Events.{Visit, frees}
-use Rattle.shm_count.specs.Tear.Memos.{Knows}
+use Rattle.shm_count.specs.{Roots.root_word, Tear.{Events.{Visit, frees}, Memos.Knows}}
 use Rattle.shm_queue.specs.Take.{TakeEmpty}
-use Rattle.shm_ref.specs.DropRoot.Control.{drop_parts}
-use Rattle.shm_ref.specs.DropRoot.{drop_plan}
-use Rattle.shm_script.specs.declared.line.Line.TheVariants as line
+use Rattle.shm_ref.specs.DropRoot.{Control.drop_parts, drop_plan}
 use Rattle.shm_script.specs.declared.log.Answer.{Answer}
+use Rattle.shm_script.specs.declared.line.Line.TheVariants as line
 use Rattle.shm_script.specs.declared.log.Answer.TheVariants as answer
-use Rattle.shm_script.specs.Text.{line_spelled}
-use Rattle.shm_table.specs.declared.answer.PutFault.{PutFault}
-use Rattle.shm_table.specs.declared.answer.PutFault.TheVariants.{EraSpent, RootsFull, Full, CountFull}
-use Rattle.shm_table.specs.declared.recv.RecvPoint.{RecvPoint}
-use Rattle.shm_table.specs.declared.recv.RecvPoint.TheVariants.{Fetch, Put, Take, Drop}
-use Rattle.shm_table.specs.declared.recv.RecvState.{RecvState}
-use Rattle.shm_table.specs.Commands.{CommandCause, MayCommand, RestSo, ValueSo}
+use Rattle.shm_table.specs.declared.answer.PutFault.{PutFault, TheVariants.{EraSpent, RootsFull, Full, CountFull}}
+use Rattle.shm_table.specs.declared.recv.RecvPoint.{RecvPoint, TheVariants.{Fetch, Put, Take, Drop}}
+use Rattle.shm_table.specs.{declared.recv.RecvState.RecvState, Commands.{CommandCause, MayCommand, RestSo, ValueSo}}
 use Rattle.shm_table.specs.FetchHead.Control.{fetch_head_parts}
 use Rattle.shm_table.specs.FetchHead.{IsAtHead, IsHeadRooted, IsWaited, fetch_head_plan, fetch_head_steps}
 use Rattle.shm_table.specs.PutRoot.Control.{put_root_parts}
 use Rattle.shm_table.specs.PutRoot.{HasSearch, IsDecided, IsEraSpent, put_root_plan, put_root_steps}
-use Rattle.shm_table.specs.RecvKey.Control.{RecvAnswer, RecvCall, is_fetch, receiving_key, recv_after, recv_call_at, recv_turns}
-use Rattle.shm_table.specs.Staying.{Cleared, Ended, IsSpent, Keeps, MapSet, SameMap}
-use Rattle.shm_table.specs.TakeHead.Control.{take_head_parts}
+use Rattle.shm_table.specs.RecvKey.Control.{RecvAnswer, RecvCall, recv_steered}
+use Rattle.shm_table.specs.{Staying.{Cleared, Ended, IsSpent, Keeps, MapSet, SameMap}, TakeHead.Control.take_head_parts}
 use Rattle.shm_table.specs.TakeHead.{passed_memo, take_head_plan, take_head_steps}
 use Rattle.shm_table.specs.Undoing.{BlockUndone, CommandUndone}
 
@@ -165,13 +149,7 @@ recv_part = or_part (or_part (calls_part fetch_head_parts fetch_head_plan) (call
 abbrev pub recv_plan : Planned RecvState RecvCall RecvAnswer Answer
 recv_plan =
     record {
-      me = λ m. m.me;
-      line = λ m. line_spelled (line.Recv m.from m.key);
-      first = λ m. is_fetch m.point;
-      start = λ m. receiving_key m.me m.from m.key;
-      call = λ m. recv_call_at m m.point;
-      after = recv_after;
-      turns = recv_turns;
+      steered = recv_steered;
       part = λ m. recv_part;
       knows = λ m. RecvKnows m m.point;
       leaves = RecvLeaves;

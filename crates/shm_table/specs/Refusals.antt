@@ -1,29 +1,14 @@
 -- refusals of commands: which answers they are, and what a command of a line leaves
 use Rattle.std.specs.Prelude.{ℕ, Bool, true, false, not, ◌==◌, if◌then◌else◌, List, [], ◌∷◌}
-use Rattle.shm_graph.specs.declared.ask.Me.{Me}
-use Rattle.shm_graph.specs.declared.memo.Memo.{Memo}
-use Rattle.shm_graph.specs.declared.spot.Spot.{Spot}
-use Rattle.shm_graph.specs.declared.spot.Spot.TheVariants.{Body, Home, Root}
-use Rattle.shm_graph.specs.Asks.{Trail}
-use Rattle.shm_graph.specs.Events.{Event}
+use Rattle.shm_graph.specs.declared.{ask.Me.Me, memo.Memo.Memo, spot.Spot.{Spot, TheVariants.{Body, Home, Root}}}
+use Rattle.shm_graph.specs.{Asks.Trail, Events.Event, Spots.same_spot}
 use Rattle.shm_graph.specs.Events as event
-use Rattle.shm_graph.specs.Spots.{same_spot}
-use Rattle.shm_script.specs.declared.line.Line.{Line}
+use Rattle.shm_script.specs.declared.{line.Line.Line, log.Answer.Answer}
 use Rattle.shm_script.specs.declared.line.Line.TheVariants as line
-use Rattle.shm_script.specs.declared.log.Answer.{Answer}
 use Rattle.shm_script.specs.declared.log.Answer.TheVariants as answer
-use Rattle.shm_table.specs.CopyKey.Control.{copying}
-use Rattle.shm_table.specs.CopyKey.{CopyLeaves}
-use Rattle.shm_table.specs.Del.Control.{deleting}
-use Rattle.shm_table.specs.Del.{DelLeaves}
-use Rattle.shm_table.specs.Get.Control.{getting}
-use Rattle.shm_table.specs.Get.{GetLeaves}
-use Rattle.shm_table.specs.Put.Control.{putting}
-use Rattle.shm_table.specs.Put.{PutLeaves}
-use Rattle.shm_table.specs.RecvKey.Control.{receiving_key}
-use Rattle.shm_table.specs.RecvKey.{RecvLeaves}
-use Rattle.shm_table.specs.SendKey.Control.{sending_key}
-use Rattle.shm_table.specs.SendKey.{SendKeyLeaves}
+use Rattle.shm_table.specs.{CopyKey.{Control.copying, CopyLeaves}, Del.{Control.deleting, DelLeaves}}
+use Rattle.shm_table.specs.{Get.{Control.getting, GetLeaves}, Put.{Control.putting, PutLeaves}}
+use Rattle.shm_table.specs.{RecvKey.{Control.receiving_key, RecvLeaves}, SendKey.{Control.sending_key, SendKeyLeaves}}
 
 -- the answer says that nothing was stored, read, removed or sent
 abbrev pub is_refusal : Answer → Bool

@@ -4,46 +4,22 @@ pub mod Laws
 use Rattle.std.specs.Prelude.{◌≡◌, ◌≢◌, ℕ, ◌+◌, ◌%◌, ◌<◌, ◌≤◌, ◌==◌, ◌⊎◌, if◌then◌else◌, Bool, true, false, Some, Result, Ok, Err, List, [], ◌∷◌, length}
 use Rattle.std.specs.List.{All, Contains}
 use Rattle.shm_words.specs.Layout.{GeometryFits, total_of, address_limit}
-use Rattle.shm_graph.specs.declared.ask.Me.{Me}
-use Rattle.shm_graph.specs.declared.memo.Memo.{Memo}
-use Rattle.shm_graph.specs.declared.spot.Spot.TheVariants.{Body, Home}
-use Rattle.shm_graph.specs.declared.table.Entry.{Entry}
-use Rattle.shm_graph.specs.Agents.{recovers}
-use Rattle.shm_graph.specs.Asks.{Trail, IsWithin}
-use Rattle.shm_graph.specs.Bounds.{change_steps, tear_steps}
-use Rattle.shm_graph.specs.Events.{Event}
+use Rattle.shm_graph.specs.declared.{ask.Me.Me, memo.Memo.Memo, spot.Spot.TheVariants.{Body, Home}, table.Entry.Entry}
+use Rattle.shm_graph.specs.{Agents.recovers, Asks.{Trail, IsWithin}, Bounds.{change_steps, tear_steps}, Events.Event}
+use Rattle.shm_graph.specs.{Idle.IsIdle, Telling.Entry as AnEntry, Views.own_word}
 use Rattle.shm_graph.specs.Events as event
-use Rattle.shm_graph.specs.Idle.{IsIdle}
-use Rattle.shm_graph.specs.Telling.{Entry as AnEntry}
-use Rattle.shm_graph.specs.Views.{own_word}
-use Rattle.shm_calls.specs.declared.word.Word.{Word}
-use Rattle.shm_calls.specs.Either.{or_part}
-use Rattle.shm_calls.specs.Parts.{IsHeld, Part}
-use Rattle.shm_calls.specs.Plans.{Planned}
+use Rattle.shm_calls.specs.{declared.word.Word.Word, Either.or_part, Parts.{IsHeld, Part}, Plans.Planned}
 use Rattle.shm_calls.specs.Words.{word_part}
-use Rattle.shm_steps.specs.Beginning.{IsOwnWord}
-use Rattle.shm_steps.specs.Reparting.{sight, map_in, IsValue}
-use Rattle.shm_steps.specs.Walking.{IsIn, IsSeeking}
-use Rattle.shm_count.specs.declared.answer.UpFault.{UpFault}
+use Rattle.shm_steps.specs.{Beginning.IsOwnWord, Reparting.{sight, map_in, IsValue}, Walking.{IsIn, IsSeeking}}
+use Rattle.shm_count.specs.{declared.{answer.UpFault.UpFault, point.StepPoint.TheVariants.Era}, CountParts.tear_part}
+use Rattle.shm_count.specs.{Roots.root_word, Slots.{Lost, MayStepAt, StepCause, Parts.change_slot_part}}
+use Rattle.shm_count.specs.{Step.{Control.IsInside, Parts.part_after}, Tear.Events.{Visit, Walks, frees}}
 use Rattle.shm_count.specs.declared.point.Aim.TheVariants as aims
-use Rattle.shm_count.specs.declared.point.StepPoint.TheVariants.{Era}
-use Rattle.shm_count.specs.CountParts.{tear_part}
-use Rattle.shm_count.specs.Roots.{root_word}
-use Rattle.shm_count.specs.Slots.{Lost, MayStepAt, StepCause}
-use Rattle.shm_count.specs.Slots.Parts.{change_slot_part}
-use Rattle.shm_count.specs.Step.Control.{IsInside}
-use Rattle.shm_count.specs.Step.Parts.{part_after}
-use Rattle.shm_count.specs.Tear.Events.{Visit, Walks, frees}
-use Rattle.shm_table.specs.declared.answer.PutFault.{PutFault}
-use Rattle.shm_table.specs.declared.replace.ReplacePoint.{ReplacePoint}
-use Rattle.shm_table.specs.declared.replace.ReplacePoint.TheVariants.{Look, Change, Tear}
-use Rattle.shm_table.specs.declared.replace.ReplaceState.{ReplaceState}
-use Rattle.shm_table.specs.Answers.{raised_fault}
-use Rattle.shm_table.specs.EntryReads.{EntryReads}
-use Rattle.shm_table.specs.Find.Control.{word_ask}
-use Rattle.shm_table.specs.Replace.Control.{ReplaceAnswer, ReplaceCall, is_look, replace_after, replace_call_at, replace_turns, replacing}
-use Rattle.shm_table.specs.Staying.{Cleared, Ended, Keeps, MapSet, PutCause, SameMap}
-use Rattle.shm_table.specs.ValuesListed.{ReadsMore}
+use Rattle.shm_table.specs.declared.{answer.PutFault.PutFault, replace.ReplacePoint.ReplacePoint}
+use Rattle.shm_table.specs.declared.replace.{ReplacePoint.TheVariants.{Look, Change, Tear}, ReplaceState.ReplaceState}
+use Rattle.shm_table.specs.{Answers.raised_fault, EntryReads.EntryReads, Find.Control.word_ask}
+use Rattle.shm_table.specs.Replace.Control.{ReplaceAnswer, ReplaceCall, is_look, replace_steered}
+use Rattle.shm_table.specs.{Staying.{Cleared, Ended, Keeps, MapSet, PutCause, SameMap}, ValuesListed.ReadsMore}
 
 -- ---- when it may begin
 
@@ -152,13 +128,7 @@ look_part m y = word_part (is_look y) m.me (word_ask m.entry 1) (EntryReads m.me
 abbrev pub replace_plan : Planned ReplaceState ReplaceCall ReplaceAnswer (Result Bool PutFault)
 replace_plan =
     record {
-      me = λ m. m.me;
-      line = λ m. [];
-      first = λ m. is_look m.point;
-      start = λ m. replacing m.me m.entry m.to;
-      call = λ m. replace_call_at m m.point;
-      after = replace_after;
-      turns = replace_turns;
+      steered = replace_steered;
       part = λ m. or_part (look_part m m.point) (or_part (change_slot_part (Body m.entry 1) false) tear_part);
       knows = λ m. ReplaceKnows m m.point;
       leaves = ReplaceLeaves;

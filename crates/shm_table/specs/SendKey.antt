@@ -5,48 +5,27 @@ pub mod Laws
 pub mod Bound
 use Rattle.std.specs.Prelude.{◌≡◌, ◌≢◌, ℕ, ◌+◌, ◌-◌, ◌*◌, ◌%◌, ◌^◌, ◌<◌, false, Option, Some, None, List, [], ◌∷◌, slice_index, Bool}
 use Rattle.std.specs.List.{Contains}
-use Rattle.shm_graph.specs.declared.ask.Me.{Me}
-use Rattle.shm_graph.specs.declared.memo.Memo.{Memo}
-use Rattle.shm_graph.specs.declared.spot.Spot.TheVariants.{Era, Home, Slot, Tail}
-use Rattle.shm_graph.specs.Agents.{recovers}
-use Rattle.shm_graph.specs.Asks.{Trail, IsWithin}
-use Rattle.shm_graph.specs.Events.{Event}
+use Rattle.shm_graph.specs.declared.{ask.Me.Me, memo.Memo.Memo, spot.Spot.TheVariants.{Era, Home, Slot, Tail}}
+use Rattle.shm_graph.specs.{Agents.recovers, Asks.{Trail, IsWithin}, Events.Event, MemoAfterStore.{lane_with, with_own}}
+use Rattle.shm_graph.specs.{Views.own_word, Bounds.redo_steps}
 use Rattle.shm_graph.specs.Events as event
-use Rattle.shm_graph.specs.MemoAfterStore.{lane_with, with_own}
-use Rattle.shm_graph.specs.Views.{own_word}
-use Rattle.shm_graph.specs.Bounds.{redo_steps}
-use Rattle.shm_calls.specs.declared.word.Word.{Word}
-use Rattle.shm_calls.specs.CallsPart.{calls_part}
-use Rattle.shm_calls.specs.Either.{or_part}
-use Rattle.shm_calls.specs.Parts.{IsHeld, Part}
-use Rattle.shm_calls.specs.Plans.{Planned}
-use Rattle.shm_calls.specs.Words.{word_control, word_part}
-use Rattle.shm_steps.specs.Reparting.{map_in}
-use Rattle.shm_steps.specs.WordParts.{ReferenceLoaded}
+use Rattle.shm_calls.specs.{declared.word.Word.Word, CallsPart.calls_part, Either.or_part, Parts.{IsHeld, Part}}
+use Rattle.shm_calls.specs.{Plans.Planned, Words.{word_control, word_part}}
+use Rattle.shm_steps.specs.{Reparting.map_in, WordParts.ReferenceLoaded}
 use Rattle.shm_ref.specs.AskedParts.{asked_part}
-use Rattle.shm_queue.specs.declared.answer.SendFault.{SendFault}
-use Rattle.shm_queue.specs.declared.answer.SendFault.TheVariants.{QueueFull, EraSpent, CountFull}
-use Rattle.shm_queue.specs.Send.Control.{send_parts}
-use Rattle.shm_queue.specs.Send.{send_plan}
-use Rattle.shm_script.specs.declared.line.Line.TheVariants as line
+use Rattle.shm_queue.specs.declared.answer.SendFault.{SendFault, TheVariants.{QueueFull, EraSpent, CountFull}}
+use Rattle.shm_queue.specs.Send.{Control.send_parts, send_plan}
 use Rattle.shm_script.specs.declared.log.Answer.{Answer}
+use Rattle.shm_script.specs.declared.line.Line.TheVariants as line
 use Rattle.shm_script.specs.declared.log.Answer.TheVariants as answer
-use Rattle.shm_script.specs.Text.{line_spelled}
-use Rattle.shm_table.specs.declared.get.GetPoint.TheVariants as get
-use Rattle.shm_table.specs.declared.get.GetPoint.{GetPoint}
-use Rattle.shm_table.specs.declared.get.GetState.{GetState}
-use Rattle.shm_table.specs.declared.send_key.SendKeyPoint.{SendKeyPoint}
+use Rattle.shm_table.specs.declared.{get.{GetPoint.GetPoint, GetState.GetState}, send_key.SendKeyPoint.SendKeyPoint}
 use Rattle.shm_table.specs.declared.send_key.SendKeyPoint.TheVariants.{Search, Value, Send, Give}
-use Rattle.shm_table.specs.declared.send_key.SendKeyState.{SendKeyState}
-use Rattle.shm_table.specs.Fetch.{IsOn}
-use Rattle.shm_table.specs.Find.Control.{word_ask}
-use Rattle.shm_table.specs.Get.{GetKnows, GotNone, IsNowhere}
-use Rattle.shm_table.specs.Locate.Control.{locate_parts}
-use Rattle.shm_table.specs.Locate.{MayLocate, locate_plan}
+use Rattle.shm_table.specs.{declared.send_key.SendKeyState.SendKeyState, Fetch.IsOn, Find.Control.word_ask}
+use Rattle.shm_table.specs.{Get.{GetKnows, GotNone, IsNowhere}, Locate.{Control.locate_parts, MayLocate, locate_plan}}
 use Rattle.shm_table.specs.PutRoot.{HasSearch}
-use Rattle.shm_table.specs.SendKey.Control.{SendKeyCall, SendKeyAnswer, is_search, send_key_after, send_key_call, send_key_turns, sending_key}
-use Rattle.shm_table.specs.Staying.{Cleared, Keeps, SameMap}
-use Rattle.shm_table.specs.Unlatch.{unlatch_plan}
+use Rattle.shm_table.specs.SendKey.Control.{SendKeyCall, SendKeyAnswer, is_search, send_key_steered}
+use Rattle.shm_table.specs.{Staying.{Cleared, Keeps, SameMap}, Unlatch.unlatch_plan}
+use Rattle.shm_table.specs.declared.get.GetPoint.TheVariants as get
 
 -- ---- when it may begin
 
@@ -153,13 +132,7 @@ send_key_part m y = or_part (calls_part locate_parts locate_plan) (or_part (valu
 abbrev pub send_key_plan : Planned SendKeyState SendKeyCall SendKeyAnswer Answer
 send_key_plan =
     record {
-      me = λ m. m.me;
-      line = λ m. line_spelled (line.Send m.to m.key);
-      first = λ m. is_search m.point;
-      start = λ m. sending_key m.me m.to m.key;
-      call = λ m. send_key_call m m.point;
-      after = send_key_after;
-      turns = send_key_turns;
+      steered = send_key_steered;
       part = λ m. send_key_part m m.point;
       knows = λ m. SendKeyKnows m m.point;
       leaves = SendKeyLeaves;

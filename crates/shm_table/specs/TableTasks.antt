@@ -1,45 +1,23 @@
 -- commands on tables as operations: when they may begin between two calls
 use Rattle.std.proofs.Common.{◌≡◌, ◌≢◌, ℕ, ◌^◌, ◌<◌, false, List, [], refl, sym, subst, inl, inr}
 use Rattle.std.specs.Prelude.{None, slice_index}
-use Rattle.shm_graph.specs.declared.ask.Me.{Me}
-use Rattle.shm_graph.specs.declared.memo.Memo.{Memo}
-use Rattle.shm_graph.specs.Agents.{recovers}
-use Rattle.shm_graph.specs.Asks.{Trail}
-use Rattle.shm_graph.specs.Events.{Event}
-use Rattle.shm_graph.specs.Held.{is_loose}
-use Rattle.shm_graph.specs.Idle.{IsIdle}
-use Rattle.shm_graph.specs.Operations.{IsReady}
+use Rattle.shm_graph.specs.{declared.{ask.Me.Me, memo.Memo.Memo}, Agents.recovers, Asks.Trail, Events.Event}
+use Rattle.shm_graph.specs.{Held.is_loose, Idle.IsIdle, Operations.IsReady}
 use Rattle.shm_graph.proofs.Idles.{idle_core}
 use Rattle.shm_calls.specs.Tasks.{IsNew, TaskLaws}
-use Rattle.shm_script.specs.declared.line.Line.{Line}
+use Rattle.shm_script.specs.declared.{line.Line.Line, log.Answer.Answer}
 use Rattle.shm_script.specs.declared.line.Line.TheVariants as line
-use Rattle.shm_script.specs.declared.log.Answer.{Answer}
 use Rattle.shm_script.specs.declared.log.Answer.TheVariants as answer
-use Rattle.shm_table.specs.declared.copy.CopyState.{CopyState}
-use Rattle.shm_table.specs.declared.del.DelState.{DelState}
-use Rattle.shm_table.specs.declared.get.GetState.{GetState}
-use Rattle.shm_table.specs.declared.put.PutState.{PutState}
-use Rattle.shm_table.specs.declared.recv.RecvState.{RecvState}
-use Rattle.shm_table.specs.declared.send_key.SendKeyState.{SendKeyState}
-use Rattle.shm_table.specs.Commands.{MayCommand}
-use Rattle.shm_table.specs.CopyKey.Control.{copy_parts, copying}
-use Rattle.shm_table.specs.CopyKey.Laws.{copy_begin}
-use Rattle.shm_table.specs.CopyKey.{CopyKnows, CopyLeaves, copy_plan}
-use Rattle.shm_table.specs.Del.Control.{del_parts, deleting}
-use Rattle.shm_table.specs.Del.Laws.{del_begin}
-use Rattle.shm_table.specs.Del.{DelKnows, DelLeaves, del_plan}
-use Rattle.shm_table.specs.Get.Control.{get_parts, getting}
-use Rattle.shm_table.specs.Get.Laws.{get_begin}
-use Rattle.shm_table.specs.Get.{GetKnows, GetLeaves, get_plan}
-use Rattle.shm_table.specs.Locate.{MayLocate}
-use Rattle.shm_table.specs.Put.Control.{put_parts, putting}
-use Rattle.shm_table.specs.Put.{PutKnows, PutLeaves, put_plan}
-use Rattle.shm_table.specs.RecvKey.Control.{receiving_key, recv_parts}
-use Rattle.shm_table.specs.RecvKey.Laws.{recv_begin}
-use Rattle.shm_table.specs.RecvKey.{RecvKnows, RecvLeaves, recv_plan}
-use Rattle.shm_table.specs.SendKey.Control.{send_key_parts, sending_key}
-use Rattle.shm_table.specs.SendKey.Laws.{send_key_begin}
-use Rattle.shm_table.specs.SendKey.{SendKeyKnows, SendKeyLeaves, send_key_plan}
+use Rattle.shm_table.specs.declared.{copy.CopyState.CopyState, del.DelState.DelState, get.GetState.GetState}
+use Rattle.shm_table.specs.declared.{put.PutState.PutState, recv.RecvState.RecvState}
+use Rattle.shm_table.specs.{declared.send_key.SendKeyState.SendKeyState, Commands.MayCommand}
+use Rattle.shm_table.specs.CopyKey.{Control.{copy_parts, copying}, Laws.copy_begin, CopyKnows, CopyLeaves, copy_plan}
+use Rattle.shm_table.specs.Del.{Control.{del_parts, deleting}, Laws.del_begin, DelKnows, DelLeaves, del_plan}
+use Rattle.shm_table.specs.Get.{Control.{get_parts, getting}, Laws.get_begin, GetKnows, GetLeaves, get_plan}
+use Rattle.shm_table.specs.{Locate.MayLocate, Put.{Control.{put_parts, putting}, PutKnows, PutLeaves, put_plan}}
+use Rattle.shm_table.specs.RecvKey.{Control.{receiving_key, recv_parts}, Laws.recv_begin}
+use Rattle.shm_table.specs.{RecvKey.{RecvKnows, RecvLeaves, recv_plan}, SendKey.Control.{send_key_parts, sending_key}}
+use Rattle.shm_table.specs.SendKey.{Laws.send_key_begin, SendKeyKnows, SendKeyLeaves, send_key_plan}
 
 -- ---- what the command of a line needs, but that its identity is between two calls
 

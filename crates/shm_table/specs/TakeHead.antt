@@ -3,33 +3,17 @@ pub mod Control
 pub mod Laws
 use Rattle.std.specs.Prelude.{◌≡◌, ◌≢◌, ℕ, ◌+◌, ◌%◌, ◌^◌, ◌<◌, true, false, Result, Ok, Err, List, [], ◌∷◌, slice_index, Bool}
 use Rattle.shm_words.specs.Layout.{GeometryFits}
-use Rattle.shm_graph.specs.declared.ask.Me.{Me}
-use Rattle.shm_graph.specs.declared.memo.Memo.{Memo}
+use Rattle.shm_graph.specs.{declared.{ask.Me.Me, memo.Memo.Memo}, Asks.{Trail, IsWithin}, Events.Event, Idle.IsIdle}
+use Rattle.shm_graph.specs.{MemoAfterStore.head_stored, Views.own_word, Bounds.redo_steps}
 use Rattle.shm_graph.specs.declared.spot.Spot.TheVariants as spot
-use Rattle.shm_graph.specs.Asks.{Trail, IsWithin}
-use Rattle.shm_graph.specs.Events.{Event}
 use Rattle.shm_graph.specs.Events as event
-use Rattle.shm_graph.specs.Idle.{IsIdle}
-use Rattle.shm_graph.specs.MemoAfterStore.{head_stored}
-use Rattle.shm_graph.specs.Views.{own_word}
-use Rattle.shm_graph.specs.Bounds.{redo_steps}
-use Rattle.shm_steps.specs.Conditions.{IsHere}
-use Rattle.shm_steps.specs.WordParts.{HeadStored}
-use Rattle.shm_calls.specs.Either.{or_part}
-use Rattle.shm_calls.specs.Parts.{IsHeld, Part}
-use Rattle.shm_calls.specs.Plans.{Planned}
-use Rattle.shm_calls.specs.Words.{word_part}
-use Rattle.shm_count.specs.declared.answer.EraSpent.{EraSpent}
-use Rattle.shm_count.specs.Roots.{root_word}
-use Rattle.shm_count.specs.Slots.{Lost, Untouched, emptied}
-use Rattle.shm_count.specs.Slots.Parts.{down_slot_part}
-use Rattle.shm_count.specs.Tear.Memos.{Knows}
-use Rattle.shm_table.specs.declared.take_head.TakeHeadPoint.{TakeHeadPoint}
-use Rattle.shm_table.specs.declared.take_head.TakeHeadPoint.TheVariants.{Lower, Store}
-use Rattle.shm_table.specs.declared.take_head.TakeHeadState.{TakeHeadState}
-use Rattle.shm_table.specs.Staying.{IsSpent, Keeps}
-use Rattle.shm_table.specs.Staying.Laws.{Rests}
-use Rattle.shm_table.specs.TakeHead.Control.{TakeHeadAnswer, TakeHeadCall, is_lower, take_head_after, take_head_ask, take_head_call, take_head_turns, taking_head}
+use Rattle.shm_steps.specs.{Conditions.IsHere, WordParts.HeadStored}
+use Rattle.shm_calls.specs.{Either.or_part, Parts.{IsHeld, Part}, Plans.Planned, Words.word_part}
+use Rattle.shm_count.specs.{declared.answer.EraSpent.EraSpent, Roots.root_word, Slots.{Lost, Untouched, emptied}}
+use Rattle.shm_count.specs.{Slots.Parts.down_slot_part, Tear.Memos.Knows}
+use Rattle.shm_table.specs.declared.take_head.TakeHeadPoint.{TakeHeadPoint, TheVariants.{Lower, Store}}
+use Rattle.shm_table.specs.{declared.take_head.TakeHeadState.TakeHeadState, Staying.{IsSpent, Keeps, Laws.Rests}}
+use Rattle.shm_table.specs.TakeHead.Control.{TakeHeadAnswer, TakeHeadCall, is_lower, take_head_ask, take_head_steered}
 
 -- ---- memos
 
@@ -100,13 +84,7 @@ take_head_part m y = or_part (word_part (is_lower y) m.me (take_head_ask m) (Hea
 abbrev pub take_head_plan : Planned TakeHeadState TakeHeadCall TakeHeadAnswer (Result (Unit {0}) EraSpent)
 take_head_plan =
     record {
-      me = λ m. m.me;
-      line = λ m. [];
-      first = λ m. is_lower m.point;
-      start = λ m. taking_head m.me m.from m.at m.block;
-      call = λ m. take_head_call m m.point;
-      after = take_head_after;
-      turns = take_head_turns;
+      steered = take_head_steered;
       part = λ m. take_head_part m m.point;
       knows = λ m. TakeHeadKnows m m.point;
       leaves = TakeHeadLeaves;

@@ -1,22 +1,13 @@
 -- what a refused command that gives a block a root and then an entry leaves of the home, of the zero-count blocks and of the graph
 use Rattle.std.proofs.Common.{◌≡◌, ◌≢◌, ℕ, sym, ap, subst, List, [], ◌∷◌, ◌++◌, ◌⊎◌, Option, Some, None, inl, inr}
-use Rattle.shm_graph.specs.declared.ask.Me.{Me}
-use Rattle.shm_graph.specs.declared.memo.Memo.{Memo}
-use Rattle.shm_graph.specs.declared.spot.Spot.TheVariants.{Home}
-use Rattle.shm_graph.specs.Asks.{Trail}
-use Rattle.shm_graph.specs.Events.{Event}
+use Rattle.shm_graph.specs.{declared.{ask.Me.Me, memo.Memo.Memo, spot.Spot.TheVariants.Home}, Asks.Trail, Events.Event}
 use Rattle.shm_graph.specs.Views.{own_word}
-use Rattle.shm_count.specs.declared.answer.EraSpent.{EraSpent}
-use Rattle.shm_count.specs.Roots.{root_word}
-use Rattle.shm_count.specs.Tear.Events.{Visit}
+use Rattle.shm_count.specs.{declared.answer.EraSpent.EraSpent, Roots.root_word, Tear.Events.Visit}
 use Rattle.shm_ref.specs.Lefts.{RootEvents, Stopped}
-use Rattle.shm_table.specs.declared.answer.PutFault.{PutFault}
-use Rattle.shm_table.specs.Answers.{spent_fault}
-use Rattle.shm_table.specs.OpenTable.{HomeSo}
+use Rattle.shm_table.specs.{declared.answer.PutFault.PutFault, Answers.spent_fault, OpenTable.HomeSo}
 use Rattle.shm_table.specs.PutRoot.{IsEraSpent, IsUnlisted, PutRootRefused}
 use Rattle.shm_table.specs.PutRoot.Undoing.{home_later, home_more, still_more, still_same, still_stopped}
-use Rattle.shm_table.specs.Staying.{Still}
-use Rattle.shm_table.specs.Staying.Laws.{root_kept}
+use Rattle.shm_table.specs.Staying.{Still, Laws.root_kept}
 
 -- nothing was done; or a block came into a root by such an event, it got no entry, and it lost that root. By these events the home that was `before` is `after`
 abbrev pub IsTakenBack : ℕ → (ℕ → ℕ → Event) → ℕ → ℕ → List Event → Type 0

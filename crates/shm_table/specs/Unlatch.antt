@@ -1,29 +1,16 @@
 -- giving back a latch of which it is known whose it is, as a plan: its control, what is known before each word step, and what is left
 pub mod Laws
 use Rattle.std.specs.Prelude.{◌≡◌, ℕ, ◌<◌, Bool, true, false, Option, None, Some, List, [], ◌∷◌}
-use Rattle.shm_words.specs.declared.place.Place.TheVariants as place
 use Rattle.shm_words.specs.Layout.{GeometryFits, address}
-use Rattle.shm_graph.specs.declared.ask.Ask.{Ask}
+use Rattle.shm_words.specs.declared.place.Place.TheVariants as place
+use Rattle.shm_graph.specs.declared.{ask.{Ask.Ask, Me.Me}, memo.{Memo.Memo, Op.TheVariants.Nothing}}
+use Rattle.shm_graph.specs.{Asks.{Trail, pair}, Core.core, Events.Event, Laws.Control, Reach.unlatched}
 use Rattle.shm_graph.specs.declared.ask.Ask.TheVariants as ask
-use Rattle.shm_graph.specs.declared.ask.Me.{Me}
-use Rattle.shm_graph.specs.declared.memo.Memo.{Memo}
-use Rattle.shm_graph.specs.declared.memo.Op.TheVariants.{Nothing}
-use Rattle.shm_graph.specs.Asks.{Trail, pair}
-use Rattle.shm_graph.specs.Core.{core}
-use Rattle.shm_graph.specs.Events.{Event}
-use Rattle.shm_graph.specs.Laws.{Control}
-use Rattle.shm_graph.specs.Reach.{unlatched}
 use Rattle.shm_steps.specs.Conditions.{IsHere}
-use Rattle.shm_calls.specs.declared.calls.Calls.{Calls}
-use Rattle.shm_calls.specs.declared.word.Word.{Word}
-use Rattle.shm_calls.specs.CallsControl.{calls_control}
-use Rattle.shm_calls.specs.Parts.{Part}
-use Rattle.shm_calls.specs.Plans.{Planned}
-use Rattle.shm_calls.specs.Words.{word_control, word_part}
-use Rattle.shm_ref.specs.AskedParts.{asked_part}
-use Rattle.shm_ref.specs.Hold.{wants}
-use Rattle.shm_table.specs.declared.unlatch.UnlatchPoint.{UnlatchPoint}
-use Rattle.shm_table.specs.declared.unlatch.UnlatchPoint.TheVariants.{Give, Back}
+use Rattle.shm_calls.specs.{declared.{calls.Calls.Calls, word.Word.Word}, CallsControl.calls_control, Parts.Part}
+use Rattle.shm_calls.specs.{Plans.Planned, Words.{word_control, word_part}, Steering.Steered}
+use Rattle.shm_ref.specs.{AskedParts.asked_part, Hold.wants}
+use Rattle.shm_table.specs.declared.unlatch.UnlatchPoint.{UnlatchPoint, TheVariants.{Give, Back}}
 use Rattle.shm_table.specs.declared.unlatch.UnlatchState.{UnlatchState}
 
 -- ---- the control
@@ -106,8 +93,8 @@ UnlatchFound m Back r n x = (core x ≡ core (wants m.me.who 0 r)) × (n ≡ 0)
 abbrev pub unlatch_part : UnlatchState → UnlatchPoint → Part Word ℕ
 unlatch_part m y = asked_part (word_part (is_give y) m.me (unlatch_ask m.me m.author y) (UnlatchFound m y))
 
-abbrev pub unlatch_plan : Planned UnlatchState Word ℕ (Unit {0})
-unlatch_plan =
+abbrev pub unlatch_steered : Steered UnlatchState Word ℕ (Unit {0})
+unlatch_steered =
     record {
       me = λ m. m.me;
       line = λ m. [];
@@ -116,6 +103,12 @@ unlatch_plan =
       call = λ m. unlatch_call m m.point;
       after = λ m n. unlatch_after m m.point;
       turns = λ m n. unlatch_turns m.point;
+    }
+
+abbrev pub unlatch_plan : Planned UnlatchState Word ℕ (Unit {0})
+unlatch_plan =
+    record {
+      steered = unlatch_steered;
       part = λ m. unlatch_part m m.point;
       knows = λ m. UnlatchKnows m m.point;
       leaves = λ m r0 r tr es done. Unlatched m.me m.author r0 r tr es;
@@ -126,4 +119,4 @@ abbrev pub UnlatchCalls : Type 0
 UnlatchCalls = Calls UnlatchState Word (Unit {0}) ℕ
 
 abbrev pub unlatch_control : Control UnlatchCalls (Unit {0})
-unlatch_control = calls_control word_control unlatch_plan
+unlatch_control = calls_control word_control unlatch_steered

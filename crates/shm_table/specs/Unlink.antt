@@ -4,50 +4,22 @@ pub mod Laws
 use Rattle.std.specs.Prelude.{◌≡◌, ◌≢◌, ℕ, zero, suc, ◌+◌, ◌%◌, ◌<◌, ◌≤◌, ◌==◌, if◌then◌else◌, true, false, Some, None, Result, Ok, Err, List, [], ◌∷◌, length}
 use Rattle.std.specs.List.{All, Contains}
 use Rattle.shm_words.specs.Layout.{GeometryFits, total_of, address_limit}
-use Rattle.shm_graph.specs.declared.ask.Me.{Me}
-use Rattle.shm_graph.specs.declared.memo.Memo.{Memo}
-use Rattle.shm_graph.specs.declared.spot.Spot.TheVariants.{Body, Home}
-use Rattle.shm_graph.specs.declared.table.Entry.{Entry}
-use Rattle.shm_graph.specs.Agents.{recovers}
-use Rattle.shm_graph.specs.Asks.{Trail, IsWithin}
-use Rattle.shm_graph.specs.Bounds.{change_steps, tear_steps}
-use Rattle.shm_graph.specs.Events.{Event}
+use Rattle.shm_graph.specs.declared.{ask.Me.Me, memo.Memo.Memo, spot.Spot.TheVariants.{Body, Home}, table.Entry.Entry}
+use Rattle.shm_graph.specs.{Agents.recovers, Asks.{Trail, IsWithin}, Bounds.{change_steps, tear_steps}, Events.Event}
+use Rattle.shm_graph.specs.{Idle.IsIdle, Telling.Entry as AnEntry, Views.own_word}
 use Rattle.shm_graph.specs.Events as event
-use Rattle.shm_graph.specs.Idle.{IsIdle}
-use Rattle.shm_graph.specs.Laws.{Control as ControlOf}
-use Rattle.shm_graph.specs.Telling.{Entry as AnEntry}
-use Rattle.shm_graph.specs.Views.{own_word}
-use Rattle.shm_calls.specs.declared.calls.Calls.{Calls}
-use Rattle.shm_calls.specs.declared.word.Word.{Word}
-use Rattle.shm_calls.specs.CallsControl.{calls_control}
-use Rattle.shm_calls.specs.Either.{or_part}
-use Rattle.shm_calls.specs.Parts.{IsHeld, Part}
-use Rattle.shm_calls.specs.Plans.{Planned}
+use Rattle.shm_calls.specs.{declared.word.Word.Word, Either.or_part, Parts.{IsHeld, Part}, Plans.Planned}
 use Rattle.shm_calls.specs.Words.{word_part}
-use Rattle.shm_steps.specs.Beginning.{IsOwnWord}
-use Rattle.shm_steps.specs.Reparting.{sight, map_in}
-use Rattle.shm_steps.specs.Walking.{IsIn, IsSeeking}
-use Rattle.shm_count.specs.declared.answer.UpFault.{UpFault}
-use Rattle.shm_count.specs.declared.answer.UpFault.TheVariants.{EraSpent, CountFull}
-use Rattle.shm_count.specs.declared.point.Aim.{Aim}
+use Rattle.shm_steps.specs.{Beginning.IsOwnWord, Reparting.{sight, map_in}, Walking.{IsIn, IsSeeking}}
+use Rattle.shm_count.specs.declared.{answer.UpFault.{UpFault, TheVariants.{EraSpent, CountFull}}, point.Aim.Aim}
+use Rattle.shm_count.specs.{declared.point.StepPoint.TheVariants.Era, CountParts.tear_part, Roots.root_word}
+use Rattle.shm_count.specs.Slots.{Lost, MayStepAt, StepCause, Parts.{change_slot_part, down_slot_part}}
+use Rattle.shm_count.specs.{Step.{Control.IsInside, Parts.part_after}, Tear.Events.{Visit, frees}}
 use Rattle.shm_count.specs.declared.point.Aim.TheVariants as aims
-use Rattle.shm_count.specs.declared.point.StepPoint.TheVariants.{Era}
-use Rattle.shm_count.specs.CountParts.{tear_part}
-use Rattle.shm_count.specs.Roots.{root_word}
-use Rattle.shm_count.specs.Slots.{Lost, MayStepAt, StepCause}
-use Rattle.shm_count.specs.Slots.Parts.{change_slot_part, down_slot_part}
-use Rattle.shm_count.specs.Step.Control.{IsInside}
-use Rattle.shm_count.specs.Step.Parts.{part_after}
-use Rattle.shm_count.specs.Tear.Events.{Visit, frees}
-use Rattle.shm_table.specs.declared.unlink.UnlinkPoint.{UnlinkPoint}
-use Rattle.shm_table.specs.declared.unlink.UnlinkPoint.TheVariants.{Look, Lower, Change, Tear}
-use Rattle.shm_table.specs.declared.unlink.UnlinkState.{UnlinkState}
-use Rattle.shm_table.specs.EntryReads.{EntryReads}
-use Rattle.shm_table.specs.Find.Control.{word_ask}
-use Rattle.shm_table.specs.Replace.{IsTorn}
-use Rattle.shm_table.specs.Staying.{Cleared, Ended, IsSpent, Keeps, MapCut, SameMap}
-use Rattle.shm_table.specs.Unlink.Control.{UnlinkAnswer, UnlinkCall, is_look, unlink_after, unlink_call_at, unlink_parts, unlink_turns, unlinking}
-use Rattle.shm_table.specs.ValuesListed.{ReadsMore}
+use Rattle.shm_table.specs.declared.unlink.UnlinkPoint.{UnlinkPoint, TheVariants.{Look, Lower, Change, Tear}}
+use Rattle.shm_table.specs.{declared.unlink.UnlinkState.UnlinkState, EntryReads.EntryReads, Find.Control.word_ask}
+use Rattle.shm_table.specs.{Replace.IsTorn, Staying.{Cleared, Ended, IsSpent, Keeps, MapCut, SameMap}}
+use Rattle.shm_table.specs.{Unlink.Control.{UnlinkAnswer, UnlinkCall, is_look, unlink_steered}, ValuesListed.ReadsMore}
 
 -- ---- when it may begin
 
@@ -159,21 +131,8 @@ look_part m y = word_part (is_look y) m.me (word_ask m.entry 0) (EntryReads m.me
 abbrev pub unlink_plan : Planned UnlinkState UnlinkCall UnlinkAnswer (Result (Unit {0}) UpFault)
 unlink_plan =
     record {
-      me = λ m. m.me;
-      line = λ m. [];
-      first = λ m. is_look m.point;
-      start = λ m. unlinking m.me m.entry m.before m.word;
-      call = λ m. unlink_call_at m m.point;
-      after = unlink_after;
-      turns = unlink_turns;
+      steered = unlink_steered;
       part = λ m. let p = Body m.before m.word in or_part (look_part m m.point) (or_part (down_slot_part p false) (or_part (change_slot_part p false) tear_part));
       knows = λ m. UnlinkKnows m m.point;
       leaves = UnlinkLeaves;
     }
-
--- it as a call of larger machines, and its control
-abbrev pub UnlinkCalls : Type 0
-UnlinkCalls = Calls UnlinkState UnlinkCall (Result (Unit {0}) UpFault) UnlinkAnswer
-
-abbrev pub unlink_control : ControlOf UnlinkCalls (Result (Unit {0}) UpFault)
-unlink_control = calls_control unlink_parts unlink_plan

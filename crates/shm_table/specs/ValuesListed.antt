@@ -1,31 +1,17 @@
 -- loads under a latch that list value blocks: what stays, and what is kept
 use Rattle.std.proofs.Common.{◌≡◌, ℕ, sym, ap, ◌∙◌, subst, arith, Bool, true, false, eqb, ◌&&◌, List, [], ◌∷◌, ◌++◌, inl, inr}
-use Rattle.std.specs.Prelude.{◌==◌, if◌then◌else◌}
-use Rattle.std.specs.List.{Contains}
 use Rattle.std.proofs.lemmas.Bool.{cases_eq, cond-false, cond-true, eq-eqb, ne_eqb}
 use Rattle.std.proofs.lemmas.List.Elements.{Contains-append_left, Contains-append_right}
-use Rattle.shm_graph.specs.declared.ask.Me.{Me}
-use Rattle.shm_graph.specs.declared.memo.Look.{Look}
-use Rattle.shm_graph.specs.declared.memo.Memo.{Memo}
-use Rattle.shm_graph.specs.declared.memo.Stored.{Stored}
-use Rattle.shm_graph.specs.declared.spot.Spot.TheVariants.{Body, Era, Hold}
+use Rattle.std.specs.{Prelude.{◌==◌, if◌then◌else◌}, List.Contains}
+use Rattle.shm_graph.specs.declared.{ask.Me.Me, memo.{Look.Look, Memo.Memo, Stored.Stored}}
+use Rattle.shm_graph.specs.{declared.spot.Spot.TheVariants.{Body, Era, Hold}, Core.core, Held.is_loose}
+use Rattle.shm_graph.specs.{Idle.{IsIdle, hold_word}, Reach.learnt, MemoAfterRead.{is_entry, values_read}}
+use Rattle.shm_graph.specs.{Telling.{role_in, roles}, Views.own_word}
 use Rattle.shm_graph.specs.declared.memo.Status.TheVariants as status
-use Rattle.shm_graph.specs.Core.{core}
-use Rattle.shm_graph.specs.Held.{is_loose}
-use Rattle.shm_graph.specs.Idle.{IsIdle, hold_word}
-use Rattle.shm_graph.specs.Reach.{learnt}
-use Rattle.shm_graph.specs.MemoAfterRead.{is_entry, values_read}
-use Rattle.shm_graph.specs.Telling.{role_in, roles}
-use Rattle.shm_graph.specs.Views.{own_word}
-use Rattle.shm_steps.specs.Conditions.{IsHere}
-use Rattle.shm_steps.specs.WordParts.{ReferenceLoaded}
-use Rattle.shm_count.specs.declared.answer.UpFault.{UpFault}
-use Rattle.shm_count.specs.declared.answer.UpFault.TheVariants.{CountFull, EraSpent}
-use Rattle.shm_count.specs.declared.point.Aim.{Aim}
-use Rattle.shm_count.specs.Roots.{root_word}
-use Rattle.shm_count.specs.Slots.{StepCause}
-use Rattle.shm_table.specs.Find.SearchLoads.{learnt_keeps}
-use Rattle.shm_table.specs.Staying.{Keeps}
+use Rattle.shm_steps.specs.{Conditions.IsHere, WordParts.ReferenceLoaded}
+use Rattle.shm_count.specs.declared.{answer.UpFault.{UpFault, TheVariants.{CountFull, EraSpent}}, point.Aim.Aim}
+use Rattle.shm_count.specs.{Roots.root_word, Slots.StepCause}
+use Rattle.shm_table.specs.{Find.SearchLoads.learnt_keeps, Staying.Keeps}
 
 -- nothing of the memo changed but that more words are known, more blocks are looked at, and more are listed as value blocks
 pub record ReadsMore (m r : Memo) : Type 0 where

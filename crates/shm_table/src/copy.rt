@@ -2,22 +2,13 @@
 
 ghost use Rattle.std.specs.Prelude.{◌≡◌, ◌<◌};
 ghost use Rattle.shm_words.specs.Layout.{GeometryFits};
-ghost use Rattle.shm_calls.specs.CallsControl.{calls_control, calls_of};
-ghost use Rattle.shm_calls.specs.CallsFit.{CallsFits, CallsGives};
+ghost use Rattle.shm_calls.specs.{CallsControl.{calls_control, calls_of}, CallsFit.{CallsFits, CallsGives}};
 ghost use Rattle.shm_calls.specs.CallsKeep.{calls_laws};
-ghost use Rattle.shm_table.specs.Effects.{copy_effect};
+ghost use Rattle.shm_table.specs.{Effects.copy_effect, CopyKey.Control.{copy_parts, copy_steered, copying}};
+ghost use Rattle.shm_table.specs.{CopyKey.{copy_plan, Laws.copy_laws}, Enter.Laws.enter_laws, Fetch.Laws.fetch_laws};
+ghost use Rattle.shm_table.specs.{Locate.Laws.locate_laws, OpenTable.Laws.open_laws, PutRoot.Laws.put_root_laws};
+ghost use Rattle.shm_table.specs.{Replace.Laws.replace_laws, TableTasks.{CopyMay, copy_task}};
 ghost use Rattle.shm_table.specs.CopyKey.Control as control;
-ghost use Rattle.shm_table.specs.CopyKey.Control.{copy_parts};
-ghost use Rattle.shm_table.specs.CopyKey.Control.{copying};
-ghost use Rattle.shm_table.specs.CopyKey.{copy_plan};
-ghost use Rattle.shm_table.specs.CopyKey.Laws.{copy_laws};
-ghost use Rattle.shm_table.specs.Enter.Laws.{enter_laws};
-ghost use Rattle.shm_table.specs.Fetch.Laws.{fetch_laws};
-ghost use Rattle.shm_table.specs.Locate.Laws.{locate_laws};
-ghost use Rattle.shm_table.specs.OpenTable.Laws.{open_laws};
-ghost use Rattle.shm_table.specs.PutRoot.Laws.{put_root_laws};
-ghost use Rattle.shm_table.specs.Replace.Laws.{replace_laws};
-ghost use Rattle.shm_table.specs.TableTasks.{CopyMay, copy_task};
 
 use crate::answer::PutFault;
 use crate::effect::Deciding;
@@ -104,7 +95,7 @@ impl CopyKey {
         requires geometry { GeometryFits me.geometry }
         requires who { me.who < me.geometry.clients }
         requires author { author < me.geometry.clients }
-        ensures { result ≡ calls_of copy_plan (copying me key author other) }
+        ensures { result ≡ calls_of copy_steered (copying me key author other) }
     {
         CopyKey {
             calls: Calls::new(Copying::new(me, key, author, other)),
@@ -139,7 +130,7 @@ impl CopyKey {
 impl Machine for CopyKey {
     type Answer = Answer;
 
-    ghost control = { calls_control copy_parts copy_plan };
+    ghost control = { calls_control copy_parts copy_steered };
 
     ghost fits = { CallsFits copy_parts copy_plan };
 

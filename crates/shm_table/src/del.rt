@@ -2,16 +2,11 @@
 
 ghost use Rattle.std.specs.Prelude.{◌≡◌, ◌%◌, ◌<◌};
 ghost use Rattle.shm_words.specs.Layout.{GeometryFits};
-ghost use Rattle.shm_calls.specs.CallsControl.{calls_control, calls_of};
-ghost use Rattle.shm_calls.specs.CallsFit.{CallsFits, CallsGives};
+ghost use Rattle.shm_calls.specs.{CallsControl.{calls_control, calls_of}, CallsFit.{CallsFits, CallsGives}};
 ghost use Rattle.shm_calls.specs.CallsKeep.{calls_laws};
-ghost use Rattle.shm_table.specs.Effects.{del_effect, is_removed};
+ghost use Rattle.shm_table.specs.{Effects.{del_effect, is_removed}, Del.Control.{del_parts, del_steered, deleting}};
+ghost use Rattle.shm_table.specs.{Del.{del_plan, Laws.del_laws}, TableTasks.{DelMay, del_task}};
 ghost use Rattle.shm_table.specs.Del.Control as control;
-ghost use Rattle.shm_table.specs.Del.Control.{del_parts};
-ghost use Rattle.shm_table.specs.Del.Control.{deleting};
-ghost use Rattle.shm_table.specs.Del.{del_plan};
-ghost use Rattle.shm_table.specs.Del.Laws.{del_laws};
-ghost use Rattle.shm_table.specs.TableTasks.{DelMay, del_task};
 
 use crate::answer::PutFault;
 use crate::effect::Deciding;
@@ -90,7 +85,7 @@ impl Del {
     pub fn new(me: Me, key: u32) -> Del
         requires geometry { GeometryFits me.geometry }
         requires who { me.who < me.geometry.clients }
-        ensures { result ≡ calls_of del_plan (deleting me key) }
+        ensures { result ≡ calls_of del_steered (deleting me key) }
     {
         Del {
             calls: Calls::new(Deleting::new(me, key)),
@@ -115,7 +110,7 @@ impl Del {
 impl Machine for Del {
     type Answer = Answer;
 
-    ghost control = { calls_control del_parts del_plan };
+    ghost control = { calls_control del_parts del_steered };
 
     ghost fits = { CallsFits del_parts del_plan };
 

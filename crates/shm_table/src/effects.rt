@@ -1,41 +1,23 @@
 //! What commands on a table show of their answers: from the deciding step on they show it, and it is what they answer.
 
 ghost use Rattle.std.specs.Prelude.{◌≡◌, ◌+◌, ◌*◌, ℕ, true, false, is_ok, Option, None, List};
-ghost use Rattle.shm_graph.specs.declared.ask.Me.{Me as AMe};
-ghost use Rattle.shm_graph.specs.declared.memo.Memo.{Memo as AMemo};
-ghost use Rattle.shm_graph.specs.Agents.{died};
-ghost use Rattle.shm_graph.specs.Asks.{Trail};
-ghost use Rattle.shm_graph.specs.Bounds.{command_steps};
-ghost use Rattle.shm_graph.specs.Tells.{after_all};
-ghost use Rattle.shm_calls.specs.CallsControl.{calls_control, calls_does};
-ghost use Rattle.shm_calls.specs.CallsFit.{CallsFits};
+ghost use Rattle.shm_graph.specs.{declared.{ask.Me.Me as AMe, memo.Memo.Memo as AMemo}, Agents.died, Asks.Trail};
+ghost use Rattle.shm_graph.specs.{Bounds.command_steps, Tells.after_all, Events.Event as AnEvent};
+ghost use Rattle.shm_calls.specs.{CallsControl.{calls_control, calls_does}, CallsFit.CallsFits};
 ghost use Rattle.shm_calls.specs.Deciding.{Decides, Foretells, StillRuns};
-ghost use Rattle.shm_script.specs.declared.line.Line.{Line as ALine};
-ghost use Rattle.shm_script.specs.declared.log.Answer.{Answer as AnAnswer};
+ghost use Rattle.shm_script.specs.declared.{line.Line.Line as ALine, log.Answer.Answer as AnAnswer};
 ghost use Rattle.shm_script.specs.Text.{line_spelled};
-ghost use Rattle.shm_table.specs.Command.Bound.{IsCommandShort};
-ghost use Rattle.shm_table.specs.Command.Maps.{MapSoFar};
-ghost use Rattle.shm_table.specs.Command.Sends.{SentSoFar};
+ghost use Rattle.shm_table.specs.Command.{Bound.IsCommandShort, Maps.MapSoFar, Sends.SentSoFar};
 ghost use Rattle.shm_table.specs.Command.{CommandCall, CommandFits, command_by, command_control, command_effect, command_of};
-ghost use Rattle.shm_table.specs.CopyKey.Control.{CopyCalls, copy_parts};
-ghost use Rattle.shm_table.specs.CopyKey.{copy_plan};
-ghost use Rattle.shm_table.specs.Cutting.{Cuts};
-ghost use Rattle.shm_table.specs.Del.Control.{DelCalls, del_parts};
-ghost use Rattle.shm_table.specs.Del.{del_plan};
+ghost use Rattle.shm_table.specs.{CopyKey.{Control.{CopyCalls, copy_parts, copy_steered}, copy_plan}, Cutting.Cuts};
+ghost use Rattle.shm_table.specs.Del.{Control.{DelCalls, del_parts, del_steered}, del_plan};
 ghost use Rattle.shm_table.specs.Effects.{copy_by, copy_effect, copy_home, del_by, del_effect, enter_by, enter_decided, get_effect, is_linked, put_by, put_effect, put_home, put_root_by, put_root_decided, recv_by, recv_effect, recv_home, replace_by, replace_decided, send_key_by, send_key_effect, unlink_by, unlink_decided};
-ghost use Rattle.shm_table.specs.Get.Control.{get_parts};
-ghost use Rattle.shm_table.specs.Get.{get_plan};
-ghost use Rattle.shm_table.specs.Put.Control.{PutCalls, put_parts};
+ghost use Rattle.shm_table.specs.{Get.Control.{get_parts, get_steered}, Put.Control.{PutCalls, put_parts, put_steered}};
 ghost use Rattle.shm_table.specs.Put.{put_plan};
-ghost use Rattle.shm_table.specs.PutRoot.Control.{decided_of, enter_control, replace_control};
-ghost use Rattle.shm_table.specs.PutRoot.{Decides as DecidesMap, put_root_control};
-ghost use Rattle.shm_table.specs.RecvKey.Control.{RecvCalls, recv_parts};
-ghost use Rattle.shm_table.specs.RecvKey.{recv_plan};
-ghost use Rattle.shm_table.specs.SendKey.Control.{send_key_parts};
-ghost use Rattle.shm_table.specs.SendKey.{send_key_plan};
-ghost use Rattle.shm_table.specs.Unlink.{unlink_control};
-ghost use Rattle.shm_graph.specs.Events.{Event as AnEvent};
-ghost use Rattle.shm_table.specs.Refusals.{CommandLeaves};
+ghost use Rattle.shm_table.specs.PutRoot.Control.{decided_of, enter_control, replace_control, put_root_control};
+ghost use Rattle.shm_table.specs.{PutRoot.Decides as DecidesMap, RecvKey.Control.{RecvCalls, recv_parts, recv_steered}};
+ghost use Rattle.shm_table.specs.{RecvKey.recv_plan, SendKey.Control.{send_key_parts, send_key_steered}};
+ghost use Rattle.shm_table.specs.{Refusals.CommandLeaves, Unlink.Control.unlink_control};
 
 /// Whether an entry has another value block, whether a new entry is linked, whether an entry is taken out, and whether a key comes to have a
 /// value block: the answer tells that the deciding step was made, exactly where it was.
@@ -48,12 +30,12 @@ pub fn parts_decide()
 
 /// A command shows what it will answer exactly from its deciding step on, whatever words are found, and it answers what it showed.
 pub fn commands_foretell()
-    ensures put { Foretells (calls_control put_parts put_plan) (λ a. a) put_effect (λ m n. put_by m.plan m.call n) }
-    ensures copy { Foretells (calls_control copy_parts copy_plan) (λ a. a) copy_effect (λ m n. copy_by m.plan m.call n) }
-    ensures del { Foretells (calls_control del_parts del_plan) (λ a. a) del_effect (λ m n. del_by m.plan m.call n) }
-    ensures get { Foretells (calls_control get_parts get_plan) (λ a. a) get_effect (λ m n. false) }
-    ensures send { Foretells (calls_control send_key_parts send_key_plan) (λ a. a) send_key_effect (λ m n. send_key_by m.plan m.call n) }
-    ensures recv { Foretells (calls_control recv_parts recv_plan) (λ a. a) recv_effect (λ m n. recv_by m.plan m.call n) }
+    ensures put { Foretells (calls_control put_parts put_steered) (λ a. a) put_effect (λ m n. put_by m.plan m.call n) }
+    ensures copy { Foretells (calls_control copy_parts copy_steered) (λ a. a) copy_effect (λ m n. copy_by m.plan m.call n) }
+    ensures del { Foretells (calls_control del_parts del_steered) (λ a. a) del_effect (λ m n. del_by m.plan m.call n) }
+    ensures get { Foretells (calls_control get_parts get_steered) (λ a. a) get_effect (λ m n. false) }
+    ensures send { Foretells (calls_control send_key_parts send_key_steered) (λ a. a) send_key_effect (λ m n. send_key_by m.plan m.call n) }
+    ensures recv { Foretells (calls_control recv_parts recv_steered) (λ a. a) recv_effect (λ m n. recv_by m.plan m.call n) }
 {}
 
 /// The deciding step of a command that fits is told as the event by which the map changes: that a new entry begins the chain of a bucket, or that

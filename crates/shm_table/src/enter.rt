@@ -2,15 +2,13 @@
 
 ghost use Rattle.std.specs.Prelude.{◌≡◌, ◌+◌, ◌<◌, ◌^◌};
 ghost use Rattle.shm_words.specs.Layout.{GeometryFits, address_limit};
-ghost use Rattle.shm_table.specs.Effects.{enter_decided, links};
+ghost use Rattle.shm_table.specs.{Effects.{enter_decided, links}, Enter.Control.{entering, entry_of, entry_request}};
+ghost use Rattle.shm_table.specs.Enter.{enter_plan, Laws.enter_laws};
 ghost use Rattle.shm_table.specs.Enter.Control as control;
-ghost use Rattle.shm_table.specs.Enter.Control.{entering, entry_of, entry_request};
-ghost use Rattle.shm_table.specs.Enter.{enter_plan};
-ghost use Rattle.shm_table.specs.Enter.Laws.{enter_laws};
 
 use crate::answer::PutFault;
 use crate::effect::Deciding;
-use shm_alloc::{Alloc, AllocFault, Request};
+use shm_alloc::{Alloc, AllocFault, Near, Request};
 use shm_calls::{Calls, Or, Plan};
 use shm_count::{Made, StepChange, StepUp, UpFault};
 use shm_graph::{Machine, Me};
@@ -91,6 +89,11 @@ fn request_of(key: u32) -> Request
         refs: 2,
         count: 1,
         plain: [u64::from(key), 0, 0, 0, 0, 0, 0, 0],
+        near: Near {
+            segment: 0,
+            page: 0,
+            index: 0,
+        },
     }
 }
 

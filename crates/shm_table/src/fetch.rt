@@ -2,10 +2,8 @@
 
 ghost use Rattle.std.specs.Prelude.{◌≡◌, ◌<◌, ◌+◌, ◌^◌};
 ghost use Rattle.shm_words.specs.Layout.{GeometryFits, address_limit};
+ghost use Rattle.shm_table.specs.Fetch.{Control.fetching, fetch_plan, Laws.fetch_laws};
 ghost use Rattle.shm_table.specs.Fetch.Control as control;
-ghost use Rattle.shm_table.specs.Fetch.Control.{fetching};
-ghost use Rattle.shm_table.specs.Fetch.{fetch_plan};
-ghost use Rattle.shm_table.specs.Fetch.Laws.{fetch_laws};
 
 use crate::answer::PutFault;
 use crate::find::Found;

@@ -3,8 +3,7 @@
 ghost use Rattle.std.specs.Prelude.{◌≡◌, ◌+◌, ◌^◌, ◌<◌, if◌then◌else◌, Some, None};
 ghost use Rattle.shm_words.specs.Layout.{GeometryFits, address_limit};
 ghost use Rattle.shm_table.specs.declared.find.Found.TheVariants.{At};
-ghost use Rattle.shm_table.specs.Find.Control.{finding, find_goes, find_answers, FindInRange};
-ghost use Rattle.shm_table.specs.Find.{find_plan};
+ghost use Rattle.shm_table.specs.Find.{Control.{finding, find_goes, find_answers, FindInRange}, find_plan};
 ghost use Rattle.shm_table.specs.Find.Laws.{find_laws};
 
 use shm_calls::{Plan, Word};

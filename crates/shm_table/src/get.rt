@@ -2,15 +2,11 @@
 
 ghost use Rattle.std.specs.Prelude.{◌≡◌, ◌<◌, ◌+◌, ◌^◌};
 ghost use Rattle.shm_words.specs.Layout.{GeometryFits, address_limit};
-ghost use Rattle.shm_calls.specs.CallsControl.{calls_control, calls_of};
-ghost use Rattle.shm_calls.specs.CallsFit.{CallsFits, CallsGives};
+ghost use Rattle.shm_calls.specs.{CallsControl.{calls_control, calls_of}, CallsFit.{CallsFits, CallsGives}};
 ghost use Rattle.shm_calls.specs.CallsKeep.{calls_laws};
-ghost use Rattle.shm_table.specs.Effects.{get_effect};
-ghost use Rattle.shm_table.specs.Get.Control as control;
-ghost use Rattle.shm_table.specs.Get.Control.{get_parts};
-ghost use Rattle.shm_table.specs.Get.{get_plan};
-ghost use Rattle.shm_table.specs.Get.Laws.{get_laws};
+ghost use Rattle.shm_table.specs.{Effects.get_effect, Get.{Control.{get_parts, get_steered}, get_plan, Laws.get_laws}};
 ghost use Rattle.shm_table.specs.TableTasks.{GetMay, get_task};
+ghost use Rattle.shm_table.specs.Get.Control as control;
 
 use crate::find::Found;
 use crate::locate::Locate;
@@ -87,7 +83,7 @@ impl Get {
         requires geometry { GeometryFits me.geometry }
         requires who { me.who < me.geometry.clients }
         requires author { author < me.geometry.clients }
-        ensures { result ≡ calls_of get_plan (control.getting me author key) }
+        ensures { result ≡ calls_of get_steered (control.getting me author key) }
     {
         Get {
             calls: Calls::new(Getting::new(me, author, key)),
@@ -106,7 +102,7 @@ impl Get {
 impl Machine for Get {
     type Answer = Answer;
 
-    ghost control = { calls_control get_parts get_plan };
+    ghost control = { calls_control get_parts get_steered };
 
     ghost fits = { CallsFits get_parts get_plan };
 

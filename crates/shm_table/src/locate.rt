@@ -2,9 +2,7 @@
 
 ghost use Rattle.std.specs.Prelude.{◌≡◌, ◌<◌};
 ghost use Rattle.shm_words.specs.Layout.{GeometryFits};
-ghost use Rattle.shm_table.specs.Locate.Control.{locating};
-ghost use Rattle.shm_table.specs.Locate.{locate_plan};
-ghost use Rattle.shm_table.specs.Locate.Laws.{locate_laws};
+ghost use Rattle.shm_table.specs.Locate.{Control.locating, locate_plan, Laws.locate_laws};
 
 use crate::find::{Find, Found};
 use shm_calls::{Calls, Or, Plan};

@@ -2,12 +2,10 @@
 
 ghost use Rattle.std.specs.Prelude.{◌≡◌, ◌<◌};
 ghost use Rattle.shm_words.specs.Layout.{GeometryFits};
-ghost use Rattle.shm_table.specs.OpenTable.Control.{directory_request, opening};
-ghost use Rattle.shm_table.specs.OpenTable.{open_plan};
-ghost use Rattle.shm_table.specs.OpenTable.Laws.{open_laws};
+ghost use Rattle.shm_table.specs.OpenTable.{Control.{directory_request, opening}, open_plan, Laws.open_laws};
 
 use crate::answer::PutFault;
-use shm_alloc::{Alloc, AllocFault, Request};
+use shm_alloc::{Alloc, AllocFault, Near, Request};
 use shm_calls::{Calls, Or, Plan, Word};
 use shm_count::{EraSpent, Made, StepUp, UpFault};
 use shm_graph::{Machine, Me};
@@ -75,6 +73,11 @@ fn directory() -> Request
         refs: 16,
         count: 0,
         plain: [0, 0, 0, 0, 0, 0, 0, 0],
+        near: Near {
+            segment: 0,
+            page: 0,
+            index: 0,
+        },
     }
 }
 

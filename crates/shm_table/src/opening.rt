@@ -1,17 +1,10 @@
 //! What the opening of a table leaves.
 
 ghost use Rattle.std.specs.Prelude.{◌≡◌, ◌≢◌, ℕ, Ok, Err, List};
-ghost use Rattle.shm_graph.specs.declared.ask.Me.{Me as AMe};
-ghost use Rattle.shm_graph.specs.declared.memo.Memo.{Memo as AMemo};
-ghost use Rattle.shm_graph.specs.declared.spot.Spot.TheVariants.{Home};
-ghost use Rattle.shm_graph.specs.Asks.{Trail};
-ghost use Rattle.shm_graph.specs.Views.{own_word};
-ghost use Rattle.shm_table.specs.declared.answer.PutFault.{PutFault as AFault};
-ghost use Rattle.shm_table.specs.declared.answer.PutFault.TheVariants.{CountFull};
-ghost use Rattle.shm_table.specs.OpenTable.Control.{opening};
-ghost use Rattle.shm_table.specs.OpenTable.{OpenLeaves};
-ghost use Rattle.shm_table.specs.Staying.{Cleared};
-ghost use Rattle.shm_graph.specs.Events.{Event as AnEvent};
+ghost use Rattle.shm_graph.specs.declared.{ask.Me.Me as AMe, memo.Memo.Memo as AMemo, spot.Spot.TheVariants.Home};
+ghost use Rattle.shm_graph.specs.{Asks.Trail, Views.own_word, Events.Event as AnEvent};
+ghost use Rattle.shm_table.specs.declared.answer.PutFault.{PutFault as AFault, TheVariants.CountFull};
+ghost use Rattle.shm_table.specs.{OpenTable.{Control.opening, OpenLeaves}, Staying.Cleared};
 
 /// Once a table was opened the home names a directory, the one that it named if it named one, and each root and the zero-count blocks are as
 /// they were. An opening is refused only where the home named none, and never since a count is full.

@@ -2,26 +2,18 @@
 
 ghost use Rattle.std.specs.Prelude.{◌≡◌, ◌<◌};
 ghost use Rattle.shm_words.specs.Layout.{GeometryFits};
-ghost use Rattle.shm_calls.specs.CallsControl.{calls_control, calls_of};
-ghost use Rattle.shm_calls.specs.CallsFit.{CallsFits, CallsGives};
+ghost use Rattle.shm_calls.specs.{CallsControl.{calls_control, calls_of}, CallsFit.{CallsFits, CallsGives}};
 ghost use Rattle.shm_calls.specs.CallsKeep.{calls_laws};
-ghost use Rattle.shm_table.specs.Effects.{put_effect};
-ghost use Rattle.shm_table.specs.Put.Control as control;
-ghost use Rattle.shm_table.specs.Put.Control.{put_parts};
-ghost use Rattle.shm_table.specs.Put.Control.{putting};
-ghost use Rattle.shm_table.specs.Put.{put_plan};
-ghost use Rattle.shm_table.specs.Enter.Laws.{enter_laws};
-ghost use Rattle.shm_table.specs.Locate.Laws.{locate_laws};
-ghost use Rattle.shm_table.specs.OpenTable.Laws.{open_laws};
-ghost use Rattle.shm_table.specs.Put.Laws.{put_laws};
-ghost use Rattle.shm_table.specs.PutRoot.Laws.{put_root_laws};
-ghost use Rattle.shm_table.specs.Replace.Laws.{replace_laws};
+ghost use Rattle.shm_table.specs.{Effects.put_effect, Put.{Control.{put_parts, put_steered, putting}, put_plan}};
+ghost use Rattle.shm_table.specs.{Put.Laws.put_laws, Enter.Laws.enter_laws, Locate.Laws.locate_laws};
+ghost use Rattle.shm_table.specs.{OpenTable.Laws.open_laws, PutRoot.Laws.put_root_laws, Replace.Laws.replace_laws};
 ghost use Rattle.shm_table.specs.TableTasks.{PutMay, put_task};
+ghost use Rattle.shm_table.specs.Put.Control as control;
 
 use crate::answer::PutFault;
 use crate::effect::Deciding;
 use crate::put_root::{PutRoot, settled};
-use shm_alloc::{Alloc, AllocFault, Request};
+use shm_alloc::{Alloc, AllocFault, Near, Request};
 use shm_calls::{Calls, Or, Plan, Task};
 use shm_count::{EraSpent, Made};
 use shm_graph::{Ask, Machine, Me, Site, Turn};
@@ -102,7 +94,7 @@ impl Put {
     pub fn new(me: Me, key: u32, number: u64) -> Put
         requires geometry { GeometryFits me.geometry }
         requires who { me.who < me.geometry.clients }
-        ensures { result ≡ calls_of put_plan (putting me key number) }
+        ensures { result ≡ calls_of put_steered (putting me key number) }
     {
         Put {
             calls: Calls::new(Putting::new(me, key, number)),
@@ -136,7 +128,7 @@ impl Put {
 impl Machine for Put {
     type Answer = Answer;
 
-    ghost control = { calls_control put_parts put_plan };
+    ghost control = { calls_control put_parts put_steered };
 
     ghost fits = { CallsFits put_parts put_plan };
 
@@ -179,6 +171,11 @@ fn value(number: u64) -> Request
         refs: 0,
         count: 1,
         plain: [number, 0, 0, 0, 0, 0, 0, 0],
+        near: Near {
+            segment: 0,
+            page: 0,
+            index: 0,
+        },
     }
 }
 

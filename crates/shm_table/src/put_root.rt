@@ -3,17 +3,11 @@
 ghost use Rattle.std.specs.Prelude.{◌≡◌, ◌<◌, ◌^◌};
 ghost use Rattle.shm_words.specs.Layout.{GeometryFits, address_limit};
 ghost use Rattle.shm_table.specs.Effects.{put_root_decided, settled};
+ghost use Rattle.shm_table.specs.PutRoot.Control.{put_root_parts, putting_root, put_root_steered, put_root_control};
+ghost use Rattle.shm_table.specs.{PutRoot.{put_root_plan, Laws.put_root_laws}, Enter.Laws.enter_laws};
+ghost use Rattle.shm_table.specs.{Locate.Laws.locate_laws, OpenTable.Laws.open_laws, Replace.Laws.replace_laws};
 ghost use Rattle.shm_table.specs.PutRoot.Control as control;
-ghost use Rattle.shm_calls.specs.CallsControl.{calls_of};
-ghost use Rattle.shm_calls.specs.CallsFit.{CallsFits, CallsGives};
-ghost use Rattle.shm_calls.specs.CallsKeep.{calls_laws};
-ghost use Rattle.shm_table.specs.PutRoot.Control.{put_root_parts, putting_root};
-ghost use Rattle.shm_table.specs.PutRoot.{put_root_control, put_root_plan};
-ghost use Rattle.shm_table.specs.Enter.Laws.{enter_laws};
-ghost use Rattle.shm_table.specs.Locate.Laws.{locate_laws};
-ghost use Rattle.shm_table.specs.OpenTable.Laws.{open_laws};
-ghost use Rattle.shm_table.specs.PutRoot.Laws.{put_root_laws};
-ghost use Rattle.shm_table.specs.Replace.Laws.{replace_laws};
+ghost use Rattle.shm_calls.specs.{CallsControl.calls_of, CallsFit.{CallsFits, CallsGives}, CallsKeep.calls_laws};
 
 use crate::answer::PutFault;
 use crate::effect::Deciding;
@@ -115,7 +109,7 @@ impl PutRoot {
         requires geometry { GeometryFits me.geometry }
         requires who { me.who < me.geometry.clients }
         requires value { value < address_limit }
-        ensures { result ≡ calls_of put_root_plan (putting_root me key value) }
+        ensures { result ≡ calls_of put_root_steered (putting_root me key value) }
     {
         PutRoot {
             calls: Calls::new(PuttingRoot::new(me, key, value)),

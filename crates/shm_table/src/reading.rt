@@ -1,39 +1,23 @@
 //! What searches and readings of a table show of its map, in the own table and in that of any author.
 
-ghost use Rattle.std.specs.Prelude.{◌≡◌, ℕ, Some, None, List, ◌<◌};
-ghost use Rattle.shm_graph.specs.declared.ask.Me.{Me as AMe};
-ghost use Rattle.shm_graph.specs.declared.memo.Memo.{Memo as AMemo};
-ghost use Rattle.shm_graph.specs.declared.run.Move.{Move as AMove};
-ghost use Rattle.shm_graph.specs.declared.spot.Spot.{Spot as ASpot};
-ghost use Rattle.shm_graph.specs.declared.spot.Spot.TheVariants.{Body};
-ghost use Rattle.shm_graph.specs.Asks.{Trail};
-ghost use Rattle.shm_graph.specs.Held.{HeldAt};
-ghost use Rattle.shm_graph.specs.Runs.{State, memos_of};
-ghost use Rattle.shm_graph.specs.Views.{view};
-ghost use Rattle.shm_calls.specs.declared.calls.Calls.{Calls as ACalls};
-ghost use Rattle.shm_calls.specs.CallsControl.{calls_of};
-ghost use Rattle.shm_calls.specs.CallsFit.{CallsFits};
+ghost use Rattle.std.specs.{Prelude.{◌≡◌, ℕ, Some, None, List, ◌<◌}, List.Contains};
+ghost use Rattle.shm_graph.specs.declared.{ask.Me.Me as AMe, memo.{Memo.Memo as AMemo, Look.Look as ALook}};
+ghost use Rattle.shm_graph.specs.declared.{memo.Stored.Stored as AStored, run.Move.Move as AMove};
+ghost use Rattle.shm_graph.specs.{declared.spot.Spot.{Spot as ASpot, TheVariants.Body}, Asks.Trail, Held.HeldAt};
+ghost use Rattle.shm_graph.specs.{Runs.{State, memos_of}, Views.view, Events.Event as AnEvent};
+ghost use Rattle.shm_calls.specs.{declared.calls.Calls.Calls as ACalls, CallsControl.calls_of, CallsFit.CallsFits};
 ghost use Rattle.shm_steps.specs.Reparting.{map_in};
 ghost use Rattle.shm_count.specs.Calling.{IsCall};
-ghost use Rattle.shm_script.specs.declared.line.Line.TheVariants as line;
 ghost use Rattle.shm_script.specs.declared.log.Answer.{Answer as AnAnswer};
+ghost use Rattle.shm_script.specs.declared.line.Line.TheVariants as line;
 ghost use Rattle.shm_script.specs.declared.log.Answer.TheVariants as answer;
-ghost use Rattle.shm_table.specs.declared.find.Found.TheVariants.{Absent, At};
-ghost use Rattle.shm_table.specs.declared.get.GetState.{GetState as AGetState};
-ghost use Rattle.shm_table.specs.Command.{command_control, command_of};
-ghost use Rattle.shm_table.specs.Find.Control.{finding};
-ghost use Rattle.shm_table.specs.Find.Tells.{HasRead, HasKey};
+ghost use Rattle.shm_table.specs.declared.{find.Found.TheVariants.{Absent, At}, get.GetState.GetState as AGetState};
+ghost use Rattle.shm_table.specs.{Command.{command_control, command_of}, Find.Control.finding};
+ghost use Rattle.shm_table.specs.Find.{Tells.{HasRead, HasKey}, FindLeaves, IsLook};
 ghost use Rattle.shm_table.specs.Get.Finding.{FindsAt, IsAnswered};
-ghost use Rattle.shm_table.specs.Get.Control.{GetAnswer, GetCall, get_parts, getting};
-ghost use Rattle.shm_table.specs.Get.{GetLeaves, IsTold, get_plan};
-ghost use Rattle.shm_table.specs.Get.Tells.{HasNamed, IsReady};
-ghost use Rattle.shm_table.specs.Locate.{Located, MayLocate};
-ghost use Rattle.shm_table.specs.Machines.Get.{get};
-ghost use Rattle.shm_table.specs.Find.{FindLeaves, IsLook};
-ghost use Rattle.std.specs.List.{Contains};
-ghost use Rattle.shm_graph.specs.declared.memo.Look.{Look as ALook};
-ghost use Rattle.shm_graph.specs.declared.memo.Stored.{Stored as AStored};
-ghost use Rattle.shm_graph.specs.Events.{Event as AnEvent};
+ghost use Rattle.shm_table.specs.Get.Control.{GetAnswer, GetCall, get_parts, getting, get_steered};
+ghost use Rattle.shm_table.specs.Get.{GetLeaves, IsTold, get_plan, Tells.{HasNamed, IsReady}};
+ghost use Rattle.shm_table.specs.{Locate.{Located, MayLocate}, Machines.Get.get};
 
 /// In the own table the answer says whether its map has the key; and in any table a chain was read up to the entry that was found.
 pub fn locate_tells()
@@ -58,7 +42,7 @@ pub fn get_tells()
 /// loads the value word of the entry that the author's table has for the key, the author's map has this number and this block there. So does
 /// the command of its line.
 pub fn get_finds_the_map()
-    ensures get { (me : AMe) (author key : ℕ) (a : State) (ms : List AMove) (b : State) (tr : Trail) (n v : ℕ) → MayLocate me author (memos_of a.accounts me.who) → IsCall get (calls_of get_plan (getting me author key)) a ms b tr → IsAnswered get (calls_of get_plan (getting me author key)) tr (answer.Value n v) → FindsAt me author key n v a ms b }
+    ensures get { (me : AMe) (author key : ℕ) (a : State) (ms : List AMove) (b : State) (tr : Trail) (n v : ℕ) → MayLocate me author (memos_of a.accounts me.who) → IsCall get (calls_of get_steered (getting me author key)) a ms b tr → IsAnswered get (calls_of get_steered (getting me author key)) tr (answer.Value n v) → FindsAt me author key n v a ms b }
     ensures command { (me : AMe) (author key : ℕ) (a : State) (ms : List AMove) (b : State) (tr : Trail) (n v : ℕ) → MayLocate me author (memos_of a.accounts me.who) → IsCall command_control (command_of me (line.Get author key)) a ms b tr → IsAnswered command_control (command_of me (line.Get author key)) tr (answer.Value n v) → FindsAt me author key n v a ms b }
 {}
 

@@ -2,22 +2,14 @@
 
 ghost use Rattle.std.specs.Prelude.{◌≡◌, ◌<◌};
 ghost use Rattle.shm_words.specs.Layout.{GeometryFits};
-ghost use Rattle.shm_calls.specs.CallsControl.{calls_control, calls_of};
-ghost use Rattle.shm_calls.specs.CallsFit.{CallsFits, CallsGives};
+ghost use Rattle.shm_calls.specs.{CallsControl.{calls_control, calls_of}, CallsFit.{CallsFits, CallsGives}};
 ghost use Rattle.shm_calls.specs.CallsKeep.{calls_laws};
-ghost use Rattle.shm_table.specs.Effects.{recv_effect};
-ghost use Rattle.shm_table.specs.RecvKey.Control as control;
-ghost use Rattle.shm_table.specs.RecvKey.Control.{receiving_key, recv_parts};
-ghost use Rattle.shm_table.specs.RecvKey.{recv_plan};
-ghost use Rattle.shm_table.specs.RecvKey.Laws.{recv_laws};
-ghost use Rattle.shm_table.specs.Enter.Laws.{enter_laws};
-ghost use Rattle.shm_table.specs.FetchHead.Laws.{fetch_head_laws};
-ghost use Rattle.shm_table.specs.Locate.Laws.{locate_laws};
-ghost use Rattle.shm_table.specs.OpenTable.Laws.{open_laws};
-ghost use Rattle.shm_table.specs.PutRoot.Laws.{put_root_laws};
-ghost use Rattle.shm_table.specs.Replace.Laws.{replace_laws};
-ghost use Rattle.shm_table.specs.TakeHead.Laws.{take_head_laws};
+ghost use Rattle.shm_table.specs.{Effects.recv_effect, RecvKey.Control.{receiving_key, recv_parts, recv_steered}};
+ghost use Rattle.shm_table.specs.{RecvKey.{recv_plan, Laws.recv_laws}, Enter.Laws.enter_laws};
+ghost use Rattle.shm_table.specs.{FetchHead.Laws.fetch_head_laws, Locate.Laws.locate_laws, OpenTable.Laws.open_laws};
+ghost use Rattle.shm_table.specs.{PutRoot.Laws.put_root_laws, Replace.Laws.replace_laws, TakeHead.Laws.take_head_laws};
 ghost use Rattle.shm_table.specs.TableTasks.{RecvMay, recv_task};
+ghost use Rattle.shm_table.specs.RecvKey.Control as control;
 
 use crate::answer::PutFault;
 use crate::copy::{answer, stuck};
@@ -111,7 +103,7 @@ impl RecvKey {
         requires geometry { GeometryFits me.geometry }
         requires who { me.who < me.geometry.clients }
         requires from { from < me.geometry.clients }
-        ensures { result ≡ calls_of recv_plan (receiving_key me from key) }
+        ensures { result ≡ calls_of recv_steered (receiving_key me from key) }
     {
         RecvKey {
             calls: Calls::new(ReceivingKey::new(me, from, key)),
@@ -146,7 +138,7 @@ impl RecvKey {
 impl Machine for RecvKey {
     type Answer = Answer;
 
-    ghost control = { calls_control recv_parts recv_plan };
+    ghost control = { calls_control recv_parts recv_steered };
 
     ghost fits = { CallsFits recv_parts recv_plan };
 

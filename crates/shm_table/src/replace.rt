@@ -2,11 +2,9 @@
 
 ghost use Rattle.std.specs.Prelude.{◌≡◌, ◌%◌, ◌^◌, ◌+◌, ◌<◌};
 ghost use Rattle.shm_words.specs.Layout.{GeometryFits, address_limit};
-ghost use Rattle.shm_table.specs.Effects.{replace_decided};
-ghost use Rattle.shm_table.specs.Replace.Control as control;
-ghost use Rattle.shm_table.specs.Replace.Control.{replacing};
-ghost use Rattle.shm_table.specs.Replace.{replace_plan};
+ghost use Rattle.shm_table.specs.{Effects.replace_decided, Replace.{Control.replacing, replace_plan}};
 ghost use Rattle.shm_table.specs.Replace.Laws.{replace_laws};
+ghost use Rattle.shm_table.specs.Replace.Control as control;
 
 use crate::answer::PutFault;
 use crate::effect::Deciding;

@@ -2,15 +2,12 @@
 
 ghost use Rattle.std.specs.Prelude.{◌≡◌, ◌<◌, ◌+◌, ◌^◌};
 ghost use Rattle.shm_words.specs.Layout.{GeometryFits, address_limit};
-ghost use Rattle.shm_calls.specs.CallsControl.{calls_control, calls_of};
-ghost use Rattle.shm_calls.specs.CallsFit.{CallsFits, CallsGives};
+ghost use Rattle.shm_calls.specs.{CallsControl.{calls_control, calls_of}, CallsFit.{CallsFits, CallsGives}};
 ghost use Rattle.shm_calls.specs.CallsKeep.{calls_laws};
 ghost use Rattle.shm_table.specs.Effects.{is_sent, send_key_effect};
+ghost use Rattle.shm_table.specs.SendKey.{Control.{send_key_parts, sending_key, send_key_steered}, send_key_plan};
+ghost use Rattle.shm_table.specs.{SendKey.Laws.send_key_laws, TableTasks.{SendKeyMay, send_key_task}};
 ghost use Rattle.shm_table.specs.SendKey.Control as control;
-ghost use Rattle.shm_table.specs.SendKey.Control.{send_key_parts, sending_key};
-ghost use Rattle.shm_table.specs.SendKey.{send_key_plan};
-ghost use Rattle.shm_table.specs.SendKey.Laws.{send_key_laws};
-ghost use Rattle.shm_table.specs.TableTasks.{SendKeyMay, send_key_task};
 
 use crate::find::Found;
 use crate::locate::Locate;
@@ -92,7 +89,7 @@ impl SendKey {
         requires geometry { GeometryFits me.geometry }
         requires who { me.who < me.geometry.clients }
         requires to { to < me.geometry.clients }
-        ensures { result ≡ calls_of send_key_plan (sending_key me to key) }
+        ensures { result ≡ calls_of send_key_steered (sending_key me to key) }
     {
         SendKey {
             calls: Calls::new(SendingKey::new(me, to, key)),
@@ -118,7 +115,7 @@ impl SendKey {
 impl Machine for SendKey {
     type Answer = Answer;
 
-    ghost control = { calls_control send_key_parts send_key_plan };
+    ghost control = { calls_control send_key_parts send_key_steered };
 
     ghost fits = { CallsFits send_key_parts send_key_plan };
 

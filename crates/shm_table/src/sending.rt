@@ -1,17 +1,11 @@
 //! What the send of what a key has leaves of the queue.
 
 ghost use Rattle.std.specs.Prelude.{◌≡◌, ℕ, ◌+◌, Some, List};
-ghost use Rattle.shm_graph.specs.declared.ask.Me.{Me as AMe};
-ghost use Rattle.shm_graph.specs.declared.memo.Memo.{Memo as AMemo};
-ghost use Rattle.shm_graph.specs.declared.spot.Spot.TheVariants.{Tail};
-ghost use Rattle.shm_graph.specs.Asks.{Trail};
-ghost use Rattle.shm_graph.specs.MemoAfterStore.{lane_with};
-ghost use Rattle.shm_graph.specs.Views.{own_word};
+ghost use Rattle.shm_graph.specs.declared.{ask.Me.Me as AMe, memo.Memo.Memo as AMemo, spot.Spot.TheVariants.Tail};
+ghost use Rattle.shm_graph.specs.{Asks.Trail, MemoAfterStore.lane_with, Views.own_word, Events.Event as AnEvent};
 ghost use Rattle.shm_steps.specs.Reparting.{map_in};
 ghost use Rattle.shm_script.specs.declared.log.Answer.TheVariants as answer;
-ghost use Rattle.shm_table.specs.SendKey.Control.{sending_key};
-ghost use Rattle.shm_table.specs.SendKey.{SendKeyLeaves};
-ghost use Rattle.shm_graph.specs.Events.{Event as AnEvent};
+ghost use Rattle.shm_table.specs.SendKey.{Control.sending_key, SendKeyLeaves};
 
 /// Once what a key has was sent, it is the block that the map had at the key: it joined what was sent, at its end, and the tail is one more.
 pub fn send_key_sends()

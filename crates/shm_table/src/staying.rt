@@ -1,15 +1,10 @@
 //! What machines over tables keep of a memo, and what the steps of tables make of the own map.
 
 ghost use Rattle.std.specs.Prelude.{◌≡◌, ◌≢◌, ℕ, ◌<◌, false};
-ghost use Rattle.shm_graph.specs.declared.ask.Me.{Me as AMe};
-ghost use Rattle.shm_graph.specs.declared.memo.Memo.{Memo as AMemo};
-ghost use Rattle.shm_graph.specs.declared.memo.Op.TheVariants.{Nothing};
-ghost use Rattle.shm_graph.specs.declared.spot.Spot.TheVariants.{Home, Body};
-ghost use Rattle.shm_graph.specs.Held.{is_loose};
-ghost use Rattle.shm_graph.specs.Idle.{IsIdle};
+ghost use Rattle.shm_graph.specs.declared.{ask.Me.Me as AMe, memo.{Memo.Memo as AMemo, Op.TheVariants.Nothing}};
+ghost use Rattle.shm_graph.specs.{declared.spot.Spot.TheVariants.{Home, Body}, Held.is_loose, Idle.IsIdle};
 ghost use Rattle.shm_graph.specs.Views.{own_word};
-ghost use Rattle.shm_steps.specs.Beginning.{IsOwnWord};
-ghost use Rattle.shm_steps.specs.Reparting.{sight, map_in, map_after, TableStep};
+ghost use Rattle.shm_steps.specs.{Beginning.IsOwnWord, Reparting.{sight, map_in, map_after, TableStep}};
 ghost use Rattle.shm_calls.specs.Parts.{IsHeld};
 ghost use Rattle.shm_count.specs.Step.Parts.{part_after};
 ghost use Rattle.shm_table.specs.Staying.{Keeps};

@@ -2,8 +2,7 @@
 
 ghost use Rattle.std.specs.Prelude.{◌≡◌, ◌<◌};
 ghost use Rattle.shm_words.specs.Layout.{GeometryFits};
-ghost use Rattle.shm_table.specs.Unlatch.{unlatching, unlatch_plan};
-ghost use Rattle.shm_table.specs.Unlatch.Laws.{unlatch_laws};
+ghost use Rattle.shm_table.specs.Unlatch.{unlatching, unlatch_plan, Laws.unlatch_laws};
 
 use shm_calls::{Plan, Word};
 use shm_graph::{Machine, Me};

@@ -3,11 +3,8 @@
 
 ghost use Rattle.std.specs.Prelude.{◌≡◌, ◌%◌, ◌^◌, ◌+◌, ◌<◌};
 ghost use Rattle.shm_words.specs.Layout.{GeometryFits, address_limit};
-ghost use Rattle.shm_table.specs.Effects.{unlink_decided};
+ghost use Rattle.shm_table.specs.{Effects.unlink_decided, Unlink.{Control.unlinking, unlink_plan, Laws.unlink_laws}};
 ghost use Rattle.shm_table.specs.Unlink.Control as control;
-ghost use Rattle.shm_table.specs.Unlink.Control.{unlinking};
-ghost use Rattle.shm_table.specs.Unlink.{unlink_plan};
-ghost use Rattle.shm_table.specs.Unlink.Laws.{unlink_laws};
 
 use crate::effect::Deciding;
 use shm_calls::{Calls, Or, Plan, Word};

@@ -1,12 +1,7 @@
 -- what a whole call does to the agents of its identity
 use Rattle.std.proofs.Common.{◌≡◌, ℕ, ◌+◌, Bool, true, false, ◌&&◌, cond, List, [], ◌∷◌, ◌++◌, refl, sym, ap, ◌∙◌, subst}
-use Rattle.shm_graph.specs.declared.memo.Agent.{Agent}
-use Rattle.shm_graph.specs.declared.memo.Fate.TheVariants.{Ended}
-use Rattle.shm_graph.specs.declared.memo.Step.{Step}
-use Rattle.shm_graph.specs.declared.run.Account.{Account}
-use Rattle.shm_graph.specs.Agents.{ended, is_gone, stepped, with_last}
-use Rattle.shm_graph.specs.Changes.{asked_spot}
-use Rattle.shm_graph.specs.Runs.{account_after}
+use Rattle.shm_graph.specs.declared.{memo.{Agent.Agent, Fate.TheVariants.Ended, Step.Step}, run.Account.Account}
+use Rattle.shm_graph.specs.{Agents.{ended, is_gone, stepped, with_last}, Changes.asked_spot, Runs.account_after}
 use Rattle.shm_graph.proofs.Memos.MemoSteps.{agents_after, memo_agents}
 use Rattle.shm_agents.proofs.Growing.{with_last-end}
 use Rattle.shm_pool.specs.Calls.{Calls, Ending, Going, Shown, accounts_by, fresh_after}

@@ -1,28 +1,17 @@
 -- what is given where none of the agents of a script has anything left to do
 use Rattle.std.proofs.Common.{◌≡◌, ◌≢◌, Bool, true, false, List, [], inl, inr, refl, sym, ap, ◌∙◌, subst}
 use Rattle.std.specs.Prelude.{slice_index}
-use Rattle.shm_graph.specs.declared.ask.Me.{Me}
-use Rattle.shm_graph.specs.declared.run.Account.{Account}
-use Rattle.shm_graph.specs.Agents.{acts, last_agent}
-use Rattle.shm_graph.specs.Held.{is_loose}
+use Rattle.shm_graph.specs.{declared.{ask.Me.Me, run.Account.Account}, Agents.{acts, last_agent}, Held.is_loose}
 use Rattle.shm_graph.specs.Runs.{fell_by, told_left}
 use Rattle.shm_count.specs.Roots.{member}
-use Rattle.shm_script.specs.Logged.{Logged}
-use Rattle.shm_script.specs.declared.log.Entry.{Entry}
-use Rattle.shm_script.specs.Values.{Scripted}
-use Rattle.shm_agents.specs.declared.agents.Standing.{Standing}
-use Rattle.shm_agents.specs.declared.agents.Standing.TheVariants.{AtWork, Dead, Gone}
+use Rattle.shm_script.specs.{Logged.Logged, declared.log.Entry.Entry, Values.Scripted}
+use Rattle.shm_agents.specs.declared.agents.Standing.{Standing, TheVariants.{AtWork, Dead, Gone}}
 use Rattle.shm_agents.specs.Agents.{IsFold, Playing, Stands, is_standing_dead, logged}
-use Rattle.shm_agents.specs.Courses.{AreCommandsTold, AreScriptAgents}
-use Rattle.shm_agents.specs.Logs.{AreUnspent, IsLogOf}
-use Rattle.shm_agents.specs.Turns.{lives_of}
+use Rattle.shm_agents.specs.{Courses.{AreCommandsTold, AreScriptAgents}, Logs.{AreUnspent, IsLogOf}, Turns.lives_of}
 use Rattle.shm_agents.proofs.Over.{IsOver, is_over, over_fell, over_fold, over_gone, over_log, over_table, over_unspent}
 use Rattle.shm_agents.proofs.Rested.{stands_agents, stands_told}
-use Rattle.shm_pool.specs.Posts.{IsPosted}
-use Rattle.shm_pool.specs.Tokens.{IsOut, Token}
-use Rattle.shm_team.specs.declared.left.Left.{Left}
-use Rattle.shm_team.specs.Dones.{IsFinished}
-use Rattle.shm_team.specs.Lefts.{IsGivenBack, account_in, is_corpse}
+use Rattle.shm_pool.specs.{Posts.IsPosted, Tokens.{IsOut, Token}}
+use Rattle.shm_team.specs.{declared.left.Left.Left, Dones.IsFinished, Lefts.{IsGivenBack, account_in, is_corpse}}
 use Rattle.shm_team.proofs.Resting.{stood_quiet}
 
 pub alive_is : (st : Standing) → st ≢ Dead → is_standing_dead st ≡ false

@@ -1,27 +1,18 @@
 -- jobs, what is done of them, and visits, one by one
 use Rattle.std.proofs.Common.{◌≡◌, ℕ, zero, suc, ◌+◌, ◌<◌, ◌≤◌, List, [], ◌∷◌, ◌++◌, append-nil, length, refl, sym, ap, ◌∙◌, subst, arith}
-use Rattle.std.specs.List.{AllByRecursion}
-use Rattle.std.specs.Prelude.{Option, Some, None, slice_index_or}
-use Rattle.shm_graph.specs.declared.run.Account.{Account}
-use Rattle.shm_graph.specs.declared.run.Start.{Start}
-use Rattle.shm_graph.specs.Runs.{account_at, first_account}
+use Rattle.std.specs.{List.AllByRecursion, Prelude.{Option, Some, None, slice_index_or}}
+use Rattle.shm_graph.specs.{declared.run.{Account.Account, Start.Start}, Runs.{account_at, first_account}}
 use Rattle.shm_graph.proofs.States.FirstHeld.{at-accounts_from}
 use Rattle.shm_plain.specs.Pools.{first_pool}
 use Rattle.shm_agents.specs.Agents.{Playing, Stands}
 use Rattle.shm_pool.specs.Tokens.{Its, Token, first_tokens, token_first}
-use Rattle.shm_replay.specs.Replays.{start_of}
-use Rattle.shm_replay.specs.Seats.{Seat}
-use Rattle.shm_script.specs.Logged.{Logged}
-use Rattle.shm_script.specs.Values.{Scripted, Traced}
-use Rattle.shm_team.specs.declared.done.Done.{Done}
-use Rattle.shm_team.specs.declared.jobs.Job.{Job}
-use Rattle.shm_team.specs.declared.left.Left.{Left}
-use Rattle.shm_team.specs.declared.left.Left.TheVariants.{Vacant}
+use Rattle.shm_replay.specs.{Replays.start_of, Seats.Seat}
+use Rattle.shm_replay.proofs.Starting.{script_client}
+use Rattle.shm_script.specs.{Logged.Logged, Values.{Scripted, Traced}}
+use Rattle.shm_team.specs.declared.{done.Done.Done, jobs.Job.Job, left.Left.{Left, TheVariants.Vacant}}
 use Rattle.shm_team.specs.Dones.{AreDones, AreGivenBack, IsDone, IsDoneBy, IsFinished, logs_done}
 use Rattle.shm_team.specs.Jobs.{AreAgentsOf, AreDone, AreJobs, AreTokens, IsJob, MayHaveAgents}
-use Rattle.shm_team.specs.Lefts.{IsGivenBack, account_in, is_corpse}
-use Rattle.shm_team.specs.Visits.{AreVisits, IsVisited}
-use Rattle.shm_replay.proofs.Starting.{script_client}
+use Rattle.shm_team.specs.{Lefts.{IsGivenBack, account_in, is_corpse}, Visits.{AreVisits, IsVisited}}
 
 pub nothing_left : {X : Type 0} (l : List X) → length l ≡ 0 → l ≡ []
 nothing_left [] h = refl
@@ -36,12 +27,12 @@ all_yielded ys rest all n items len none =
 -- ---- jobs
 
 -- each job has one of these tokens, and the agents that its identity begins with
-abbrev pub JobsOf : Traced → List Token → List Job → Type 0
+abbrev pub JobsOf : {A : Type 0} → Traced → List Token → List (Job A) → Type 0
 JobsOf t [] [] = Unit {0}
 JobsOf t (k ∷ ks) (j ∷ js) = (j.token ≡ k) × Seat t (first_pool (start_of t)) k.account.who j.agents × JobsOf t ks js
 JobsOf t ks js = ⊥
 
-pub jobs_more : (t : Traced) (ks : List Token) (js : List Job) (k : Token) (j : Job) → JobsOf t ks js → j.token ≡ k → Seat t (first_pool (start_of t)) k.account.who j.agents → JobsOf t (ks ++ k ∷ []) (js ++ j ∷ [])
+pub jobs_more : {A : Type 0} (t : Traced) (ks : List Token) (js : List (Job A)) (k : Token) (j : Job A) → JobsOf t ks js → j.token ≡ k → Seat t (first_pool (start_of t)) k.account.who j.agents → JobsOf t (ks ++ k ∷ []) (js ++ j ∷ [])
 jobs_more t [] [] k j h is seat = (is, seat, tt)
 jobs_more t [] (y ∷ js) k j h is seat = absurd h
 jobs_more t (x ∷ ks) [] k j h is seat = absurd h
@@ -61,7 +52,7 @@ seat_first t c (Some x) l h =
       stands = subst (λ (e : Account). Stands (start_of t) h.script x e) (first_there (start_of t) c l) h.stands;
     }
 
-pub jobs_first : (t : Traced) (p : Its) → p.start ≡ start_of t → (c n : ℕ) (js : List Job) → c + n ≤ t.clients → JobsOf t (first_tokens p c n) js → AreJobs t p c js
+pub jobs_first : {A : Type 0} (t : Traced) (p : Its) → p.start ≡ start_of t → (c n : ℕ) (js : List (Job A)) → c + n ≤ t.clients → JobsOf t (first_tokens p c n) js → AreJobs t p c js
 jobs_first t p start c zero [] l h = tt
 jobs_first t p start c zero (j ∷ js) l h = absurd h
 jobs_first t p start c (suc n) [] l h = absurd h
@@ -76,7 +67,7 @@ jobs_first t p start c (suc n) (j ∷ js) l h = (
 )
 
 -- each is of its identity
-pub job_there : (t : Traced) (p : Its) (c i : ℕ) (js : List Job) (d : Job) → AreJobs t p c js → i < length js → let x : Job = slice_index_or js i d in IsJob t p x.token.account.who x
+pub job_there : {A : Type 0} (t : Traced) (p : Its) (c i : ℕ) (js : List (Job A)) (d : Job A) → AreJobs t p c js → i < length js → let x : Job A = slice_index_or js i d in IsJob t p x.token.account.who x
 job_there t p c i [] d h l = absurd (omega arith)
 job_there t p c zero (j ∷ js) d h l = subst (λ (n : ℕ). IsJob t p n j) (sym h.0) h.1
 job_there t p c (suc i) (j ∷ js) d h l = job_there t p (suc c) i js d h.2 (omega arith)
@@ -86,11 +77,11 @@ first_who p m c zero l = tt
 first_who p m c (suc n) l = (let z : c < m = omega arith in z, first_who p m (suc c) n (omega arith))
 
 -- the agents of a job
-pub agents_in : (t : Traced) (p : Its) (j : Job) (x : Playing) → IsJob t p j.token.account.who j → j.agents ≡ Some x → AreAgentsOf t p.start j.token.account.who j.token.account x
+pub agents_in : {A : Type 0} (t : Traced) (p : Its) (j : Job A) (x : Playing) → IsJob t p j.token.account.who j → j.agents ≡ Some x → AreAgentsOf t p.start j.token.account.who j.token.account x
 agents_in t p j x h e = subst (MayHaveAgents t p.start j.token.account.who j.token.account) e h.agents
 
 -- none
-pub none_in : (t : Traced) (p : Its) (j : Job) → IsJob t p j.token.account.who j → j.agents ≡ None → IsDone t p j.token.account.who (record { log = None; left = Vacant j.token })
+pub none_in : {A : Type 0} (t : Traced) (p : Its) (j : Job A) → IsJob t p j.token.account.who j → j.agents ≡ None → IsDone t p j.token.account.who (record { log = None; left = Vacant j.token })
 none_in t p j h e =
     let none = subst (MayHaveAgents t p.start j.token.account.who j.token.account) e h.agents in
     let first : j.token ≡ token_first p j.token.account.who = (λ i. record { of = h.of i; account = h.first i }) in
@@ -101,7 +92,7 @@ none_in t p j h e =
     }
 
 -- what a worker made of them
-pub worked : (t : Traced) (p : Its) (j : Job) (x : Playing) (s : Scripted) (l : Logged) (k : Left) → IsJob t p j.token.account.who j → (a : AreAgentsOf t p.start j.token.account.who j.token.account x) → s ≡ a.script → IsFinished j.token.of s l k → IsDone t p j.token.account.who (record { log = Some l; left = k })
+pub worked : {A : Type 0} (t : Traced) (p : Its) (j : Job A) (x : Playing) (s : Scripted) (l : Logged) (k : Left) → IsJob t p j.token.account.who j → (a : AreAgentsOf t p.start j.token.account.who j.token.account x) → s ≡ a.script → IsFinished j.token.of s l k → IsDone t p j.token.account.who (record { log = Some l; left = k })
 worked t p j x s l k h a is f =
     let g : IsFinished p s l k = subst (λ (q : Its). IsFinished q s l k) h.of f in
     record {
@@ -113,13 +104,13 @@ worked t p j x s l k h a is f =
 -- ---- what is done of them
 
 -- of the jobs from c on, in order
-dones_from : (t : Traced) (p : Its) (c : ℕ) (js : List Job) (ds : List Done) → AreJobs t p c js → length ds ≡ length js → ((i : ℕ) (j : Job) (d : Done) → i < length js → IsDone t p (slice_index_or js i j).token.account.who (slice_index_or ds i d)) → AreDones t p c ds
+dones_from : {A : Type 0} (t : Traced) (p : Its) (c : ℕ) (js : List (Job A)) (ds : List Done) → AreJobs t p c js → length ds ≡ length js → ((i : ℕ) (j : Job A) (d : Done) → i < length js → IsDone t p (slice_index_or js i j).token.account.who (slice_index_or ds i d)) → AreDones t p c ds
 dones_from t p c [] [] jobs many each = tt
 dones_from t p c [] (d ∷ ds) jobs many each = absurd (omega arith)
 dones_from t p c (j ∷ js) [] jobs many each = absurd (omega arith)
 dones_from t p c (j ∷ js) (d ∷ ds) jobs many each = (subst (λ (n : ℕ). IsDone t p n d) jobs.0 (each 0 j d (omega arith)), dones_from t p (suc c) js ds jobs.2 (omega arith) (λ i x y l. each (suc i) x y (omega arith)))
 
-pub dones_of : (t : Traced) (p : Its) (js : List Job) (ds : List Done) → AreJobs t p 0 js → AreDone t p js ds → AreDones t p 0 ds
+pub dones_of : {A : Type 0} (t : Traced) (p : Its) (js : List (Job A)) (ds : List Done) → AreJobs t p 0 js → AreDone t p js ds → AreDones t p 0 ds
 dones_of t p js ds jobs h = dones_from t p 0 js ds jobs h.many h.each
 
 -- they are given back
@@ -200,7 +191,7 @@ tokens_of p ds ls ts many back v =
 -- ---- tokens
 
 -- as many jobs as tokens that they began with
-pub jobs_long : (t : Traced) (ks : List Token) (js : List Job) → JobsOf t ks js → length js ≡ length ks
+pub jobs_long : {A : Type 0} (t : Traced) (ks : List Token) (js : List (Job A)) → JobsOf t ks js → length js ≡ length ks
 jobs_long t [] [] h = refl
 jobs_long t [] (j ∷ js) h = absurd h
 jobs_long t (k ∷ ks) [] h = absurd h

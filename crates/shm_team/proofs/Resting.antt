@@ -1,11 +1,8 @@
 -- where the last machine of an agent is over, nothing is left of it to tell
 use Rattle.std.proofs.Common.{◌≡◌, ℕ, zero, suc, true, Bool, if◌then◌else◌, List, [], ◌∷◌, refl, ap, subst}
 use Rattle.std.specs.Prelude.{slice_set}
-use Rattle.shm_graph.specs.declared.memo.Step.{Step}
-use Rattle.shm_graph.specs.declared.run.Account.{Account}
-use Rattle.shm_graph.specs.declared.run.Move.{Move}
-use Rattle.shm_graph.specs.declared.run.Move.TheVariants.{Word, Dies, Begins}
-use Rattle.shm_graph.specs.declared.run.Start.{Start}
+use Rattle.shm_graph.specs.declared.{memo.Step.Step, run.{Account.Account, Move.Move}}
+use Rattle.shm_graph.specs.declared.run.{Move.TheVariants.{Word, Dies, Begins}, Start.Start}
 use Rattle.shm_graph.specs.Runs.{State, Stood, account_after, account_at, account_died, account_entered, accounts_from, first_state, moved, state}
 use Rattle.shm_graph.proofs.Runs.Running.{Leads-keeps}
 

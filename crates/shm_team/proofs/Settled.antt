@@ -1,21 +1,16 @@
 -- a pool that is settled where all is done of its identities is a run of the trace
 use Rattle.std.proofs.Common.{◌≡◌, ℕ, ◌+◌, ◌<◌, List, [], ◌∷◌, length, refl, sym, ◌∙◌, subst, arith}
 use Rattle.std.specs.Prelude.{IfOk, Result, Ok, Err, Option, Some, None, slice_get, slice_index_or}
-use Rattle.shm_graph.specs.declared.run.Move.{Move}
-use Rattle.shm_graph.specs.Runs.{account_at}
+use Rattle.shm_graph.specs.{declared.run.Move.Move, Runs.account_at}
 use Rattle.shm_plain.specs.Pools.{Pool, pool}
 use Rattle.shm_agents.specs.Turns.{script_in}
 use Rattle.shm_pool.specs.Tokens.{End, Its}
 use Rattle.shm_replay.specs.Replays.{start_of}
 use Rattle.shm_replay.proofs.WholeRun.{all_at}
-use Rattle.shm_script.specs.Logged.{Logged}
-use Rattle.shm_script.specs.Ranges.{AreApart, IsTrace, ScriptFits}
-use Rattle.shm_script.specs.Values.{Scripted, Traced}
-use Rattle.shm_team.specs.declared.done.Done.{Done}
-use Rattle.shm_team.specs.Dones.{AreDones, IsDoneBy, logs_done, logs_in}
+use Rattle.shm_script.specs.{Logged.Logged, Ranges.{AreApart, IsTrace, ScriptFits}, Values.{Scripted, Traced}}
+use Rattle.shm_team.specs.{declared.done.Done.Done, Dones.{AreDones, IsDoneBy, logs_done, logs_in}}
 use Rattle.shm_team.specs.Rans.{HasSettled, IsTeamRun}
-use Rattle.shm_team.proofs.Gathering.{done_at, log_done}
-use Rattle.shm_team.proofs.Whole.{WasClosed, closed_pool, is_team_run}
+use Rattle.shm_team.proofs.{Gathering.{done_at, log_done}, Whole.{WasClosed, closed_pool, is_team_run}}
 
 -- one of them
 some_done : (ds : List Done) (c : ℕ) → c < length ds → Done

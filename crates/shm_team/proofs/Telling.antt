@@ -1,23 +1,15 @@
 -- the logs of a trace's clients by their identities, and what was told of an identity in the end
 use Rattle.std.proofs.Common.{◌≡◌, ◌≢◌, ℕ, suc, Bool, true, false, cond, eqb, List, [], ◌∷◌, ◌++◌, append-nil, append_assoc, refl, sym, ap, ◌∙◌, subst, inl}
-use Rattle.std.specs.Prelude.{Option, Some, None, slice_get, slice_index_or}
-use Rattle.std.specs.FinMap as finmap
-use Rattle.std.specs.List.{AllByRecursion}
 use Rattle.std.proofs.lemmas.Bool.{cond-false, cond-true, eq-eqb, eqb-true, ne_eqb, true≢false}
-use Rattle.shm_graph.specs.declared.ask.Me.{Me}
-use Rattle.shm_graph.specs.declared.run.LoggedLine.{LoggedLine}
-use Rattle.shm_script.specs.declared.log.Entry.{Entry as LogEntry}
-use Rattle.shm_script.specs.Logged.{Logged, Table, fold_of}
-use Rattle.shm_script.specs.Values.{Scripted}
+use Rattle.std.specs.{Prelude.{Option, Some, None, slice_get, slice_index_or}, List.AllByRecursion}
+use Rattle.std.specs.FinMap as finmap
+use Rattle.shm_graph.specs.declared.{ask.Me.Me, run.LoggedLine.LoggedLine}
+use Rattle.shm_script.specs.{declared.log.Entry.Entry as LogEntry, Logged.{Logged, Table, fold_of}, Values.Scripted}
 use Rattle.shm_plain.specs.Pools.{Pool}
-use Rattle.shm_agents.specs.Courses.{AreCommandsTold}
-use Rattle.shm_agents.specs.Logs.{AreLogs, IsLog}
-use Rattle.shm_agents.specs.Turns.{script_in}
+use Rattle.shm_agents.specs.{Courses.AreCommandsTold, Logs.{AreLogs, IsLog}, Turns.script_in}
 use Rattle.shm_replay.specs.Replays.{fold_in}
 use Rattle.shm_replay.proofs.Gathering.{same_some}
-use Rattle.shm_team.specs.Dones.{log_of, logs_in}
-use Rattle.shm_team.specs.Rans.{entries_in}
-use Rattle.shm_team.specs.Visits.{AreAside}
+use Rattle.shm_team.specs.{Dones.{log_of, logs_in}, Rans.entries_in, Visits.AreAside}
 
 -- no command is told by lines that are aside
 pub aside_told : (me : Me) (more : List LoggedLine) → AreAside more → AreCommandsTold me more []

@@ -1,9 +1,8 @@
 -- tokens in the order of their identities
 use Rattle.std.proofs.Common.{◌≡◌, ℕ, zero, suc, ◌+◌, ◌<◌, ◌≤◌, eqb, cond, List, [], ◌∷◌, length, ap, ◌∙◌, subst, arith}
-use Rattle.std.specs.Prelude.{slice_index_or}
 use Rattle.std.proofs.lemmas.Bool.{cond-false, cond-true, eq-eqb, ne_eqb}
-use Rattle.shm_graph.specs.declared.run.Account.{Account}
-use Rattle.shm_graph.specs.Runs.{account_at}
+use Rattle.std.specs.Prelude.{slice_index_or}
+use Rattle.shm_graph.specs.{declared.run.Account.Account, Runs.account_at}
 use Rattle.shm_pool.specs.Rules.{count_in}
 use Rattle.shm_pool.specs.Tokens.{AllOf, Its, Token, accounts_of, by_who, find, first_tokens, token_first}
 use Rattle.shm_team.specs.Jobs.{AreTokens}

@@ -1,38 +1,19 @@
 -- what the agents of a visit leave
 use Rattle.std.proofs.Common.{◌≡◌, ℕ, Bool, true, false, cond, List, [], ◌∷◌, ◌++◌, append-nil, append_assoc, refl, sym, ap, ◌∙◌, subst, inl, inr}
 use Rattle.std.specs.Prelude.{Ok, slice_index}
-use Rattle.shm_graph.specs.declared.ask.Me.{Me}
-use Rattle.shm_graph.specs.declared.memo.Agent.{Agent}
-use Rattle.shm_graph.specs.declared.memo.Fate.{Fate}
-use Rattle.shm_graph.specs.declared.memo.Fate.TheVariants.{Acts, Ended}
-use Rattle.shm_graph.specs.declared.memo.Kind.{Kind}
-use Rattle.shm_graph.specs.declared.memo.Kind.TheVariants.{Client, Recoverer}
-use Rattle.shm_graph.specs.declared.memo.Memo.{Memo}
-use Rattle.shm_graph.specs.declared.memo.Seen.{Seen}
-use Rattle.shm_graph.specs.declared.memo.Status.{Status}
-use Rattle.shm_graph.specs.declared.memo.Status.TheVariants.{Gone}
-use Rattle.shm_graph.specs.declared.run.Account.{Account}
-use Rattle.shm_graph.specs.declared.run.LoggedLine.{LoggedLine}
-use Rattle.shm_graph.specs.declared.spot.Spot.TheVariants.{Hold}
-use Rattle.shm_graph.specs.Agents.{is_gone}
-use Rattle.shm_graph.specs.Asks.{Trail}
-use Rattle.shm_graph.specs.Events.{Event}
-use Rattle.shm_graph.specs.Held.{is_loose}
-use Rattle.shm_graph.specs.Runs.{account_entered, begun_by, told_by, told_left}
+use Rattle.shm_graph.specs.declared.{ask.Me.Me, memo.{Agent.Agent, Fate.{Fate, TheVariants.{Acts, Ended}}, Kind.Kind}}
+use Rattle.shm_graph.specs.declared.memo.{Kind.TheVariants.{Client, Recoverer}, Memo.Memo, Seen.Seen, Status.Status}
+use Rattle.shm_graph.specs.declared.{memo.Status.TheVariants.Gone, run.{Account.Account, LoggedLine.LoggedLine}}
+use Rattle.shm_graph.specs.{declared.spot.Spot.TheVariants.Hold, Agents.is_gone, Asks.Trail, Events.Event}
+use Rattle.shm_graph.specs.{Held.is_loose, Runs.{account_entered, begun_by, told_by, told_left}}
 use Rattle.shm_calls.specs.CallsControl.{calls_control, calls_of}
-use Rattle.shm_queue.specs.Drain.Control.{drain_line, drain_parts, draining}
-use Rattle.shm_queue.specs.Drain.{DrainLeaves, drain_plan}
-use Rattle.shm_recover.specs.Join.{join_line}
-use Rattle.shm_recover.specs.Leave.Control.{leave_line}
-use Rattle.shm_recover.specs.Leave.{MayLeave}
-use Rattle.shm_recover.specs.Recover.Control.{recover_line}
+use Rattle.shm_queue.specs.Drain.{Control.{drain_line, drain_parts, draining, drain_steered}, DrainLeaves, drain_plan}
+use Rattle.shm_recover.specs.{Join.join_line, Leave.{Control.leave_line, MayLeave}, Recover.Control.recover_line}
 use Rattle.shm_steps.specs.Reparting.{map_in}
 use Rattle.shm_agents.specs.Courses.{IsAside}
 use Rattle.shm_agents.proofs.Growing.{begun_end}
-use Rattle.shm_pool.specs.declared.reply.Reply.TheVariants.{Done}
-use Rattle.shm_pool.specs.Called.{HasCalled}
-use Rattle.shm_pool.specs.Calls.{Calls, IsBetween, Shown, Tells, shown}
-use Rattle.shm_pool.specs.Endings.{ClientMayLeave}
+use Rattle.shm_pool.specs.{declared.reply.Reply.TheVariants.Done, Called.HasCalled}
+use Rattle.shm_pool.specs.{Calls.{Calls, IsBetween, Shown, Tells, shown}, Endings.ClientMayLeave}
 use Rattle.shm_pool.specs.Tokens.{Acting, me_of}
 use Rattle.shm_replay.specs.Closings.{SameTable}
 use Rattle.shm_replay.proofs.Visited.{table_then}
@@ -148,7 +129,7 @@ module _ (t t' : Acting) (before left n : ℕ) (h : HasCalled drain_parts drain_
   pub drain_ran : t.dead ≡ false → IsBetween t.account → (e : Account) (lines : List (List ℕ)) → HasRun Client lines Acts e t.account → HasRun Client (lines ++ drain_line ∷ []) Acts e t'.account
   drain_ran here between e lines ran =
       let rest = left_so.1.drained.rest in
-      run_more Client lines (shown (calls_control drain_parts drain_plan) (calls_of drain_plan (draining (me_of t.of t.account)))) e t.account t'.account _ _ Acts (inr (inr (inl refl))) ran (h.done.call here) h.done.told
+      run_more Client lines (shown (calls_control drain_parts drain_steered) (calls_of drain_steered (draining (me_of t.of t.account)))) e t.account t'.account _ _ Acts (inr (inr (inl refl))) ran (h.done.call here) h.done.told
       (acts_still t'.account.memo.status (ap (λ (x : Memo). is_gone x.status) rest ∙ ap is_gone between.idle.live))
       (same_part t.account.memo t'.account.memo (ap (λ (x : Memo). x.part) rest))
 

@@ -1,40 +1,25 @@
 -- a pool of whose identities all is done, once it is settled, is a run of the trace
 use Rattle.std.proofs.Common.{◌≡◌, ℕ, ◌%◌, ◌<◌, false, List, [], refl, sym, ap, ◌∙◌, subst}
-use Rattle.std.specs.Prelude.{Option, Some, None, slice_get, slice_index, slice_index_or}
+use Rattle.std.specs.{Prelude.{Option, Some, None, slice_get, slice_index, slice_index_or}, Ordering.nat_cmp}
 use Rattle.std.specs.FinMap as finmap
-use Rattle.std.specs.Ordering.{nat_cmp}
-use Rattle.shm_graph.specs.declared.ask.Me.{Me}
-use Rattle.shm_graph.specs.declared.memo.Agent.{Agent}
-use Rattle.shm_graph.specs.declared.run.Account.{Account}
-use Rattle.shm_graph.specs.declared.run.LoggedLine.{LoggedLine}
-use Rattle.shm_graph.specs.declared.run.Start.{Start}
-use Rattle.shm_graph.specs.Held.{is_loose}
-use Rattle.shm_graph.specs.Runs.{account_at, first_account, told_left}
+use Rattle.shm_graph.specs.declared.{ask.Me.Me, memo.Agent.Agent, run.{Account.Account, LoggedLine.LoggedLine}}
+use Rattle.shm_graph.specs.{declared.run.Start.Start, Held.is_loose, Runs.{account_at, first_account, told_left}}
 use Rattle.shm_graph.specs.Tables.{find}
 use Rattle.shm_graph.proofs.States.FirstHeld.{same_everywhere}
 use Rattle.shm_count.specs.Roots.{member}
 use Rattle.shm_steps.specs.Reparting.{chain_in, map_in}
-use Rattle.shm_plain.specs.Closings.{IsClosedRun}
-use Rattle.shm_plain.specs.Pools.{Pool, memo_of, pool}
+use Rattle.shm_plain.specs.{Closings.IsClosedRun, Pools.{Pool, memo_of, pool}}
 use Rattle.shm_plain.proofs.StillTable.{still_part}
 use Rattle.shm_pool.specs.Tokens.{Its}
 use Rattle.shm_pool.specs.Tokens as shared
-use Rattle.shm_script.specs.Logged.{Logged}
-use Rattle.shm_script.specs.Ranges.{AreApart}
-use Rattle.shm_script.specs.Values.{Scripted, Traced}
-use Rattle.shm_agents.specs.Logs.{AreUnspent, BeganWith, IsLog, IsLogOf, begun_first}
-use Rattle.shm_agents.specs.Turns.{lives_of, script_in}
+use Rattle.shm_script.specs.{Logged.Logged, Ranges.AreApart, Values.{Scripted, Traced}}
+use Rattle.shm_agents.specs.{Logs.{AreUnspent, BeganWith, IsLog, IsLogOf, begun_first}, Turns.{lives_of, script_in}}
 use Rattle.shm_agents.specs.Courses.{AreCommandsTold}
-use Rattle.shm_agents.proofs.Courses.{told_aside}
-use Rattle.shm_agents.proofs.Growing.{began_more, first_more, log_on}
+use Rattle.shm_agents.proofs.{Courses.told_aside, Growing.{began_more, first_more, log_on}}
 use Rattle.shm_replay.specs.Replays.{fold_in, start_of}
-use Rattle.shm_replay.proofs.Starting.{script_client}
-use Rattle.shm_replay.proofs.WholeRun.{script_at, table_by}
-use Rattle.shm_team.specs.declared.left.Left.{Left}
-use Rattle.shm_team.specs.Dones.{IsDoneBy, logs_in}
-use Rattle.shm_team.specs.Lefts.{account_in, is_corpse}
-use Rattle.shm_team.specs.Rans.{HasAgents, IsTeamRun, MayHaveBegun, entries_in}
-use Rattle.shm_team.specs.Visits.{IsVisited}
+use Rattle.shm_replay.proofs.{Starting.script_client, WholeRun.{script_at, table_by}}
+use Rattle.shm_team.specs.{declared.left.Left.Left, Dones.{IsDoneBy, logs_in}, Lefts.{account_in, is_corpse}}
+use Rattle.shm_team.specs.{Rans.{HasAgents, IsTeamRun, MayHaveBegun, entries_in}, Visits.IsVisited}
 use Rattle.shm_team.proofs.Telling.{aside_told, entries_none, entries_some, fold_none, fold_some, logs_all, logs_are}
 
 -- the closed pool with the turns of its run

@@ -1,19 +1,12 @@
 -- what is done of the identities of a trace, whoever did it
 use Rattle.std.specs.Prelude.{◌≡◌, ℕ, suc, false, Option, Some, None, List, [], ◌∷◌, ◌++◌, slice_index, slice_index_or}
-use Rattle.shm_graph.specs.declared.memo.Status.TheVariants.{Gone}
-use Rattle.shm_graph.specs.Held.{is_loose}
-use Rattle.shm_graph.specs.Runs.{told_left}
+use Rattle.shm_graph.specs.{declared.memo.Status.TheVariants.Gone, Held.is_loose, Runs.told_left}
 use Rattle.shm_count.specs.Roots.{member}
-use Rattle.shm_agents.specs.Agents.{IsFold}
-use Rattle.shm_agents.specs.Courses.{AreCommandsTold, AreScriptAgents}
-use Rattle.shm_agents.specs.Logs.{AreUnspent, IsLogOf}
+use Rattle.shm_agents.specs.{Agents.IsFold, Courses.{AreCommandsTold, AreScriptAgents}, Logs.{AreUnspent, IsLogOf}}
 use Rattle.shm_agents.specs.Turns.{lives_of, script_in}
 use Rattle.shm_pool.specs.Tokens.{Its, token_first}
-use Rattle.shm_script.specs.Logged.{Logged}
-use Rattle.shm_script.specs.Values.{Scripted, Traced}
-use Rattle.shm_team.specs.declared.done.Done.{Done}
-use Rattle.shm_team.specs.declared.left.Left.{Left}
-use Rattle.shm_team.specs.declared.left.Left.TheVariants.{Vacant}
+use Rattle.shm_script.specs.{Logged.Logged, Values.{Scripted, Traced}}
+use Rattle.shm_team.specs.declared.{done.Done.Done, left.Left.{Left, TheVariants.Vacant}}
 use Rattle.shm_team.specs.Lefts.{IsGivenBack, account_in, is_corpse}
 
 -- The agents of the script s have nothing left to do in the pool p. The log is that of its client, by what is told of the identity; the agents are those of the script, and where the last one died the token is a corpse; no other command was told, and none was refused for a spent era; the identity's map is the fold of the log; and where the token is vacant the identity is gone

@@ -1,11 +1,8 @@
 -- tokens that are given back
 use Rattle.std.specs.Prelude.{◌≡◌, Bool, true, false, []}
-use Rattle.shm_graph.specs.declared.run.Account.{Account}
-use Rattle.shm_graph.specs.Agents.{acts}
-use Rattle.shm_graph.specs.Runs.{account_died}
+use Rattle.shm_graph.specs.{declared.run.Account.Account, Agents.acts, Runs.account_died}
 use Rattle.shm_pool.specs.Tokens.{Its, Token}
-use Rattle.shm_team.specs.declared.left.Left.{Left}
-use Rattle.shm_team.specs.declared.left.Left.TheVariants.{Vacant, Corpse}
+use Rattle.shm_team.specs.declared.left.Left.{Left, TheVariants.{Vacant, Corpse}}
 
 -- the identity with what is accounted for of it: a death is noted before the next agent begins
 abbrev pub token_in : Left → Token

@@ -1,28 +1,17 @@
 -- what clients on threads leave of a trace
 use Rattle.std.specs.Prelude.{◌≡◌, ℕ, ◌==◌, ◌<◌, Bool, false, if◌then◌else◌, Option, Some, None, List, [], ◌∷◌, ◌++◌, length, slice_index_or}
-use Rattle.std.specs.FinMap as finmap
 use Rattle.std.specs.List.{AllByRecursion}
-use Rattle.shm_graph.specs.declared.memo.Agent.{Agent}
-use Rattle.shm_graph.specs.declared.run.Account.{Account}
-use Rattle.shm_graph.specs.declared.table.Entry.{Entry}
-use Rattle.shm_graph.specs.Runs.{account_at}
-use Rattle.shm_graph.specs.Spots.{see}
-use Rattle.shm_graph.specs.Tables.{IsTable, map_of}
+use Rattle.std.specs.FinMap as finmap
+use Rattle.shm_graph.specs.{declared.{memo.Agent.Agent, run.Account.Account, table.Entry.Entry}, Runs.account_at}
+use Rattle.shm_graph.specs.{Spots.see, Tables.{IsTable, map_of}}
 use Rattle.shm_count.specs.Roots.{member}
-use Rattle.shm_plain.specs.Closings.{IsClosedRun}
-use Rattle.shm_plain.specs.Pools.{Pool}
+use Rattle.shm_plain.specs.{Closings.IsClosedRun, Pools.Pool}
 use Rattle.shm_pool.specs.Tokens.{End, Its, Token}
 use Rattle.shm_pool.specs.Tokens as shared
-use Rattle.shm_script.specs.Logged.{Logged}
-use Rattle.shm_script.specs.declared.log.Entry.{Entry as LogEntry}
-use Rattle.shm_script.specs.Values.{Scripted, Traced}
-use Rattle.shm_agents.specs.Courses.{AreCommandsTold, AreScriptAgents}
-use Rattle.shm_agents.specs.Turns.{script_in}
-use Rattle.shm_agents.specs.Logs.{AreLogs, AreUnspent}
+use Rattle.shm_script.specs.{Logged.Logged, declared.log.Entry.Entry as LogEntry, Values.{Scripted, Traced}}
+use Rattle.shm_agents.specs.{Courses.{AreCommandsTold, AreScriptAgents}, Turns.script_in, Logs.{AreLogs, AreUnspent}}
 use Rattle.shm_replay.specs.Replays.{fold_in, start_of}
-use Rattle.shm_team.specs.declared.done.Done.{Done}
-use Rattle.shm_team.specs.Dones.{logs_done, logs_in}
-use Rattle.shm_team.specs.Lefts.{account_in, is_corpse}
+use Rattle.shm_team.specs.{declared.done.Done.Done, Dones.{logs_done, logs_in}, Lefts.{account_in, is_corpse}}
 use Rattle.shm_team.specs.Visits.{AreClosers, IsVisited}
 
 -- the agents of an identity's script with what each of them began, as `dead` tells of the last one; none where it has no script

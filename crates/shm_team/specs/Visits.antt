@@ -1,25 +1,15 @@
 -- the visit of an identity in a closing
-use Rattle.std.specs.Prelude.{◌≡◌, ℕ, Bool, true, false, Option, List, [], ◌∷◌, ◌++◌}
-use Rattle.std.specs.List.{AllByRecursion}
-use Rattle.shm_graph.specs.declared.memo.Agent.{Agent}
-use Rattle.shm_graph.specs.declared.memo.Fate.{Fate}
-use Rattle.shm_graph.specs.declared.memo.Fate.TheVariants.{Ended}
-use Rattle.shm_graph.specs.declared.memo.Kind.{Kind}
-use Rattle.shm_graph.specs.declared.memo.Kind.TheVariants.{Client, Recoverer}
-use Rattle.shm_graph.specs.declared.memo.Status.TheVariants.{Gone}
-use Rattle.shm_graph.specs.declared.run.Account.{Account}
-use Rattle.shm_graph.specs.declared.run.LoggedLine.{LoggedLine}
-use Rattle.shm_graph.specs.Runs.{told_left}
+use Rattle.std.specs.{Prelude.{◌≡◌, ℕ, Bool, true, false, Option, List, [], ◌∷◌, ◌++◌}, List.AllByRecursion}
+use Rattle.shm_graph.specs.declared.memo.{Agent.Agent, Fate.{Fate, TheVariants.Ended}, Kind.Kind}
+use Rattle.shm_graph.specs.declared.memo.{Kind.TheVariants.{Client, Recoverer}, Status.TheVariants.Gone}
+use Rattle.shm_graph.specs.{declared.run.{Account.Account, LoggedLine.LoggedLine}, Runs.told_left}
 use Rattle.shm_queue.specs.Drain.Control.{drain_line}
-use Rattle.shm_recover.specs.Join.{join_line}
-use Rattle.shm_recover.specs.Leave.Control.{leave_line}
-use Rattle.shm_recover.specs.Recover.Control.{recover_line}
+use Rattle.shm_recover.specs.{Join.join_line, Leave.Control.leave_line, Recover.Control.recover_line}
 use Rattle.shm_pool.specs.Tokens.{Its, Token}
 use Rattle.shm_agents.specs.Courses.{IsAside}
 use Rattle.shm_replay.specs.Closings.{SameTable}
 use Rattle.shm_script.specs.Logged.{Logged}
-use Rattle.shm_team.specs.declared.done.Done.{Done}
-use Rattle.shm_team.specs.Lefts.{account_in, is_corpse}
+use Rattle.shm_team.specs.{declared.done.Done.Done, Lefts.{account_in, is_corpse}}
 
 -- each of these lines is a join's, a drain's, a leaving's or a recovery's
 abbrev pub AreAside : List LoggedLine → Type 0

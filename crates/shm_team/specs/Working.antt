@@ -1,8 +1,7 @@
 -- the agents of a script that work at a post
 use Rattle.std.specs.Prelude.{◌≡◌}
 use Rattle.shm_agents.specs.Agents.{Playing, Stands}
-use Rattle.shm_pool.specs.Posts.{IsPosted}
-use Rattle.shm_pool.specs.Tokens.{Token}
+use Rattle.shm_pool.specs.{Posts.IsPosted, Tokens.Token}
 use Rattle.shm_script.specs.Values.{Scripted}
 
 -- they began as x with the token t, and stand as y at the post u

@@ -1,21 +1,14 @@
 //! The closing of a pool that threads shared: each identity is visited, one alone.
 
-ghost use Rattle.std.specs.Prelude.{◌≡◌, ◌++◌, ◌∷◌, [], ℕ, List, IfOk, false, true};
-ghost use Rattle.std.specs.List.{AllByRecursion};
+ghost use Rattle.std.specs.{Prelude.{◌≡◌, ◌++◌, ◌∷◌, [], ℕ, List, IfOk, false, true}, List.AllByRecursion};
 ghost use Rattle.shm_graph.specs.declared.memo.Fate.TheVariants.{Acts, Ended};
 ghost use Rattle.shm_graph.specs.declared.memo.Kind.TheVariants.{Client as AClient, Recoverer as ARecoverer};
-ghost use Rattle.shm_graph.specs.declared.memo.Status.TheVariants.{Gone};
-ghost use Rattle.shm_graph.specs.declared.run.Account.{Account as AnAccount};
-ghost use Rattle.shm_graph.specs.Agents.{acts};
-ghost use Rattle.shm_graph.specs.Runs.{account_died};
+ghost use Rattle.shm_graph.specs.declared.{memo.Status.TheVariants.Gone, run.Account.Account as AnAccount};
+ghost use Rattle.shm_graph.specs.{Agents.acts, Runs.account_died};
 ghost use Rattle.shm_queue.specs.Drain.Control.{drain_line};
-ghost use Rattle.shm_recover.specs.Join.{join_line};
-ghost use Rattle.shm_recover.specs.Leave.Control.{leave_line};
-ghost use Rattle.shm_recover.specs.Recover.Control.{recover_line};
-ghost use Rattle.shm_pool.specs.Calls.{IsBetween};
-ghost use Rattle.shm_pool.specs.Endings.{ClientMayLeave};
-ghost use Rattle.shm_team.specs.declared.done.Done.{Done as ADone};
-ghost use Rattle.shm_team.specs.Lefts.{IsGivenBack, account_in, is_corpse};
+ghost use Rattle.shm_recover.specs.{Join.join_line, Leave.Control.leave_line, Recover.Control.recover_line};
+ghost use Rattle.shm_pool.specs.{Calls.IsBetween, Endings.ClientMayLeave};
+ghost use Rattle.shm_team.specs.{declared.done.Done.Done as ADone, Lefts.{IsGivenBack, account_in, is_corpse}};
 ghost use Rattle.shm_team.specs.Visits.{AreVisits, HasRun, IsVisited};
 
 use crate::done::Done;

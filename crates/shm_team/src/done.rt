@@ -4,11 +4,12 @@ ghost use Rattle.std.specs.Prelude.{◌≡◌, ◌≢◌};
 ghost use Rattle.shm_agents.specs.Agents.{Stands};
 ghost use Rattle.shm_pool.specs.Posts.{IsPosted};
 ghost use Rattle.shm_script.specs.Values.{Scripted as AScript};
-ghost use Rattle.shm_team.specs.Dones.{IsFinished};
-ghost use Rattle.shm_team.specs.Lefts.{account_in};
+ghost use Rattle.shm_team.specs.{Dones.IsFinished, Lefts.account_in};
 
 use crate::left::Left;
-use shm_agents::agents::{Agents, Standing};
+use shm_agents::agents::Standing;
+use shm_play::play::Play;
+use shm_play::players::Players;
 use shm_pool::Post;
 use shm_script::Log;
 
@@ -27,7 +28,7 @@ pub struct Finish {
 }
 
 /// The log and the token, where none of the agents of a script has anything left to do.
-pub fn hand_back(agents: Agents, post: Post<'_>) -> Finish
+pub fn hand_back<A: Play>(agents: Players<A>, post: Post<'_>) -> Finish
     requires posted { IsPosted post agents.me.who }
     requires stands { (s : AScript) × Stands post.of.start s agents post.account }
     requires rests { agents.standing ≢ Standing.AtWork }

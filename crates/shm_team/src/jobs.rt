@@ -1,13 +1,13 @@
 //! What there is to do of a trace, by identity.
 
-ghost use Rattle.std.specs.Prelude.{◌≡◌, ◌<◌, IfOk, length};
-ghost use Rattle.std.specs.List.{AllByRecursion};
+ghost use Rattle.std.specs.{Prelude.{◌≡◌, ◌<◌, IfOk, length}, List.AllByRecursion};
 ghost use Rattle.shm_words.specs.Layout.{GeometryFits};
 ghost use Rattle.shm_pool.specs.Tokens.{Its as APool, Token as AToken, first_tokens};
 ghost use Rattle.shm_replay.specs.Replays.{start_of};
 ghost use Rattle.shm_team.specs.Jobs.{AreJobs};
 
-use shm_agents::agents::Agents;
+use shm_play::play::Play;
+use shm_play::players::Players;
 use shm_pool::{SharedPool, Vacant};
 use shm_replay::replaying::{agents_of, geometry_of};
 use shm_script::Trace;
@@ -16,18 +16,18 @@ use std::alloc::{AllocError, Global};
 
 /// The agents of an identity before their first word step, if it has a script; and its token.
 #[derive(Drop)]
-pub struct Job {
-    pub agents: Option<Agents>,
+pub struct Job<A: Play> {
+    pub agents: Option<Players<A>>,
     pub token: Vacant,
 }
 
 /// For each identity the agents of its script, if it has one, and its token.
-fn all_jobs(
+fn all_jobs<A: Play>(
     alloc: Global,
     geometry: Geometry,
     trace: &Trace,
     tokens: Vec<Vacant>,
-) -> Result<Vec<Job>, AllocError>
+) -> Result<Vec<Job<A>>, AllocError>
     requires geometry { geometry ≡ (start_of trace.now).geometry }
     requires fits { GeometryFits geometry }
     requires who { AllByRecursion (λ (k : AToken). k.account.who < trace.now.clients) tokens.items }
@@ -47,7 +47,7 @@ fn all_jobs(
 /// # Errors
 ///
 /// Want of memory, and nothing else.
-pub fn begin(alloc: Global, trace: &Trace) -> Result<(SharedPool, Vec<Job>), AllocError>
+pub fn begin<A: Play>(alloc: Global, trace: &Trace) -> Result<(SharedPool, Vec<Job<A>>), AllocError>
     ensures start { IfOk result (λ r. r.0.start ≡ start_of trace.now) }
     ensures many { IfOk result (λ r. length r.1.items ≡ trace.now.clients) }
     ensures jobs { IfOk result (λ r. AreJobs trace.now r.0 0 r.1.items) }

@@ -1,9 +1,7 @@
 //! A pool whose identities are done is closed, and their logs are put in the order of the scripts.
 
 ghost use Rattle.std.specs.Prelude.{◌≡◌, ◌<◌, ◌++◌, IfOk, None, [], length, slice_index_or, slice_set};
-ghost use Rattle.shm_team.specs.Dones.{AreGivenBack, log_of, logs_in};
-ghost use Rattle.shm_team.specs.Jobs.{AreTokens};
-ghost use Rattle.shm_team.specs.Rans.{HasSettled, IsClosedBy};
+ghost use Rattle.shm_team.specs.{Dones.{AreGivenBack, log_of, logs_in}, Jobs.AreTokens, Rans.{HasSettled, IsClosedBy}};
 
 use crate::closing::visit_all;
 use crate::done::Done;

@@ -9,9 +9,12 @@ use crate::gate::Gate;
 use crate::jobs::begin;
 use crate::settling::settle;
 use crate::worker::work_all;
+use shm_play::cast::Cast;
+use shm_play::play::Play;
 use shm_pool::Closed;
 use shm_script::{Log, Trace};
 use std::alloc::{AllocError, Global};
+use std::marker::Send;
 use std::sync::Wait;
 use std::thread::Threads;
 
@@ -20,6 +23,21 @@ use std::thread::Threads;
 pub struct Ran {
     pub closed: Closed,
     pub logs: Vec<Log>,
+}
+
+/// Runs a trace by clients on threads, whoever plays its scripts.
+fn run_team_of<A: Play + Send, R: Threads + Wait + Sync, G: Gate>(
+    rt: &R,
+    alloc: Global,
+    trace: &Trace,
+    gate: &G,
+) -> Result<Ran, AllocError>
+    ensures { IfOk result (λ r. (turns : List AMove) × IsTeamRun trace.now (pool_of r.closed.start r.closed.words r.closed.accounts turns) r.logs.items) }
+{
+    trace.in_grammar();
+    let (pool, jobs) = begin::<A>(alloc, trace)?;
+    let dones = work_all(rt, &pool, trace, gate, jobs)?;
+    settle(rt, alloc, trace, pool, dones)
 }
 
 /// Runs a trace by clients on threads. For each script one worker runs the agents of its identity, in a thread of its own where one can be
@@ -41,8 +59,5 @@ pub fn run_team<R: Threads + Wait + Sync, G: Gate>(
 ) -> Result<Ran, AllocError>
     ensures { IfOk result (λ r. (turns : List AMove) × IsTeamRun trace.now (pool_of r.closed.start r.closed.words r.closed.accounts turns) r.logs.items) }
 {
-    trace.in_grammar();
-    let (pool, jobs) = begin(alloc, trace)?;
-    let dones = work_all(rt, &pool, trace, gate, jobs)?;
-    settle(rt, alloc, trace, pool, dones)
+    run_team_of::<Cast, R, G>(rt, alloc, trace, gate)
 }

@@ -3,27 +3,28 @@
 ghost use Rattle.std.specs.Prelude.{◌≡◌, ◌<◌, ℕ, IfOk, length, slice_index_or};
 ghost use Rattle.shm_graph.specs.Runs.{first_account};
 ghost use Rattle.shm_agents.specs.Agents.{Stands};
-ghost use Rattle.shm_team.specs.declared.jobs.Job.{Job as AJob};
-ghost use Rattle.shm_team.specs.Dones.{IsDone, IsFinished};
-ghost use Rattle.shm_team.specs.Jobs.{AreDone, IsJob};
+ghost use Rattle.shm_team.specs.{declared.jobs.Job.Job as AJob, Dones.{IsDone, IsFinished}, Jobs.{AreDone, IsJob}};
 
 use crate::done::{Done, Finish, hand_back};
 use crate::gate::Gate;
 use crate::jobs::Job;
 use crate::left::Left;
-use shm_agents::agents::{Agents, Standing};
+use shm_agents::agents::Standing;
+use shm_play::play::Play;
+use shm_play::players::Players;
 use shm_pool::{Post, SharedPool, Vacant};
 use shm_script::{Script, Trace};
 use std::alloc::AllocError;
+use std::marker::Send;
 use std::thread;
 use std::thread::Threads;
 
 /// The agents of a script work on the pool until none of them has anything left to do. The gate is passed before each command.
-fn work<G: Gate>(
+fn work<A: Play, G: Gate>(
     pool: &SharedPool,
     script: &Script,
     gate: &G,
-    mut agents: Agents,
+    mut agents: Players<A>,
     token: Vacant,
 ) -> Finish
     requires of { token.of ≡ pool.now }
@@ -45,7 +46,7 @@ fn work<G: Gate>(
 }
 
 /// One worker. Where the identity has no script it gives the token back as it is.
-fn work_at<G: Gate>(pool: &SharedPool, trace: &Trace, gate: &G, job: Job) -> Done
+fn work_at<A: Play, G: Gate>(pool: &SharedPool, trace: &Trace, gate: &G, job: Job<A>) -> Done
     requires { IsJob trace.now pool.now job.token.account.who job }
     ensures { IsDone trace.now pool.now job.token.account.who result }
 {
@@ -67,20 +68,20 @@ fn work_at<G: Gate>(pool: &SharedPool, trace: &Trace, gate: &G, job: Job) -> Don
 }
 
 /// A worker for each job, each in a thread of its own where one can be made. Where none can, the caller does that work itself.
-pub(crate) fn work_all<R: Threads + Sync, G: Gate>(
+pub(crate) fn work_all<A: Play + Send, R: Threads + Sync, G: Gate>(
     rt: &R,
     pool: &SharedPool,
     trace: &Trace,
     gate: &G,
-    jobs: Vec<Job>,
+    jobs: Vec<Job<A>>,
 ) -> Result<Vec<Done>, AllocError>
-    requires { (i : ℕ) (j : AJob) → i < length jobs.items → let x : AJob = slice_index_or jobs.items i j in IsJob trace.now pool.now x.token.account.who x }
+    requires { (i : ℕ) (j : AJob A) → i < length jobs.items → let x : AJob A = slice_index_or jobs.items i j in IsJob trace.now pool.now x.token.account.who x }
     ensures { IfOk result (λ v. AreDone trace.now pool.now jobs.items v.items) }
 {
     thread::map_vec(
         rt,
         jobs,
-        &|job: Job| -> Done
+        &|job: Job<A>| -> Done
             requires { IsJob trace.now pool.now job.token.account.who job }
             ensures { IsDone trace.entry.now pool.entry.now job.token.account.who result }
         { work_at(pool, trace, gate, job) },

@@ -1,30 +1,20 @@
 -- The spelling of a script is read as that script again.
 use Rattle.std.proofs.Common.{◌≡◌, ℕ, ◌+◌, ◌^◌, ◌<◌, ◌≤◌, true, cond, List, [], ◌∷◌, ◌++◌, length, Option, Some, None, Ok, Err, IfSome, codes, refl, sym, ap, subst, ◌∙◌, arith, append_assoc, rules, ◌⊎◌, inl, inr}
-use Rattle.std.specs.Prelude.{◌==◌}
-use Rattle.std.specs.Fmt.{decimal}
-use Rattle.std.specs.List.{AllByRecursion, flat_map, slice_split}
-use Rattle.std.proofs.lemmas.List.{append-nil}
-use Rattle.std.proofs.lemmas.List.Concat.{flat_map-cons}
-use Rattle.std.proofs.lemmas.List.Splits.{slice_split_at}
-use Rattle.shm_script.specs.declared.fault.TraceKind.TheVariants.{Syntax}
-use Rattle.shm_script.specs.Shapes.{given, three_of}
+use Rattle.std.proofs.lemmas.List.{append-nil, Concat.flat_map-cons, Splits.slice_split_at}
+use Rattle.std.specs.{Prelude.◌==◌, Fmt.decimal, List.{AllByRecursion, flat_map, slice_split}}
+use Rattle.shm_script.specs.{declared.fault.TraceKind.TheVariants.Syntax, Shapes.{given, three_of}}
 use Rattle.shm_script.specs.Text.{ended, spaced}
 use Rattle.shm_script.proofs.Again.{Free, below_if, between_if, free_both, free_cons, free_decimal, free_nil, literal, low, one_again, split_words, two_again}
-use Rattle.shm_script.proofs.LineTexts.{blanks}
-use Rattle.shm_script.proofs.NumberTexts.{number_again}
-use Rattle.shm_tree.specs.declared.line.TreeLine.{TreeLine}
-use Rattle.shm_tree.specs.declared.line.TreeLine.TheVariants as lines
-use Rattle.shm_tree.specs.declared.shape.RawTree.{RawTree}
-use Rattle.shm_tree.specs.declared.shape.RawTree.TheVariants as raw
-use Rattle.shm_tree.specs.declared.judge.TreePlace.{TreePlace}
-use Rattle.shm_tree.specs.declared.judge.TreePlace.TheVariants as place
-use Rattle.shm_tree.specs.declared.judge.FitTree.{FitTree}
-use Rattle.shm_tree.specs.declared.judge.FitTree.TheVariants as fit
-use Rattle.shm_tree.specs.Shapes.{heading_of, set_of, shape_by, shape_from, shape_of}
+use Rattle.shm_script.proofs.{LineTexts.blanks, NumberTexts.number_again}
+use Rattle.shm_tree.specs.declared.{line.TreeLine.TreeLine, shape.RawTree.RawTree, judge.TreePlace.TreePlace}
+use Rattle.shm_tree.specs.{declared.judge.FitTree.FitTree, Shapes.{heading_of, set_of, shape_by, shape_from, shape_of}}
 use Rattle.shm_tree.specs.Scripts.{Drafted, Scripted, draft_after, draft_none, drafted, drafted_line, fit_of, judged, may_stand, ranged, read_or, reading, script_of}
 use Rattle.shm_tree.specs.ScriptTexts.{IsScript, LineFits, life_spelled, line_ended, text_of}
-use Rattle.shm_tree.proofs.LineTexts.{FitIn, fit_text, stands}
-use Rattle.shm_tree.proofs.ReadLoop.{reading_end, reading_more, short_script}
+use Rattle.shm_tree.specs.declared.line.TreeLine.TheVariants as lines
+use Rattle.shm_tree.specs.declared.shape.RawTree.TheVariants as raw
+use Rattle.shm_tree.specs.declared.judge.TreePlace.TheVariants as place
+use Rattle.shm_tree.specs.declared.judge.FitTree.TheVariants as fit
+use Rattle.shm_tree.proofs.{LineTexts.{FitIn, fit_text, stands}, ReadLoop.{reading_end, reading_more, short_script}}
 
 -- ---- one line
 

@@ -1,32 +1,19 @@
 -- A client that is at work after a call as it was before, and one whose call was cut off.
 use Rattle.std.proofs.Common.{◌≡◌, ℕ, zero, suc, ◌+◌, ◌<◌, ◌≤◌, Bool, true, false, List, [], ◌∷◌, ◌++◌, length, refl, sym, ap, ◌∙◌, subst, arith, inl, inr, ◌⊎◌, true≢false}
-use Rattle.std.specs.Prelude.{slice_index}
-use Rattle.std.specs.List.{AllByRecursion}
 use Rattle.std.proofs.lemmas.List.Elements.{All-contains}
+use Rattle.std.specs.{Prelude.slice_index, List.AllByRecursion}
 use Rattle.shm_words.specs.declared.geometry.Geometry.{Geometry}
-use Rattle.shm_graph.specs.declared.memo.Memo.{Memo}
-use Rattle.shm_graph.specs.declared.run.Move.{Move}
-use Rattle.shm_graph.specs.declared.run.Move.TheVariants.{Begins, Dies, Word}
-use Rattle.shm_graph.specs.declared.run.Start.{Start}
-use Rattle.shm_graph.specs.declared.spot.Spot.TheVariants.{Body, Era, Home, Tag}
-use Rattle.shm_graph.specs.Agents.{acts, recovers, steps_made}
-use Rattle.shm_graph.specs.Changes.{asked_spot, memo_after}
-use Rattle.shm_graph.specs.Events.{Event}
-use Rattle.shm_graph.specs.Held.{is_loose}
-use Rattle.shm_graph.specs.Runs.{Leads, State, memos_of, moved}
-use Rattle.shm_graph.specs.Spots.{see}
-use Rattle.shm_graph.specs.Views.{own_word, view}
-use Rattle.shm_graph.proofs.Memos.KnownChange.{KnownHolds}
-use Rattle.shm_graph.proofs.Memos.MemoSteps.{steps_on}
-use Rattle.shm_graph.proofs.Runs.CallEventsOf.{memo_here}
+use Rattle.shm_graph.specs.declared.{memo.Memo.Memo, run.{Move.{Move, TheVariants.{Begins, Dies, Word}}, Start.Start}}
+use Rattle.shm_graph.specs.{declared.spot.Spot.TheVariants.{Body, Era, Home, Tag}, Agents.{acts, recovers, steps_made}}
+use Rattle.shm_graph.specs.{Changes.{asked_spot, memo_after}, Events.Event, Held.is_loose}
+use Rattle.shm_graph.specs.{Runs.{Leads, State, memos_of, moved}, Spots.see, Views.{own_word, view}}
+use Rattle.shm_graph.proofs.{Memos.{KnownChange.KnownHolds, MemoSteps.steps_on}, Runs.CallEventsOf.memo_here}
 use Rattle.shm_graph.proofs.Runs.EraRises.{run_rises}
-use Rattle.shm_plain.specs.Calls.{AreOf, Did, IsAtWork, Ran, state_of}
-use Rattle.shm_plain.specs.Pools.{IsRun, Pool, memo_of, pool}
+use Rattle.shm_plain.specs.{Calls.{AreOf, Did, IsAtWork, Ran, state_of}, Pools.{IsRun, Pool, memo_of, pool}}
 use Rattle.shm_plain.proofs.Calling.{ready_still}
 use Rattle.shm_count.specs.Tear.Memos.{Knows}
 use Rattle.shm_count.proofs.RootSpots.{roots_reached}
-use Rattle.shm_tree.specs.Falling.{AreFalling, KeepsFalling}
-use Rattle.shm_tree.specs.Keeping.{IsStill}
+use Rattle.shm_tree.specs.{Falling.{AreFalling, KeepsFalling}, Keeping.IsStill}
 use Rattle.shm_tree.specs.Working.{AreSameRoots, IsSpent, IsWorking, Went}
 use Rattle.shm_tree.proofs.Frames.{Untouched}
 use Rattle.shm_tree.proofs.Nodes.{IsCalm, as_started, calm_first, calm_held, home_kept, still_kept, working_calm}

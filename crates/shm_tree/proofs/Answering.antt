@@ -1,45 +1,28 @@
 -- What a plan leaves that was run for the one client and answered, and what a call leaves that comes after another.
 use Rattle.std.proofs.Common.{◌≡◌, ◌≢◌, ℕ, true, List, [], ◌++◌, refl, sym, ◌∙◌, subst, inl, inr}
 use Rattle.std.specs.Prelude.{IfOk, Ok, Err, Result, Some}
-use Rattle.shm_graph.specs.declared.ask.Me.{Me}
-use Rattle.shm_graph.specs.declared.memo.Memo.{Memo}
-use Rattle.shm_graph.specs.declared.run.Start.{Start}
-use Rattle.shm_graph.specs.declared.spot.Spot.TheVariants.{Body}
-use Rattle.shm_graph.specs.Asks.{Trail}
-use Rattle.shm_graph.specs.Events.{Event}
-use Rattle.shm_graph.specs.Laws.{Control}
-use Rattle.shm_calls.specs.CallsControl.{calls_of}
-use Rattle.shm_calls.specs.Plans.{Planned}
-use Rattle.shm_plain.specs.Calls.{Did, IsAtWork, Ran}
-use Rattle.shm_plain.specs.Pools.{IsRun, Pool, memo_of}
+use Rattle.shm_graph.specs.declared.{ask.Me.Me, memo.Memo.Memo, run.Start.Start, spot.Spot.TheVariants.Body}
+use Rattle.shm_graph.specs.{Asks.Trail, Events.Event, Laws.Control}
+use Rattle.shm_calls.specs.{CallsControl.calls_of, Plans.Planned}
+use Rattle.shm_plain.specs.{Calls.{Did, IsAtWork, Ran}, Pools.{IsRun, Pool, memo_of}}
 use Rattle.shm_plain.proofs.OwnTurns.{did_none}
-use Rattle.shm_alloc.specs.declared.alloc.AllocFault.{AllocFault}
+use Rattle.shm_alloc.specs.{declared.alloc.AllocFault.AllocFault, Alloc.AllocGives}
 use Rattle.shm_alloc.specs.declared.alloc.AllocFault.TheVariants as alloc
-use Rattle.shm_alloc.specs.Alloc.{AllocGives}
-use Rattle.shm_count.specs.declared.answer.EraSpent.{EraSpent}
-use Rattle.shm_count.specs.declared.answer.ShareFault.{ShareFault}
-use Rattle.shm_count.specs.declared.answer.ShareFault.TheVariants as share
-use Rattle.shm_count.specs.Roots.{member}
+use Rattle.shm_count.specs.{declared.answer.{EraSpent.EraSpent, ShareFault.ShareFault}, Roots.member}
 use Rattle.shm_count.specs.UpRoot.{UpRootLeaves}
-use Rattle.shm_ref.specs.declared.answer.SetFault.{SetFault}
+use Rattle.shm_count.specs.declared.answer.ShareFault.TheVariants as share
+use Rattle.shm_ref.specs.{declared.answer.SetFault.SetFault, DropRoot.{Control.dropping, DropLeaves}}
+use Rattle.shm_ref.specs.SetRef.{Control.setting, SetLeaves}
 use Rattle.shm_ref.specs.declared.answer.SetFault.TheVariants as set
-use Rattle.shm_ref.specs.DropRoot.Control.{dropping}
-use Rattle.shm_ref.specs.DropRoot.{DropLeaves}
-use Rattle.shm_ref.specs.SetRef.Control.{setting}
-use Rattle.shm_ref.specs.SetRef.{SetLeaves}
 use Rattle.plain_calls.specs.Allocating.{IsAsked}
 use Rattle.plain_calls.proofs.Running.{MachineLeft, PlanLeft, plan_done}
-use Rattle.shm_tree.specs.declared.node.Side.{Side}
-use Rattle.shm_tree.specs.declared.node.Side.TheVariants.{Left, Right}
-use Rattle.shm_tree.specs.declared.stop.Stop.{Stop}
-use Rattle.shm_tree.specs.declared.stop.Stop.TheVariants as stop
+use Rattle.shm_tree.specs.declared.{node.Side.{Side, TheVariants.{Left, Right}}, stop.Stop.Stop}
 use Rattle.shm_tree.specs.Causes.{AllocRefused, DropRefused, SetRefused, ShareRefused, StopCause, Within}
-use Rattle.shm_tree.specs.Keeping.{HasNode, HasTree, IsStill, child_of}
-use Rattle.shm_tree.specs.Standing.{Stands, word_of}
+use Rattle.shm_tree.specs.{Keeping.{HasNode, HasTree, IsStill, child_of}, Standing.{Stands, word_of}}
 use Rattle.shm_tree.specs.Trees.{Tree, Empty, Node, height}
 use Rattle.shm_tree.specs.Working.{HasRoom, IfAlive, IfRefused, IsEmptied, IsReached, IsWorking, Reaches}
-use Rattle.shm_tree.proofs.Alive.{IsOn, on_answer}
-use Rattle.shm_tree.proofs.Turns.{did_then}
+use Rattle.shm_tree.specs.declared.stop.Stop.TheVariants as stop
+use Rattle.shm_tree.proofs.{Alive.{IsOn, on_answer}, Turns.did_then}
 
 -- ---- one call
 
@@ -53,7 +36,7 @@ answered_at {P} {C} {B} {A} q s p r x y a b e h ran at left =
     subst Q e (left.0, on_answer true p r x y left.0 h ran at left.1, left.2)
 
 -- by the plan as it was made, for the client's identity
-pub plan_answered : {P C B A : Type 0} (k : Control C B) (q : Planned P C B A) (plan : Me → P) (p r : Pool) {x y : ℕ} {z : Me} {e : P} (a : A) {b : A} → z ≡ member p.start.geometry 0 → e ≡ plan z → a ≡ b → IsWorking p → Ran 0 true true p r x y → IsAtWork 0 r → MachineLeft k q (calls_of q e) 0 p r (Some a)
+pub plan_answered : {P C B A : Type 0} (k : Control C B) (q : Planned P C B A) (plan : Me → P) (p r : Pool) {x y : ℕ} {z : Me} {e : P} (a : A) {b : A} → z ≡ member p.start.geometry 0 → e ≡ plan z → a ≡ b → IsWorking p → Ran 0 true true p r x y → IsAtWork 0 r → MachineLeft k q (calls_of q.steered e) 0 p r (Some a)
     → Answered q (plan (member p.start.geometry 0)) p r b
 plan_answered k q plan p r a is planned same wp ran at left =
     let me = member p.start.geometry 0 in

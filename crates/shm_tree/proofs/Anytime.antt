@@ -1,29 +1,16 @@
 -- What a machine may do to the graph of references at any moment, by its control alone: also where it is cut off.
 use Rattle.std.proofs.Common.{◌==◌, ℕ, zero, suc, ◌<◌, Bool, true, false, cond, List, [], ◌∷◌, arith}
 use Rattle.std.specs.List.{AllByRecursion, filter}
-use Rattle.shm_graph.specs.declared.ask.Me.{Me}
-use Rattle.shm_graph.specs.declared.spot.Spot.{Spot}
-use Rattle.shm_graph.specs.declared.spot.Spot.TheVariants.{Body}
-use Rattle.shm_graph.specs.Asks.{Trail}
-use Rattle.shm_graph.specs.Events.{Event, Nothing}
-use Rattle.shm_graph.specs.Laws.{Control}
-use Rattle.shm_graph.specs.Tells.{happens_along, is_event, tells_along}
-use Rattle.shm_plain.specs.Calls.{Did, Ran}
-use Rattle.shm_plain.specs.Pools.{Pool, memo_of}
-use Rattle.shm_count.specs.declared.point.Aim.{Aim}
-use Rattle.shm_count.specs.declared.point.Aim.TheVariants.{Up, Down, Change}
-use Rattle.shm_count.specs.declared.point.Half.{Half}
-use Rattle.shm_count.specs.declared.point.Half.TheVariants.{First, Second}
-use Rattle.shm_count.specs.declared.point.StepPoint.{StepPoint}
-use Rattle.shm_count.specs.declared.point.StepPoint.TheVariants.{Exchange}
-use Rattle.shm_count.specs.declared.tear_point.TearPoint.{TearPoint}
+use Rattle.shm_graph.specs.{declared.{ask.Me.Me, spot.Spot.{Spot, TheVariants.Body}}, Asks.Trail}
+use Rattle.shm_graph.specs.{Events.{Event, Nothing}, Laws.Control, Tells.{happens_along, is_event, tells_along}}
+use Rattle.shm_plain.specs.{Calls.{Did, Ran}, Pools.{Pool, memo_of}}
+use Rattle.shm_count.specs.declared.point.{Aim.{Aim, TheVariants.{Up, Down, Change}}, Half.Half}
+use Rattle.shm_count.specs.declared.point.{Half.TheVariants.{First, Second}, StepPoint.StepPoint}
+use Rattle.shm_count.specs.declared.{point.StepPoint.TheVariants.Exchange, tear_point.TearPoint.TearPoint}
+use Rattle.shm_count.specs.{Step.Events.{event_of_half, step_event_at}, Tear.Events.tear_event_at}
 use Rattle.shm_count.specs.declared.tear_point.TearPoint.TheVariants as tear
-use Rattle.shm_count.specs.Step.Events.{event_of_half, step_event_at}
-use Rattle.shm_count.specs.Tear.Events.{tear_event_at}
-use Rattle.shm_tree.specs.Falling.{AreFalling}
-use Rattle.shm_tree.specs.Working.{IsWorking}
-use Rattle.shm_tree.proofs.Alive.{quiet_did}
-use Rattle.shm_tree.proofs.Falls.{Keeps, Ups, falling_kept}
+use Rattle.shm_tree.specs.{Falling.AreFalling, Working.IsWorking}
+use Rattle.shm_tree.proofs.{Alive.quiet_did, Falls.{Keeps, Ups, falling_kept}}
 
 -- ---- machines
 

@@ -1,27 +1,16 @@
 -- A pool before the first call of its client, and once it has joined: no block is live, and no word names one.
 use Rattle.std.proofs.Common.{◌≡◌, ℕ, ◌+◌, false, [], refl, sym, ap, ◌∙◌, arith, inl, inr, true≢false}
 use Rattle.std.proofs.lemmas.Bool.{cases_eq}
-use Rattle.shm_words.specs.Headers.{header_of}
-use Rattle.shm_words.specs.Layout.{GeometryFits, place_at, total_of}
+use Rattle.shm_words.specs.{Headers.header_of, Layout.{GeometryFits, place_at, total_of}}
 use Rattle.shm_words.proofs.Words.{header_of_zero}
-use Rattle.shm_graph.specs.declared.run.Start.{Start}
-use Rattle.shm_graph.specs.declared.spot.Spot.{Spot}
-use Rattle.shm_graph.specs.declared.spot.Spot.TheVariants.{Body, Head, Home}
-use Rattle.shm_graph.specs.Blocks.{headers}
-use Rattle.shm_graph.specs.Runs.{EraFits, first_word, first_words}
-use Rattle.shm_graph.specs.Spots.{see}
-use Rattle.shm_graph.proofs.Spots.Starting.{IsFirst, see-first}
+use Rattle.shm_graph.specs.declared.{run.Start.Start, spot.Spot.{Spot, TheVariants.{Body, Head, Home}}}
+use Rattle.shm_graph.specs.{Blocks.headers, Runs.{EraFits, first_word, first_words}, Spots.see}
+use Rattle.shm_graph.proofs.{Spots.Starting.{IsFirst, see-first}, States.FirstHeld.at-words_from}
 use Rattle.shm_graph.proofs.Spots.Starting as starting
-use Rattle.shm_graph.proofs.States.FirstHeld.{at-words_from}
-use Rattle.shm_plain.specs.Calls.{Did}
-use Rattle.shm_plain.specs.Pools.{IsRun, Pool, first_pool}
+use Rattle.shm_plain.specs.{Calls.Did, Pools.{IsRun, Pool, first_pool}}
 use Rattle.shm_plain.proofs.Turning.{first_run}
-use Rattle.shm_tree.specs.Falling.{AreFalling}
-use Rattle.shm_tree.specs.Keeping.{is_live}
-use Rattle.shm_tree.proofs.Falls.{falling_kept}
-use Rattle.shm_tree.proofs.Frames.{Unmade, dead_kept}
-use Rattle.shm_tree.proofs.Nodes.{names}
-use Rattle.shm_tree.proofs.Turns.{did_keeps}
+use Rattle.shm_tree.specs.{Falling.AreFalling, Keeping.is_live}
+use Rattle.shm_tree.proofs.{Falls.falling_kept, Frames.{Unmade, dead_kept}, Nodes.names, Turns.did_keeps}
 
 module _ (s : Start) (fits : GeometryFits s.geometry) where
   first_seen : see s.geometry (first_words s) ≡ starting.first_words s.geometry s.first_era

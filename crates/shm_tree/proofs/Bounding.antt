@@ -1,18 +1,13 @@
 -- How many word steps lines take at most, by one number for a set or a removal and one for any other line.
 use Rattle.std.proofs.Common.{ℕ, ◌+◌, ◌*◌, ◌^◌, ◌<◌, ◌≤◌, Bool, true, false, List, arith, inl, inr}
-use Rattle.std.proofs.lemmas.Bool.{cases_lt}
-use Rattle.std.proofs.lemmas.Nat.{mul-le, pow_below}
+use Rattle.std.proofs.lemmas.{Bool.cases_lt, Nat.{mul-le, pow_below}}
 use Rattle.shm_words.specs.declared.geometry.Geometry.{Geometry}
 use Rattle.shm_graph.specs.Bounds.{redo_steps}
-use Rattle.shm_tree.specs.declared.line.TreeLine.{TreeLine}
-use Rattle.shm_tree.specs.declared.line.TreeLine.TheVariants as lines
-use Rattle.shm_tree.specs.declared.registers.Registers.{Registers}
-use Rattle.shm_tree.specs.Bounds.{drop_steps}
+use Rattle.shm_tree.specs.{declared.{line.TreeLine.TreeLine, registers.Registers.Registers}, Bounds.drop_steps}
 use Rattle.shm_tree.specs.Costing.{call_steps, changed_steps, copy_steps, del_steps, line_steps, other_steps, read_steps, set_steps, sweep_steps}
-use Rattle.shm_tree.specs.Forests.{HasVersions, IsForest, IsInRange, block_at, version}
-use Rattle.shm_tree.specs.Trees.{Tree, height, size}
-use Rattle.shm_tree.proofs.Fitting.{size_small}
-use Rattle.shm_tree.proofs.Low.{low}
+use Rattle.shm_tree.specs.{Forests.{HasVersions, IsForest, IsInRange, block_at, version}, Trees.{Tree, height, size}}
+use Rattle.shm_tree.specs.declared.line.TreeLine.TheVariants as lines
+use Rattle.shm_tree.proofs.{Fitting.size_small, Low.low}
 
 redo_few : (b : Bool) → redo_steps b ≤ 2
 redo_few true = omega arith

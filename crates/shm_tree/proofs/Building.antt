@@ -1,35 +1,23 @@
 -- How far a call came that builds a tree, and what it leaves.
 use Rattle.std.proofs.Common.{◌≡◌, ◌≢◌, ◌==◌, ℕ, zero, suc, Bool, true, false, ◌+◌, ◌<◌, ◌≤◌, [], lit≤, refl, sym, ap, ◌∙◌, subst, arith, Result, Ok, Err, inl, inr}
-use Rattle.std.specs.Prelude.{IfOk, IfSome, Option, None, Some}
-use Rattle.std.specs.Result.{IsErrAnd}
 use Rattle.std.proofs.lemmas.Bool.{cases_eq, ne_eqb}
+use Rattle.std.specs.{Prelude.{IfOk, IfSome, Option, None, Some}, Result.IsErrAnd}
 use Rattle.shm_words.specs.declared.geometry.Geometry.{Geometry}
 use Rattle.shm_graph.specs.References.{one_if, sum_below}
 use Rattle.shm_plain.specs.Pools.{IsRun, Pool}
 use Rattle.shm_plain.proofs.OwnTurns.{did_none}
 use Rattle.shm_count.specs.declared.answer.Made.{Made}
-use Rattle.shm_tree.specs.declared.node.Content.{Content}
-use Rattle.shm_tree.specs.declared.node.Pair.{Pair}
-use Rattle.shm_tree.specs.declared.node.Side.{Side}
-use Rattle.shm_tree.specs.declared.node.Side.TheVariants.{Left, Right}
-use Rattle.shm_tree.specs.declared.stop.Stop.{Stop}
-use Rattle.shm_tree.specs.declared.stop.Stop.TheVariants as stop
-use Rattle.shm_tree.specs.Bounds.{drop_steps}
+use Rattle.shm_tree.specs.declared.node.{Content.Content, Pair.Pair, Side.{Side, TheVariants.{Left, Right}}}
+use Rattle.shm_tree.specs.{declared.stop.Stop.Stop, Bounds.drop_steps}
 use Rattle.shm_tree.specs.Building.{Builds, IsAtHand, IsBuilt, IsCheap, IsCut, IsHeld, IsRebuilt, block_of, named_by, rooms}
-use Rattle.shm_tree.specs.Causes.{StopCause}
-use Rattle.shm_tree.specs.Changing.{Changes}
-use Rattle.shm_tree.specs.Falling.{KeepsFalling}
+use Rattle.shm_tree.specs.{Causes.StopCause, Changing.Changes, Falling.KeepsFalling}
 use Rattle.shm_tree.specs.Keeping.{HasGrown, HasMade, HasTree, IsBorn, IsDropped, IsLinked, IsStill, KeepsNodes, KeepsTrees}
-use Rattle.shm_tree.specs.Looking.{Looks}
-use Rattle.shm_tree.specs.Spending.{HasSpent}
-use Rattle.shm_tree.specs.Standing.{Stands}
-use Rattle.shm_tree.specs.Tearing.{HasTorn}
+use Rattle.shm_tree.specs.{Looking.Looks, Spending.HasSpent, Standing.Stands, Tearing.HasTorn}
 use Rattle.shm_tree.specs.Trees.{Tree, Empty, Node}
 use Rattle.shm_tree.specs.Working.{AreSameRoots, DiedIn, HasRoom, IfAlive, IfRefused, IsEmptied, IsReached, IsRooted, IsSameLatch, IsWorking, Reaches, Went}
-use Rattle.shm_tree.proofs.Answering.{alive_map, cause_after, refused_map}
-use Rattle.shm_tree.proofs.CutOffs.{died_then, look_died, look_then}
-use Rattle.shm_tree.proofs.Links.{went_then}
-use Rattle.shm_tree.proofs.Nodes.{keeps_then, made_then}
+use Rattle.shm_tree.specs.declared.stop.Stop.TheVariants as stop
+use Rattle.shm_tree.proofs.{Answering.{alive_map, cause_after, refused_map}, CutOffs.{died_then, look_died, look_then}}
+use Rattle.shm_tree.proofs.{Links.went_then, Nodes.{keeps_then, made_then}}
 use Rattle.shm_tree.proofs.Spendings.{spent_call, spent_drop, spent_more, spent_then}
 use Rattle.shm_tree.proofs.Weights.{blocks_dropped, blocks_nodes, blocks_then, weight_none, weight_root}
 

@@ -3,15 +3,11 @@ use Rattle.std.proofs.Common.{◌≡◌, ℕ, ◌+◌, ◌≤◌, ◌∙◌, ref
 use Rattle.std.specs.Result.{IsErrAnd}
 use Rattle.shm_words.specs.declared.geometry.Geometry.{Geometry}
 use Rattle.shm_plain.specs.Pools.{Pool}
-use Rattle.shm_tree.specs.declared.stop.Stop.{Stop}
-use Rattle.shm_tree.specs.declared.stop.Stop.TheVariants as stop
-use Rattle.shm_tree.specs.Changing.{Changes}
-use Rattle.shm_tree.specs.Looking.{Looks}
+use Rattle.shm_tree.specs.{declared.stop.Stop.Stop, Changing.Changes, Looking.Looks}
 use Rattle.shm_tree.specs.Working.{IsSameLatch, IsWorking, Reaches, Went}
-use Rattle.shm_tree.proofs.Answering.{alive_map, cause_after, refused_map}
-use Rattle.shm_tree.proofs.Building.{Looked, went_on}
-use Rattle.shm_tree.proofs.Counts.{at_start}
-use Rattle.shm_tree.proofs.CutOffs.{died_then, look_died}
+use Rattle.shm_tree.specs.declared.stop.Stop.TheVariants as stop
+use Rattle.shm_tree.proofs.{Answering.{alive_map, cause_after, refused_map}, Building.{Looked, went_on}}
+use Rattle.shm_tree.proofs.{Counts.at_start, CutOffs.{died_then, look_died}}
 
 -- what such calls left, done, and how many word steps they took at most
 pub record Changed (c : ℕ) (p q : Pool) (x y : ℕ) : Type 0 where

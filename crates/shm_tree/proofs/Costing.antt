@@ -1,31 +1,19 @@
 -- What calls cost that come one after the other.
 use Rattle.std.proofs.Common.{◌≡◌, ◌≢◌, ℕ, ◌+◌, ◌*◌, ◌<◌, ◌≤◌, true, false, List, sym, ◌∙◌, subst, arith, inl, inr, true≢false, Result, Ok, Err}
-use Rattle.std.specs.Prelude.{IfOk, Option, None, Some}
 use Rattle.std.proofs.lemmas.Bool.{cases_Bool}
+use Rattle.std.specs.Prelude.{IfOk, Option, None, Some}
 use Rattle.shm_words.specs.declared.geometry.Geometry.{Geometry}
 use Rattle.shm_plain.specs.Pools.{Pool, memo_of}
 use Rattle.shm_count.specs.declared.answer.Made.{Made}
-use Rattle.shm_tree.specs.declared.remove.Removed.{Removed}
-use Rattle.shm_tree.specs.declared.stop.Stop.{Stop}
-use Rattle.shm_tree.specs.Bounds.{drop_steps, share_steps}
-use Rattle.shm_tree.specs.Building.{named_by}
-use Rattle.shm_tree.specs.declared.registers.Registers.{Registers}
-use Rattle.shm_tree.specs.Changing.{Changes}
+use Rattle.shm_tree.specs.declared.{remove.Removed.Removed, stop.Stop.Stop, registers.Registers.Registers}
+use Rattle.shm_tree.specs.{Bounds.{drop_steps, share_steps}, Building.named_by, Changing.Changes}
 use Rattle.shm_tree.specs.Costing.{Costs, MakesFew, copied_steps, copy_steps, read_steps, sweep_steps}
 use Rattle.shm_tree.specs.Forests.{HasVersions, IsForest, IsFree, KeepsRoots, KeepsVersions, block_in, root_at, version}
-use Rattle.shm_tree.specs.Keeping.{HasMade, IsDropped, IsShared, IsStill, is_live}
-use Rattle.shm_tree.specs.Living.{AreLivesTrees, KeepsLives}
-use Rattle.shm_tree.specs.Removing.{IsKept, IsRemoved}
-use Rattle.shm_tree.specs.Standing.{IsTree, Stands}
-use Rattle.shm_tree.specs.Tearing.{HasTorn}
-use Rattle.shm_tree.specs.Trees.{Tree, height}
-use Rattle.shm_tree.specs.Working.{IfAlive, IsSameLatch, IsSpent, IsWorking, Went}
-use Rattle.shm_tree.proofs.Building.{Looked, looked_none, made_more, went_on}
-use Rattle.shm_tree.proofs.Eras.{spent_stays}
-use Rattle.shm_tree.proofs.Fallings.{rests_shared}
-use Rattle.shm_tree.proofs.Forests.{Sweeping, sweeping_more, sweeping_none}
-use Rattle.shm_tree.proofs.Fresh.{made_few}
-use Rattle.shm_tree.proofs.Nodes.{made_then}
+use Rattle.shm_tree.specs.{Keeping.{HasMade, IsDropped, IsShared, IsStill, is_live}, Living.{AreLivesTrees, KeepsLives}}
+use Rattle.shm_tree.specs.{Removing.{IsKept, IsRemoved}, Standing.{IsTree, Stands}, Tearing.HasTorn}
+use Rattle.shm_tree.specs.{Trees.{Tree, height}, Working.{IfAlive, IsSameLatch, IsSpent, IsWorking, Went}}
+use Rattle.shm_tree.proofs.{Building.{Looked, looked_none, made_more, went_on}, Eras.spent_stays, Fallings.rests_shared}
+use Rattle.shm_tree.proofs.{Forests.{Sweeping, sweeping_more, sweeping_none}, Fresh.made_few, Nodes.made_then}
 use Rattle.shm_tree.proofs.Resting.{rests_dropped, rests_still, rests_then}
 use Rattle.shm_tree.proofs.Spendings.{spent_call, spent_drop, spent_more, spent_then}
 

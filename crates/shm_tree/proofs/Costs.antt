@@ -3,8 +3,7 @@ use Rattle.std.proofs.Common.{◌≡◌, ◌≢◌, ℕ, zero, suc, ◌+◌, ◌
 use Rattle.std.proofs.lemmas.Bool.{cases_eq, cases_lt, eq-eqb, le-ltb, lt-ltb, ne_eqb}
 use Rattle.shm_tree.specs.Trees.{Tree, Empty, Node, AreNear, IsBalanced, IsSearch, double_left, double_right, from_left, from_right, height, inserted, joined}
 use Rattle.shm_tree.specs.Ways.{IsEnd, IsOther, down, toward}
-use Rattle.shm_tree.proofs.Heights.{joined_height}
-use Rattle.shm_tree.proofs.Insertions.{inserts_well}
+use Rattle.shm_tree.proofs.{Heights.joined_height, Insertions.inserts_well}
 
 -- how many nodes are made for a node of two trees at most
 abbrev pub work : Tree → Tree → ℕ

@@ -1,14 +1,10 @@
 -- Where what found no word step is cut off: in the midst of a call, or between two of them.
 use Rattle.std.proofs.Common.{◌≡◌, ℕ, zero, suc, Bool, true, false, Err, inl, inr, refl, ap, ◌∙◌, arith}
-use Rattle.shm_plain.specs.Calls.{Ran}
-use Rattle.shm_plain.specs.Pools.{Pool, memo_of}
+use Rattle.shm_plain.specs.{Calls.Ran, Pools.{Pool, memo_of}}
 use Rattle.shm_count.specs.Roots.{root_word}
-use Rattle.shm_tree.specs.declared.stop.Stop.{Stop}
-use Rattle.shm_tree.specs.declared.stop.Stop.TheVariants as stop
-use Rattle.shm_tree.specs.Changing.{Changes}
-use Rattle.shm_tree.specs.Falling.{AreFalling}
-use Rattle.shm_tree.specs.Looking.{Looks}
+use Rattle.shm_tree.specs.{declared.stop.Stop.Stop, Changing.Changes, Falling.AreFalling, Looking.Looks}
 use Rattle.shm_tree.specs.Working.{DiedBegun, DiedIn, IsCutOff, IsSameLatch, IsWorking}
+use Rattle.shm_tree.specs.declared.stop.Stop.TheVariants as stop
 use Rattle.shm_tree.proofs.Alive.{went_dead}
 
 -- ---- a call that was run

@@ -1,20 +1,14 @@
 -- What shows that a line is cut short: what its parts leave that stopped for want of a word step.
 use Rattle.std.proofs.Common.{◌≡◌, ℕ, ◌<◌, Bool, true, false, List, refl, sym, ap, ◌∙◌, subst, arith, Result, Ok, Err, inl, inr, ◌⊎◌}
-use Rattle.std.specs.Prelude.{Some, IfErr}
-use Rattle.std.specs.Result.{IsErrAnd}
 use Rattle.std.proofs.lemmas.Bool.{cases_lt}
-use Rattle.shm_plain.specs.Calls.{Ran}
-use Rattle.shm_plain.specs.Pools.{Pool, memo_of}
-use Rattle.shm_tree.specs.declared.line.TreeLine.{TreeLine}
-use Rattle.shm_tree.specs.declared.registers.Registers.{Registers}
-use Rattle.shm_tree.specs.declared.stop.Stop.{Stop}
-use Rattle.shm_tree.specs.declared.stop.Stop.TheVariants as stop
-use Rattle.shm_tree.specs.Building.{named_by}
-use Rattle.shm_tree.specs.CutShort.{DiesHalfDone, IsHalfDone}
+use Rattle.std.specs.{Prelude.{Some, IfErr}, Result.IsErrAnd}
+use Rattle.shm_plain.specs.{Calls.Ran, Pools.{Pool, memo_of}}
+use Rattle.shm_tree.specs.declared.{line.TreeLine.TreeLine, registers.Registers.Registers, stop.Stop.Stop}
+use Rattle.shm_tree.specs.{Building.named_by, CutShort.{DiesHalfDone, IsHalfDone}}
 use Rattle.shm_tree.specs.Forests.{HasVersions, IsForest, IsFree, IsSpare, IsUnspent, MayBeDone, block_in, root_at, version}
-use Rattle.shm_tree.specs.Standing.{IsTree}
-use Rattle.shm_tree.specs.Trees.{Tree, Empty}
+use Rattle.shm_tree.specs.{Standing.IsTree, Trees.{Tree, Empty}}
 use Rattle.shm_tree.specs.Working.{AreSameRoots, DiedBegun, IsCutOff, IsInCall, IsUnderWay}
+use Rattle.shm_tree.specs.declared.stop.Stop.TheVariants as stop
 use Rattle.shm_tree.proofs.Forests.{block_low}
 
 -- ---- calls

@@ -2,12 +2,8 @@
 use Rattle.std.proofs.Common.{◌≡◌, ℕ, ◌+◌, ◌^◌, ◌<◌, ◌≤◌, cond, nat_lt, sym, ap, subst, ◌∙◌, add-one, arith}
 use Rattle.shm_graph.specs.declared.spot.Spot.TheVariants.{Body}
 use Rattle.shm_plain.specs.Pools.{Pool}
-use Rattle.shm_tree.specs.declared.node.Side.{Side}
-use Rattle.shm_tree.specs.declared.node.Side.TheVariants.{Left, Right}
-use Rattle.shm_tree.specs.Keeping.{IsStill, child_of}
-use Rattle.shm_tree.specs.Standing.{Stands, weight, word_of}
-use Rattle.shm_tree.specs.Trees.{Tree, Empty, Node, height}
-use Rattle.shm_tree.specs.Working.{IsWorking}
+use Rattle.shm_tree.specs.{declared.node.Side.{Side, TheVariants.{Left, Right}}, Keeping.{IsStill, child_of}}
+use Rattle.shm_tree.specs.{Standing.{Stands, weight, word_of}, Trees.{Tree, Empty, Node, height}, Working.IsWorking}
 use Rattle.shm_tree.specs.Ways.{IsDeep, IsEnd, IsOther, IsSome, down, toward}
 use Rattle.shm_tree.proofs.Links.{stands_low}
 use Rattle.shm_tree.proofs.Ways.{down_lower, height_at, height_at_is, other_some, stands_none, toward_light, toward_lower, toward_stands}

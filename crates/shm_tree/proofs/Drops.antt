@@ -1,43 +1,27 @@
 -- What a drop of a root leaves.
 use Rattle.std.proofs.Common.{◌≡◌, ◌≢◌, ◌==◌, ℕ, zero, suc, ◌-◌, ◌^◌, ◌<◌, ◌≤◌, Bool, true, false, List, [], ◌∷◌, ◌++◌, ◌||◌, ◌&&◌, length, ◌+◌, refl, sym, ap, ◌∙◌, subst, arith, inl, inr, ◌⊎◌, true≢false}
-use Rattle.std.specs.Prelude.{Result, Ok, Err}
-use Rattle.std.specs.List.{All, AllByRecursion, Contains, filter}
 use Rattle.std.proofs.lemmas.Bool.{cases_Bool, cases_eq, eq-eqb, ne_eqb, false≢true}
 use Rattle.std.proofs.lemmas.List.Elements.{All-contains, Contains-append_cases, Contains-append_left, Contains-append_right}
-use Rattle.shm_graph.specs.declared.ask.Me.{Me}
-use Rattle.shm_graph.specs.declared.memo.Memo.{Memo}
-use Rattle.shm_graph.specs.declared.spot.Spot.{Spot}
-use Rattle.shm_graph.specs.declared.spot.Spot.TheVariants.{Body, Era, Home, Root}
-use Rattle.shm_graph.specs.Asks.{IsWithin, Trail}
-use Rattle.shm_graph.specs.Bounds.{redo_steps, tear_steps}
-use Rattle.shm_graph.specs.Blocks.{headers}
-use Rattle.shm_graph.specs.Events.{Event, Alloc, ChangeDown, ChangeUp, Down, Free, Nothing, Up}
-use Rattle.shm_graph.specs.Views.{own_word}
+use Rattle.std.specs.{Prelude.{Result, Ok, Err}, List.{All, AllByRecursion, Contains, filter}}
+use Rattle.shm_graph.specs.declared.{ask.Me.Me, memo.Memo.Memo, spot.Spot.{Spot, TheVariants.{Body, Era, Home, Root}}}
+use Rattle.shm_graph.specs.{Asks.{IsWithin, Trail}, Bounds.{redo_steps, tear_steps}, Blocks.headers}
+use Rattle.shm_graph.specs.{Events.{Event, Alloc, ChangeDown, ChangeUp, Down, Free, Nothing, Up}, Views.own_word}
 use Rattle.shm_graph.proofs.States.Holders.{target_counted}
-use Rattle.shm_plain.specs.Calls.{Did}
-use Rattle.shm_plain.specs.Pools.{Pool, memo_of}
-use Rattle.shm_count.specs.declared.answer.EraSpent.{EraSpent}
-use Rattle.shm_count.specs.Roots.{member, root_word}
-use Rattle.shm_count.specs.Tear.Events.{IsTearing, Visit, Walks, frees_of}
-use Rattle.shm_count.specs.Tear.Events.{frees as freed}
+use Rattle.shm_plain.specs.{Calls.Did, Pools.{Pool, memo_of}}
+use Rattle.shm_count.specs.{declared.answer.EraSpent.EraSpent, Roots.{member, root_word}}
+use Rattle.shm_count.specs.Tear.Events.{IsTearing, Visit, Walks, frees_of, frees as freed}
 use Rattle.shm_count.proofs.TearWalks.{done_tears, walk_stopped}
-use Rattle.shm_ref.specs.DropRoot.Control.{dropping}
-use Rattle.shm_ref.specs.DropRoot.{DropLeaves}
-use Rattle.shm_ref.specs.Lefts.{RootEvents}
+use Rattle.shm_ref.specs.{DropRoot.{Control.dropping, DropLeaves}, Lefts.RootEvents}
 use Rattle.shm_ref.proofs.RootKeeps.{drop_emptied, drop_queues, drop_roots}
 use Rattle.shm_ref.proofs.RefusedDrops.{spent_either, spent_emptied, spent_kept}
 use Rattle.shm_tree.specs.Keeping.{IsDropped, IsStill, KeepsNode, is_alloc, is_live, made_in}
-use Rattle.shm_tree.specs.Standing.{IsNode, Stands, word_of}
-use Rattle.shm_tree.specs.Tearing.{IsGone}
-use Rattle.shm_tree.specs.Trees.{Tree, Empty, Node}
+use Rattle.shm_tree.specs.{Standing.{IsNode, Stands, word_of}, Tearing.IsGone, Trees.{Tree, Empty, Node}}
 use Rattle.shm_tree.specs.Working.{AreSameRoots, IsEmptied, IsSameLatch, IsSpent, IsWorking, Reaches}
 use Rattle.shm_tree.proofs.Alive.{IsHomeless, IsOn, after, before, homeless_is, homeless_none, still, works, works_so}
-use Rattle.shm_tree.proofs.Firsts.{freed_dead, frees_any}
-use Rattle.shm_tree.proofs.Frames.{Unfreed, Unmade, Untouched, dead_kept, frees}
+use Rattle.shm_tree.proofs.{Firsts.{freed_dead, frees_any}, Frames.{Unfreed, Unmade, Untouched, dead_kept, frees}}
 use Rattle.shm_tree.proofs.Losses.{Loses}
 use Rattle.shm_tree.proofs.Nodes.{body_names, calm_first, calm_held, from_started, keeps_then, made_then, names, node_kept, root_is, root_names}
-use Rattle.shm_tree.proofs.Shares.{queues_quiet, untouched_reaches, untouched_roots}
-use Rattle.shm_tree.proofs.Turns.{did_keeps}
+use Rattle.shm_tree.proofs.{Shares.{queues_quiet, untouched_reaches, untouched_roots}, Turns.did_keeps}
 
 -- ---- lists of events
 

@@ -1,32 +1,17 @@
 -- What the closing of a forest leaves where its references fall: no block is live.
 use Rattle.std.proofs.Common.{◌≡◌, ℕ, zero, suc, ◌<◌, ◌≤◌, Bool, true, false, cond, List, [], ◌∷◌, length, refl, sym, ap, ◌∙◌, subst, arith, inl, inr}
-use Rattle.std.specs.Prelude.{Ok}
-use Rattle.std.specs.List.{Contains}
-use Rattle.std.proofs.lemmas.Bool.{cases_Bool}
-use Rattle.std.proofs.lemmas.List.Elements.{All-contains, Contains-append_cases}
-use Rattle.shm_graph.specs.declared.run.Account.{Account}
-use Rattle.shm_graph.specs.declared.run.Start.{Start}
-use Rattle.shm_graph.specs.declared.spot.Spot.{Spot}
-use Rattle.shm_graph.specs.declared.spot.Spot.TheVariants.{Body, Home, Root}
-use Rattle.shm_graph.specs.Agents.{acts}
-use Rattle.shm_graph.specs.Blocks.{headers}
-use Rattle.shm_graph.specs.Events.{Event, Down, ChangeDown, Free}
-use Rattle.shm_graph.specs.Runs.{account_at, account_died, changed, memos_of}
-use Rattle.shm_graph.specs.Spots.{see}
-use Rattle.shm_graph.specs.Views.{View, targets, view}
-use Rattle.shm_graph.proofs.Runs.Lists.{memos_of-changed}
-use Rattle.shm_graph.proofs.Runs.Running.{view-at1}
-use Rattle.shm_plain.specs.Closings.{IsClosedRun}
-use Rattle.shm_plain.specs.Pools.{IsRun, Pool, after_fall, memo_of}
+use Rattle.std.proofs.lemmas.{Bool.cases_Bool, List.Elements.{All-contains, Contains-append_cases}}
+use Rattle.std.specs.{Prelude.Ok, List.Contains}
+use Rattle.shm_graph.specs.declared.{run.{Account.Account, Start.Start}, spot.Spot.Spot}
+use Rattle.shm_graph.specs.{declared.spot.Spot.TheVariants.{Body, Home, Root}, Agents.acts, Blocks.headers}
+use Rattle.shm_graph.specs.{Events.{Event, Down, ChangeDown, Free}, Runs.{account_at, account_died, changed, memos_of}}
+use Rattle.shm_graph.specs.{Spots.see, Views.{View, targets, view}}
+use Rattle.shm_graph.proofs.Runs.{Lists.memos_of-changed, Running.view-at1}
+use Rattle.shm_plain.specs.{Closings.IsClosedRun, Pools.{IsRun, Pool, after_fall, memo_of}}
 use Rattle.shm_plain.proofs.Turning.{fall_run}
-use Rattle.shm_recover.specs.Recover.Losses.{IsLoss, roots_losses}
-use Rattle.shm_recover.specs.Recover.{OnlyLoses}
-use Rattle.shm_tree.specs.Ending.{HasEnded, HasParted, IsRevived}
-use Rattle.shm_tree.specs.Falling.{AreFalling}
-use Rattle.shm_tree.specs.Keeping.{is_live}
-use Rattle.shm_tree.proofs.Drops.{each}
-use Rattle.shm_tree.proofs.Falls.{Keeps, falling_kept}
-use Rattle.shm_tree.proofs.Named.{upward}
+use Rattle.shm_recover.specs.Recover.{Losses.{IsLoss, roots_losses}, OnlyLoses}
+use Rattle.shm_tree.specs.{Ending.{HasEnded, HasParted, IsRevived}, Falling.AreFalling, Keeping.is_live}
+use Rattle.shm_tree.proofs.{Drops.each, Falls.{Keeps, falling_kept}, Named.upward}
 use Rattle.shm_tree.proofs.Nodes.{IsCalm, names, root_is, root_names}
 
 -- ---- events that lose references

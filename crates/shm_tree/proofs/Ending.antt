@@ -1,59 +1,33 @@
 -- The closing of a forest's pool: nobody else steps, so that its calls answer in time.
 use Rattle.std.proofs.Common.{◌≡◌, ℕ, ◌+◌, ◌^◌, ◌<◌, true, Bool, cond, List, [], ◌∷◌, ◌++◌, append_assoc, length, refl, ap, ◌∙◌, subst, arith, inl, inr}
-use Rattle.std.specs.Prelude.{Option, None, IfSome, Result, slice_index}
-use Rattle.std.specs.Option.{is_some}
 use Rattle.std.proofs.lemmas.Bool.{and_from, lt-ltb}
-use Rattle.shm_words.specs.declared.place.Place.TheVariants as place
+use Rattle.std.specs.{Prelude.{Option, None, IfSome, Result, slice_index}, Option.is_some}
 use Rattle.shm_words.specs.Layout.{address, total_of}
-use Rattle.shm_graph.specs.declared.ask.Me.{Me}
-use Rattle.shm_graph.specs.declared.memo.Kind.TheVariants.{Recoverer}
-use Rattle.shm_graph.specs.declared.memo.Memo.{Memo}
-use Rattle.shm_graph.specs.declared.run.Move.{Move}
-use Rattle.shm_graph.specs.declared.run.Move.TheVariants.{Dies}
-use Rattle.shm_graph.specs.declared.spot.Spot.TheVariants.{Era}
-use Rattle.shm_graph.specs.Agents.{acts, entered, last_agent}
-use Rattle.shm_graph.specs.Asks.{Trail}
-use Rattle.shm_graph.specs.Laws.{Control}
-use Rattle.shm_graph.specs.Runs.{fell_by}
-use Rattle.shm_graph.specs.Spots.{IsAt, classes_in, spot_address}
-use Rattle.shm_graph.specs.Views.{own_word}
-use Rattle.shm_graph.specs.Whole.{fits_now}
-use Rattle.shm_graph.proofs.Memos.MemoSteps.{recovers-entered}
-use Rattle.shm_graph.proofs.Spots.Fixed.{fixed_is_at}
-use Rattle.shm_graph.proofs.Spots.Seeing.{see_there}
+use Rattle.shm_words.specs.declared.place.Place.TheVariants as place
+use Rattle.shm_graph.specs.declared.{ask.Me.Me, memo.{Kind.TheVariants.Recoverer, Memo.Memo}, run.Move.Move}
+use Rattle.shm_graph.specs.declared.{run.Move.TheVariants.Dies, spot.Spot.TheVariants.Era}
+use Rattle.shm_graph.specs.{Agents.{acts, entered, last_agent}, Asks.Trail, Laws.Control, Runs.fell_by}
+use Rattle.shm_graph.specs.{Spots.{IsAt, classes_in, spot_address}, Views.own_word, Whole.fits_now}
+use Rattle.shm_graph.proofs.{Memos.MemoSteps.recovers-entered, Spots.{Fixed.fixed_is_at, Seeing.see_there}}
 use Rattle.shm_graph.proofs.Spots.Spotting.{at_below}
-use Rattle.shm_calls.specs.declared.calls.Calls.{Calls}
-use Rattle.shm_calls.specs.CallsControl.{calls_control, calls_does, calls_of}
-use Rattle.shm_calls.specs.CallsFit.{CallsFits, CallsGives}
-use Rattle.shm_calls.specs.CallsKeep.{calls_begin, calls_tells}
-use Rattle.shm_calls.specs.Plans.{PlanLaws}
+use Rattle.shm_calls.specs.{declared.calls.Calls.Calls, CallsControl.{calls_control, calls_does, calls_of}}
+use Rattle.shm_calls.specs.{CallsFit.{CallsFits, CallsGives}, CallsKeep.{calls_begin, calls_tells}, Plans.PlanLaws}
 use Rattle.shm_plain.specs.Pools.{IsOf, IsRun, MayStep, Pool, after_fall, memo_of, readied}
-use Rattle.shm_plain.proofs.Called.{Called, answered, call_fits}
-use Rattle.shm_plain.proofs.Calling.{fits_acting, may_acting}
-use Rattle.shm_count.specs.declared.answer.EraSpent.{EraSpent}
-use Rattle.shm_count.specs.Roots.{member}
+use Rattle.shm_plain.proofs.{Called.{Called, answered, call_fits}, Calling.{fits_acting, may_acting}}
+use Rattle.shm_count.specs.{declared.answer.EraSpent.EraSpent, Roots.member}
 use Rattle.shm_ref.specs.DropRoots.Laws.{roots_laws}
-use Rattle.shm_recover.specs.declared.leave.LeaveState.{LeaveState}
-use Rattle.shm_recover.specs.declared.recover.RecoverState.{RecoverState}
-use Rattle.shm_recover.specs.FinishTakes.Laws.{finish_laws}
-use Rattle.shm_recover.specs.GiveUp.Laws.{give_laws}
-use Rattle.shm_recover.specs.Leave.Control.{LeaveAnswer, LeaveCall, leave_parts, leaving}
-use Rattle.shm_recover.specs.Leave.Gone.{idle_may_leave}
-use Rattle.shm_recover.specs.Leave.Laws.{leave_laws}
-use Rattle.shm_recover.specs.Leave.{leave_plan}
-use Rattle.shm_recover.specs.Mend.Laws.{mend_laws}
-use Rattle.shm_recover.specs.Recover.Control.{RecoverAnswer, RecoverCall, recover_parts, recovering}
-use Rattle.shm_recover.specs.Recover.Laws.{recover_begin, recover_laws}
-use Rattle.shm_recover.specs.Recover.{recover_plan}
-use Rattle.shm_recover.specs.Scan.Laws.{scan_laws}
+use Rattle.shm_recover.specs.declared.{leave.LeaveState.LeaveState, recover.RecoverState.RecoverState}
+use Rattle.shm_recover.specs.{FinishTakes.Laws.finish_laws, GiveUp.Laws.give_laws}
+use Rattle.shm_recover.specs.Leave.Control.{LeaveAnswer, LeaveCall, leave_parts, leaving, leave_steered}
+use Rattle.shm_recover.specs.{Leave.{Gone.idle_may_leave, Laws.leave_laws, leave_plan}, Mend.Laws.mend_laws}
+use Rattle.shm_recover.specs.Recover.Control.{RecoverAnswer, RecoverCall, recover_parts, recovering, recover_steered}
+use Rattle.shm_recover.specs.{Recover.{Laws.{recover_begin, recover_laws}, recover_plan}, Scan.Laws.scan_laws}
 use Rattle.shm_recover.specs.TakeBack.Laws.{back_laws}
-use Rattle.shm_alone.specs.GiveEnds.{none_over}
-use Rattle.shm_alone.specs.LeaveEnds.{leave_alone, leave_few, leave_left, leave_ends}
+use Rattle.shm_alone.specs.{GiveEnds.none_over, LeaveEnds.{leave_alone, leave_few, leave_left, leave_ends}}
 use Rattle.shm_alone.specs.RecoverEnds.{recover_alone, recover_few, recover_left, recover_ends}
 use Rattle.shm_alone.proofs.Lasting.{Lasts, alone_few, answers_alone, calls_last, left_few}
 use Rattle.plain_calls.proofs.Fallen.{fallen_first, fallen_fits, fallen_told, may_begin}
-use Rattle.shm_tree.specs.Ending.{HasEnded, HasParted, IsRevived}
-use Rattle.shm_tree.specs.Working.{IsWorking}
+use Rattle.shm_tree.specs.{Ending.{HasEnded, HasParted, IsRevived}, Working.IsWorking}
 
 -- ---- the own era
 
@@ -86,14 +60,14 @@ abbrev pub LeaveCalls : Type 0
 LeaveCalls = Calls LeaveState LeaveCall (Result (Unit {0}) EraSpent) LeaveAnswer
 
 abbrev pub leave_control : Control LeaveCalls (Result (Unit {0}) EraSpent)
-leave_control = calls_control leave_parts leave_plan
+leave_control = calls_control leave_parts leave_steered
 
 -- the machine before its first word step
 abbrev pub leaver : Pool → LeaveCalls
-leaver p = calls_of leave_plan (leaving (member p.start.geometry 0))
+leaver p = calls_of leave_steered (leaving (member p.start.geometry 0))
 
-leave_lasts : (me : Me) → Lasts leave_control (CallsFits leave_parts leave_plan) (calls_of leave_plan (leaving me))
-leave_lasts me = calls_last leave_parts leave_plan leave_laws leave_alone leave_left none_over leave_ends (leaving me) (λ w. (((tt, tt), tt), tt)) (λ f. left_few me.geometry.wide (leave_left (calls_of leave_plan (leaving me))) (leave_few me f)) refl
+leave_lasts : (me : Me) → Lasts leave_control (CallsFits leave_parts leave_plan) (calls_of leave_steered (leaving me))
+leave_lasts me = calls_last leave_parts leave_plan leave_laws leave_alone leave_left none_over leave_ends (leaving me) (λ w. (((tt, tt), tt), tt)) (λ f. left_few me.geometry.wide (leave_left (calls_of leave_steered (leaving me))) (leave_few me f)) refl
 
 module _ (p : Pool) (h : IsWorking p) (latch : (memo_of p 0).latch ≡ None) (dying : (memo_of p 0).dying ≡ []) where
   abbrev g0 : Memo
@@ -126,16 +100,16 @@ abbrev pub RecoverCalls : Type 0
 RecoverCalls = Calls RecoverState RecoverCall (Result (Unit {0}) EraSpent) RecoverAnswer
 
 abbrev pub recover_control : Control RecoverCalls (Result (Unit {0}) EraSpent)
-recover_control = calls_control recover_parts recover_plan
+recover_control = calls_control recover_parts recover_steered
 
 -- the machine before its first word step
 abbrev pub recoverer : Pool → RecoverCalls
-recoverer p = calls_of recover_plan (recovering (member p.start.geometry 0))
+recoverer p = calls_of recover_steered (recovering (member p.start.geometry 0))
 
 laws : PlanLaws recover_parts recover_plan
 laws = recover_laws mend_laws roots_laws back_laws finish_laws scan_laws give_laws
 
-recover_lasts : (me : Me) → Lasts recover_control (CallsFits recover_parts recover_plan) (calls_of recover_plan (recovering me))
+recover_lasts : (me : Me) → Lasts recover_control (CallsFits recover_parts recover_plan) (calls_of recover_steered (recovering me))
 recover_lasts me = calls_last recover_parts recover_plan laws recover_alone recover_left none_over recover_ends (recovering me) (λ w. ((tt, tt), tt)) (recover_few me) refl
 
 module _ (p : Pool) (run : IsRun p) (who : 0 < p.start.geometry.clients) (fell : fell_by (last_agent (memo_of p 0).agents) ≡ true) where

@@ -1,21 +1,13 @@
 -- The own era only grows, so that one that is spent stays so.
 use Rattle.std.proofs.Common.{◌≡◌, ◌==◌, ◌&&◌, ℕ, ◌≤◌, Bool, true, false, cond, List, [], ◌∷◌, refl, sym, ap, ◌∙◌, subst, arith, inl, inr}
-use Rattle.std.specs.List.{AllByRecursion}
 use Rattle.std.proofs.lemmas.Bool.{and_parts, cases_eq, eqb-true, eq-eqb, ne_eqb}
+use Rattle.std.specs.List.{AllByRecursion}
 use Rattle.shm_words.specs.declared.geometry.Geometry.{Geometry}
-use Rattle.shm_graph.specs.declared.ask.Ask.{Ask}
-use Rattle.shm_graph.specs.declared.ask.Ask.TheVariants.{Load, Store, Exchange}
-use Rattle.shm_graph.specs.declared.run.Start.{Start}
-use Rattle.shm_graph.specs.declared.spot.Spot.{Spot}
-use Rattle.shm_graph.specs.declared.spot.Spot.TheVariants.{Era}
-use Rattle.shm_graph.specs.Asks.{words_after}
-use Rattle.shm_graph.specs.Controllers.{IsEraRaised}
-use Rattle.shm_graph.specs.Events.{Event}
-use Rattle.shm_graph.specs.Spots.{see, upd}
-use Rattle.shm_graph.specs.Views.{own_word}
+use Rattle.shm_graph.specs.declared.{ask.Ask.{Ask, TheVariants.{Load, Store, Exchange}}, run.Start.Start}
+use Rattle.shm_graph.specs.{declared.spot.Spot.{Spot, TheVariants.Era}, Asks.words_after, Controllers.IsEraRaised}
+use Rattle.shm_graph.specs.{Events.Event, Spots.{see, upd}, Views.own_word}
 use Rattle.shm_plain.specs.Pools.{IsRun, Pool, memo_of}
-use Rattle.shm_tree.specs.Standing.{word_of}
-use Rattle.shm_tree.specs.Working.{IsSpent, IsWorking, Went}
+use Rattle.shm_tree.specs.{Standing.word_of, Working.{IsSpent, IsWorking, Went}}
 use Rattle.shm_tree.proofs.Turns.{StepsKeep, did_keeps}
 
 abbrev any : Event → Type 0

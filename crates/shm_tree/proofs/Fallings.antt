@@ -2,16 +2,10 @@
 use Rattle.std.proofs.Common.{◌≡◌, ℕ, ◌+◌, ◌-◌, ◌*◌, ◌≤◌, [], true, refl, sym, ◌∙◌, subst, arith, inl, inr, true≢false}
 use Rattle.shm_words.specs.declared.geometry.Geometry.{Geometry}
 use Rattle.shm_plain.specs.Pools.{Pool, memo_of}
-use Rattle.shm_tree.specs.Bounds.{fall_steps, remnant_steps, remove_steps, raise_steps}
-use Rattle.shm_tree.specs.Building.{IsCut, named_by}
-use Rattle.shm_tree.specs.Keeping.{IsShared, is_live}
-use Rattle.shm_tree.specs.Living.{AreLivesTrees, KeepsLives}
-use Rattle.shm_tree.specs.Spending.{HasSpent}
-use Rattle.shm_tree.specs.Standing.{Stands}
-use Rattle.shm_tree.specs.Working.{IsSpent, IsWorking, Went}
-use Rattle.shm_tree.proofs.Eras.{spent_stays}
-use Rattle.shm_tree.proofs.Lights.{once, part_weighs, weighs_live}
-use Rattle.shm_tree.proofs.Named.{lives_nodes}
+use Rattle.shm_tree.specs.{Bounds.{fall_steps, remnant_steps, remove_steps, raise_steps}, Building.{IsCut, named_by}}
+use Rattle.shm_tree.specs.{Keeping.{IsShared, is_live}, Living.{AreLivesTrees, KeepsLives}, Spending.HasSpent}
+use Rattle.shm_tree.specs.{Standing.Stands, Working.{IsSpent, IsWorking, Went}}
+use Rattle.shm_tree.proofs.{Eras.spent_stays, Lights.{once, part_weighs, weighs_live}, Named.lives_nodes}
 use Rattle.shm_tree.proofs.Spendings.{spent_more}
 
 -- ---- word steps

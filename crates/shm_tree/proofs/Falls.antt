@@ -1,25 +1,15 @@
 -- References that fall: which events keep them so, and how a block of no reference gets a higher rank.
 use Rattle.std.proofs.Common.{◌≡◌, ◌≢◌, ◌==◌, ℕ, ◌+◌, ◌^◌, ◌<◌, ◌≤◌, true, cond, List, [], ◌∷◌, refl, sym, ap, ◌∙◌, subst, arith, inl, inr, nat_lt}
-use Rattle.std.specs.List.{AllByRecursion}
 use Rattle.std.proofs.lemmas.Bool.{cases_Bool, cases_eq, cond-false, cond-true, eq-eqb, ltb-true, ne_eqb}
-use Rattle.shm_words.specs.declared.geometry.Geometry.{Geometry}
-use Rattle.shm_words.specs.Tags.{tag_refs}
-use Rattle.shm_graph.specs.declared.spot.Spot.{Spot}
-use Rattle.shm_graph.specs.declared.spot.Spot.TheVariants.{Body, Home, Root, Tag}
+use Rattle.std.specs.List.{AllByRecursion}
+use Rattle.shm_words.specs.{declared.geometry.Geometry.Geometry, Tags.tag_refs}
+use Rattle.shm_graph.specs.declared.spot.Spot.{Spot, TheVariants.{Body, Home, Root, Tag}}
 use Rattle.shm_graph.specs.Events.{Event, Nothing, Alloc, Up, Down, ChangeUp, ChangeDown, Free, Graph, Happens, graph_of}
-use Rattle.shm_graph.specs.References.{words_of}
-use Rattle.shm_graph.specs.Spots.{same_spot, see}
-use Rattle.shm_graph.specs.Views.{targets}
-use Rattle.shm_graph.proofs.Spots.Spotting.{same_spot_is}
-use Rattle.shm_graph.proofs.States.Holders.{held_live_not_zero}
-use Rattle.shm_plain.specs.Calls.{Did}
-use Rattle.shm_plain.specs.Pools.{IsRun, Pool}
-use Rattle.shm_tree.specs.Falling.{AreFalling, KeepsFalling}
-use Rattle.shm_tree.specs.Keeping.{is_live}
-use Rattle.shm_tree.specs.Living.{AreLivesTrees}
-use Rattle.shm_tree.specs.Standing.{Stands, word_of}
-use Rattle.shm_tree.specs.Trees.{Tree, Empty, Node, height}
-use Rattle.shm_tree.specs.Working.{IsWorking}
+use Rattle.shm_graph.specs.{References.words_of, Spots.{same_spot, see}, Views.targets}
+use Rattle.shm_graph.proofs.{Spots.Spotting.same_spot_is, States.Holders.held_live_not_zero}
+use Rattle.shm_plain.specs.{Calls.Did, Pools.{IsRun, Pool}}
+use Rattle.shm_tree.specs.{Falling.{AreFalling, KeepsFalling}, Keeping.is_live, Living.AreLivesTrees}
+use Rattle.shm_tree.specs.{Standing.{Stands, word_of}, Trees.{Tree, Empty, Node, height}, Working.IsWorking}
 use Rattle.shm_tree.proofs.Links.{stands_low}
 use Rattle.shm_tree.proofs.Nodes.{IsCalm, body_names, calm_held, from_started, home_names, names, working_calm}
 use Rattle.shm_tree.proofs.Turns.{StepsKeep, did_keeps}

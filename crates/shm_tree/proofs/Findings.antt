@@ -1,42 +1,22 @@
 -- What a client finds that reads words of nodes.
 use Rattle.std.proofs.Common.{◌≡◌, ℕ, ◌+◌, ◌<◌, List, [], ◌∷◌, ◌++◌, refl, sym, ap, ◌∙◌, subst, arith, inl, inr, eqb}
-use Rattle.std.specs.Prelude.{Some, Result, Ok, Err, slice_index}
-use Rattle.std.specs.List.{Contains, filter}
-use Rattle.std.proofs.lemmas.Bool.{cases_eq}
-use Rattle.std.proofs.lemmas.List.Elements.{Contains-append_right}
+use Rattle.std.proofs.lemmas.{Bool.cases_eq, List.Elements.Contains-append_right}
+use Rattle.std.specs.{Prelude.{Some, Result, Ok, Err, slice_index}, List.{Contains, filter}}
 use Rattle.shm_words.specs.Tags.{tag_author, tag_plain, tag_refs}
-use Rattle.shm_graph.specs.declared.ask.Me.{Me}
-use Rattle.shm_graph.specs.declared.memo.Memo.{Memo}
-use Rattle.shm_graph.specs.declared.memo.Stored.{Stored}
-use Rattle.shm_graph.specs.declared.run.Start.{Start}
-use Rattle.shm_graph.specs.declared.spot.Spot.{Spot}
-use Rattle.shm_graph.specs.declared.spot.Spot.TheVariants.{Body, Root, Tag}
-use Rattle.shm_graph.specs.Asks.{Trail}
-use Rattle.shm_graph.specs.Core.{core}
-use Rattle.shm_graph.specs.Events.{Event}
-use Rattle.shm_graph.specs.Held.{is_loose}
-use Rattle.shm_graph.specs.Idle.{hold_word}
-use Rattle.shm_graph.specs.MemoAfterRead.{values_read}
-use Rattle.shm_graph.specs.Reach.{learnt, not_at}
-use Rattle.shm_graph.specs.Spots.{see}
+use Rattle.shm_graph.specs.declared.{ask.Me.Me, memo.{Memo.Memo, Stored.Stored}, run.Start.Start, spot.Spot.Spot}
+use Rattle.shm_graph.specs.{declared.spot.Spot.TheVariants.{Body, Root, Tag}, Asks.Trail, Core.core, Events.Event}
+use Rattle.shm_graph.specs.{Held.is_loose, Idle.hold_word, MemoAfterRead.values_read, Reach.{learnt, not_at}, Spots.see}
 use Rattle.shm_graph.specs.Views.{own_word}
 use Rattle.shm_graph.proofs.StepKinds.Loads.{choice}
 use Rattle.shm_laws.proofs.Keep.{Contains-filter}
 use Rattle.shm_plain.specs.Pools.{Pool, memo_of, pool}
-use Rattle.shm_count.specs.Roots.{member}
-use Rattle.shm_count.specs.Tear.Memos.{Knows}
-use Rattle.shm_ref.specs.declared.answer.LookFault.{LookFault}
-use Rattle.shm_ref.specs.declared.answer.LookFault.TheVariants.{NoSuchRef, NotHeld}
-use Rattle.shm_ref.specs.declared.answer.NoSuchWord.{NoSuchWord}
-use Rattle.shm_ref.specs.Look.{LookLeaves, looking}
-use Rattle.shm_ref.specs.OnlyRead.{OnlyRead, look_reads, read_reads, still_reached}
-use Rattle.shm_ref.specs.Read.{ReadLeaves, reading}
-use Rattle.shm_ref.specs.ReadParts.{tagged}
-use Rattle.shm_ref.specs.SetRef.Memos.{seen_dying, seen_word, tag_seen, word_seen}
-use Rattle.shm_tree.specs.declared.node.Side.{Side}
-use Rattle.shm_tree.specs.declared.node.Side.TheVariants.{Left, Right}
-use Rattle.shm_tree.specs.Keeping.{HasNode, IsStill, child_of, side_word}
-use Rattle.shm_tree.specs.Standing.{IsNode, word_of}
+use Rattle.shm_count.specs.{Roots.member, Tear.Memos.Knows}
+use Rattle.shm_ref.specs.declared.answer.LookFault.{LookFault, TheVariants.{NoSuchRef, NotHeld}}
+use Rattle.shm_ref.specs.{declared.answer.NoSuchWord.NoSuchWord, Look.{LookLeaves, looking}}
+use Rattle.shm_ref.specs.{OnlyRead.{OnlyRead, look_reads, read_reads, still_reached}, Read.{ReadLeaves, reading}}
+use Rattle.shm_ref.specs.{ReadParts.tagged, SetRef.Memos.{seen_dying, seen_word, tag_seen, word_seen}}
+use Rattle.shm_tree.specs.declared.node.Side.{Side, TheVariants.{Left, Right}}
+use Rattle.shm_tree.specs.{Keeping.{HasNode, IsStill, child_of, side_word}, Standing.{IsNode, word_of}}
 use Rattle.shm_tree.specs.Working.{AreSameRoots, IsWorking, Reaches}
 use Rattle.shm_tree.proofs.Alive.{IsOn, IsQuiet, after, homeless_none, known_tag, known_word, still, works}
 use Rattle.shm_tree.proofs.Nodes.{IsCalm, as_started, calm_held}

@@ -1,27 +1,16 @@
 -- What the first event of a call says of the pool before it, and what freeing leaves.
 use Rattle.std.proofs.Common.{◌≡◌, ◌==◌, ℕ, ◌<◌, Bool, true, false, List, [], ◌∷◌, ◌||◌, refl, sym, ap, ◌∙◌, subst, length, inl, inr}
-use Rattle.std.specs.List.{AllByRecursion, filter, list_any}
 use Rattle.std.proofs.lemmas.Bool.{cases_Bool, cond-true, eq-eqb, false≢true}
+use Rattle.std.specs.List.{AllByRecursion, filter, list_any}
 use Rattle.shm_words.specs.declared.geometry.Geometry.{Geometry}
-use Rattle.shm_graph.specs.declared.memo.Kind.{Kind}
-use Rattle.shm_graph.specs.declared.run.Move.{Move}
-use Rattle.shm_graph.specs.declared.run.Move.TheVariants.{Begins, Dies, Word}
-use Rattle.shm_graph.specs.declared.spot.Spot.{Spot}
-use Rattle.shm_graph.specs.Asks.{at_of}
-use Rattle.shm_graph.specs.Blocks.{headers}
-use Rattle.shm_graph.specs.CallEvents.{events_in}
+use Rattle.shm_graph.specs.declared.{memo.Kind.Kind, run.Move.{Move, TheVariants.{Begins, Dies, Word}}, spot.Spot.Spot}
+use Rattle.shm_graph.specs.{Asks.at_of, Blocks.headers, CallEvents.events_in}
 use Rattle.shm_graph.specs.Events.{Event, Nothing, Alloc, Up, Down, ChangeUp, ChangeDown, Free, Graph, Happens, IsSame, graph_of}
-use Rattle.shm_graph.specs.Laws.{event_on}
-use Rattle.shm_graph.specs.Runs.{Held, Leads, State, account_at, account_entered, memos_of, moved}
-use Rattle.shm_graph.specs.Spots.{classes_in, see, spot_at}
-use Rattle.shm_graph.specs.Tells.{is_event}
-use Rattle.shm_graph.specs.Views.{View, view}
-use Rattle.shm_graph.proofs.Runs.Lists.{memos_of-changed}
-use Rattle.shm_graph.proofs.Runs.Running.{view-at1}
-use Rattle.shm_plain.specs.Calls.{AreOf, Did, state_of}
-use Rattle.shm_plain.specs.Pools.{IsRun, Pool}
-use Rattle.shm_tree.proofs.Frames.{Unmade, dead_kept, frees}
-use Rattle.shm_tree.proofs.Turns.{did_leads, turns_keep}
+use Rattle.shm_graph.specs.{Laws.event_on, Runs.{Held, Leads, State, account_at, account_entered, memos_of, moved}}
+use Rattle.shm_graph.specs.{Spots.{classes_in, see, spot_at}, Tells.is_event, Views.{View, view}}
+use Rattle.shm_graph.proofs.Runs.{Lists.memos_of-changed, Running.view-at1}
+use Rattle.shm_plain.specs.{Calls.{AreOf, Did, state_of}, Pools.{IsRun, Pool}}
+use Rattle.shm_tree.proofs.{Frames.{Unmade, dead_kept, frees}, Turns.{did_leads, turns_keep}}
 
 -- the graph of a state
 abbrev pub graph_at : Geometry → State → Graph

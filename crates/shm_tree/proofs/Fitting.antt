@@ -3,12 +3,10 @@ use Rattle.std.proofs.Common.{◌≡◌, ℕ, zero, suc, ◌+◌, ◌<◌, ◌�
 use Rattle.std.proofs.lemmas.Bool.{cases_eq, cases_lt, le-ltb, lt-ltb}
 use Rattle.shm_words.specs.Layout.{GeometryFits, total_of}
 use Rattle.shm_words.proofs.Placing.{total_most_wide}
-use Rattle.shm_graph.specs.declared.spot.Spot.TheVariants.{Body}
-use Rattle.shm_graph.specs.References.{one_if, sum_below}
+use Rattle.shm_graph.specs.{declared.spot.Spot.TheVariants.Body, References.{one_if, sum_below}}
 use Rattle.shm_graph.proofs.States.Reading.{live_below}
 use Rattle.shm_plain.specs.Pools.{Pool}
-use Rattle.shm_tree.specs.Standing.{Stands, word_of}
-use Rattle.shm_tree.specs.Trees.{Tree, Empty, Node, AreAbove, AreBelow, IsSearch, size}
+use Rattle.shm_tree.specs.{Standing.{Stands, word_of}, Trees.{Tree, Empty, Node, AreAbove, AreBelow, IsSearch, size}}
 use Rattle.shm_tree.proofs.Searching.{below_more}
 
 -- ---- sums

@@ -1,29 +1,20 @@
 -- What calls on the pool keep of registers and of their versions.
 use Rattle.std.proofs.Common.{◌≡◌, ◌≢◌, ℕ, ◌+◌, ◌<◌, ◌≤◌, Bool, true, false, List, [], ◌++◌, refl, sym, ap, ◌∙◌, subst, arith, Result, Ok, Err, inl, inr, true≢false}
-use Rattle.std.specs.Prelude.{slice_index, None, nat_lt, IfErr, IfOk}
-use Rattle.std.specs.Result.{IsErrAnd}
 use Rattle.std.proofs.lemmas.Bool.{cases_eq, cases_lt, cond-false, cond-true, le-ltb, lt-ltb}
+use Rattle.std.specs.{Prelude.{slice_index, None, nat_lt, IfErr, IfOk}, Result.IsErrAnd}
 use Rattle.shm_graph.specs.Events.{Event}
-use Rattle.shm_plain.specs.Calls.{Did}
-use Rattle.shm_plain.specs.Pools.{IsRun, Pool, memo_of}
+use Rattle.shm_plain.specs.{Calls.Did, Pools.{IsRun, Pool, memo_of}}
 use Rattle.shm_plain.proofs.OwnTurns.{did_none}
 use Rattle.shm_count.specs.declared.answer.Made.{Made}
-use Rattle.shm_tree.specs.declared.registers.Registers.{Registers}
-use Rattle.shm_tree.specs.declared.stop.Stop.{Stop}
-use Rattle.shm_tree.specs.declared.stop.Stop.TheVariants as stop
-use Rattle.shm_tree.specs.Building.{IsBuilt, IsCut, named_by}
-use Rattle.shm_tree.specs.Changing.{Changes}
-use Rattle.shm_tree.specs.Causes.{StopCause}
+use Rattle.shm_tree.specs.declared.{registers.Registers.Registers, stop.Stop.Stop}
+use Rattle.shm_tree.specs.{Building.{IsBuilt, IsCut, named_by}, Changing.Changes, Causes.StopCause}
 use Rattle.shm_tree.specs.Forests.{Calls, IsForest, IsFree, IsTidy, KeepsNamed, KeepsOthers, KeepsRegisters, KeepsRoot, KeepsRoots, KeepsVersions, Stopped, block_in, root_at, version}
-use Rattle.shm_tree.specs.Keeping.{IsDropped, IsShared, IsStill}
-use Rattle.shm_tree.specs.Standing.{IsTree, Stands, weight}
-use Rattle.shm_tree.specs.Trees.{Tree}
+use Rattle.shm_tree.specs.{Keeping.{IsDropped, IsShared, IsStill}, Standing.{IsTree, Stands, weight}, Trees.Tree}
 use Rattle.shm_tree.specs.Working.{DiedIn, IfAlive, IfRefused, IsEmptied, IsRooted, IsSameLatch, IsWorking, Went}
+use Rattle.shm_tree.specs.declared.stop.Stop.TheVariants as stop
 use Rattle.shm_tree.proofs.Answering.{alive_map, cause_after}
 use Rattle.shm_tree.proofs.Building.{Looked, looked_none, alive_kept, alive_refused, none_stands, rooted_some, went_on}
-use Rattle.shm_tree.proofs.Links.{still_then}
-use Rattle.shm_tree.proofs.Turns.{did_then}
-use Rattle.shm_tree.proofs.Weights.{weight_nodes, weight_none, weight_root}
+use Rattle.shm_tree.proofs.{Links.still_then, Turns.did_then, Weights.{weight_nodes, weight_none, weight_root}}
 
 -- ---- roots
 

@@ -1,25 +1,16 @@
 -- What stays of targets, of live blocks and of words of live blocks.
 use Rattle.std.proofs.Common.{◌≡◌, ℕ, ◌<◌, ◌≤◌, ◌==◌, Bool, true, false, refl, ap, ◌∙◌, subst, arith, inl, inr, ◌⊎◌, eqb, cond}
 use Rattle.std.proofs.lemmas.Bool.{cases_Bool, cond-true, cond-false, eqb-true}
-use Rattle.shm_words.specs.declared.geometry.Geometry.{Geometry}
-use Rattle.shm_words.specs.Tags.{tag_plain, tag_refs}
+use Rattle.shm_words.specs.{declared.geometry.Geometry.Geometry, Tags.{tag_plain, tag_refs}}
 use Rattle.shm_words.proofs.Words.{live_not_zero}
-use Rattle.shm_graph.specs.declared.ask.Ask.{Ask}
-use Rattle.shm_graph.specs.declared.ask.Ask.TheVariants.{Exchange, Load, Store}
-use Rattle.shm_graph.specs.declared.memo.Op.{Op}
-use Rattle.shm_graph.specs.declared.memo.Op.TheVariants as op
-use Rattle.shm_graph.specs.declared.spot.Spot.{Spot}
-use Rattle.shm_graph.specs.declared.spot.Spot.TheVariants.{Body, Head, QueueHead, Root, Tag, Tail}
-use Rattle.shm_graph.specs.Asks.{words_after}
-use Rattle.shm_graph.specs.Blocks.{IsLive, headers}
-use Rattle.shm_graph.specs.Controllers.{IsAllowed, IsController, IsOpen}
+use Rattle.shm_graph.specs.declared.{ask.Ask.{Ask, TheVariants.{Exchange, Load, Store}}, memo.Op.Op, spot.Spot.Spot}
+use Rattle.shm_graph.specs.{declared.spot.Spot.TheVariants.{Body, Head, QueueHead, Root, Tag, Tail}, Asks.words_after}
+use Rattle.shm_graph.specs.{Blocks.{IsLive, headers}, Controllers.{IsAllowed, IsController, IsOpen}}
 use Rattle.shm_graph.specs.Events.{Event, Nothing, Alloc, Up, Down, ChangeUp, ChangeDown, Free, Graph, Happens, graph_of}
-use Rattle.shm_graph.specs.Held.{HeldAt, SlotOf, reach_of}
-use Rattle.shm_graph.specs.Ops.{is_op, slot_of}
-use Rattle.shm_graph.specs.Spots.{same_spot, upd}
+use Rattle.shm_graph.specs.{Held.{HeldAt, SlotOf, reach_of}, Ops.{is_op, slot_of}, Spots.{same_spot, upd}}
 use Rattle.shm_graph.specs.Views.{View, at1, targets}
-use Rattle.shm_graph.proofs.Runs.Shapes.{tag_stays}
-use Rattle.shm_graph.proofs.Spots.Spotting.{same_spot_is}
+use Rattle.shm_graph.specs.declared.memo.Op.TheVariants as op
+use Rattle.shm_graph.proofs.{Runs.Shapes.tag_stays, Spots.Spotting.same_spot_is}
 use Rattle.shm_tree.proofs.Turns.{StepsKeep}
 
 -- ---- events

@@ -1,17 +1,12 @@
 -- The blocks that came to be live are among those that were made.
 use Rattle.std.proofs.Common.{◌≡◌, ℕ, ◌||◌, Bool, true, false, List, [], ◌∷◌, ◌++◌, length, refl, sym, ap, ◌∙◌, arith, inl, inr, true≢false}
-use Rattle.std.specs.List.{AllByRecursion, Contains}
 use Rattle.std.proofs.lemmas.Bool.{cases_Bool, eqb-true, false≢true}
 use Rattle.std.proofs.lemmas.List.Elements.{Contains-append_left, Contains-append_right}
-use Rattle.shm_graph.specs.Blocks.{headers}
-use Rattle.shm_graph.specs.Events.{Event, Alloc, ChangeDown, ChangeUp, Down, Free, Nothing, Up}
+use Rattle.std.specs.List.{AllByRecursion, Contains}
+use Rattle.shm_graph.specs.{Blocks.headers, Events.{Event, Alloc, ChangeDown, ChangeUp, Down, Free, Nothing, Up}}
 use Rattle.shm_plain.specs.Pools.{IsRun, Pool}
-use Rattle.shm_tree.specs.Keeping.{HasMade, is_live, made_in}
-use Rattle.shm_tree.specs.Living.{AreFewNew}
-use Rattle.shm_tree.proofs.Frames.{Unmade, dead_kept, makes}
-use Rattle.shm_tree.proofs.Lights.{either}
-use Rattle.shm_tree.proofs.Nodes.{from_started}
-use Rattle.shm_tree.proofs.Turns.{did_keeps}
+use Rattle.shm_tree.specs.{Keeping.{HasMade, is_live, made_in}, Living.AreFewNew}
+use Rattle.shm_tree.proofs.{Frames.{Unmade, dead_kept, makes}, Lights.either, Nodes.from_started, Turns.did_keeps}
 
 -- the blocks that are made by events
 abbrev made_by : Event → List ℕ

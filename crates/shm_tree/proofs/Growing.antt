@@ -3,8 +3,7 @@ use Rattle.std.proofs.Common.{◌≡◌, ℕ, zero, suc, ◌+◌, ◌<◌, ◌�
 use Rattle.std.proofs.lemmas.Bool.{cases_lt, cond-false, cond-true, eq-eqb, ne_eqb}
 use Rattle.shm_tree.specs.Trees.{Tree, Empty, Node, AreNear, IsBalanced, IsSearch, height, inserted, joined}
 use Rattle.shm_tree.specs.Ways.{IsEnd, IsOther, down, toward}
-use Rattle.shm_tree.proofs.Costs.{Outcome, away, comes, cost, joined_left, joined_right}
-use Rattle.shm_tree.proofs.Heights.{joined_height}
+use Rattle.shm_tree.proofs.{Costs.{Outcome, away, comes, cost, joined_left, joined_right}, Heights.joined_height}
 use Rattle.shm_tree.proofs.Insertions.{inserts_well}
 
 -- of two trees the one that was inserted in grew, is higher than the other, and not by 2

@@ -1,35 +1,20 @@
 -- Calls none of whose word steps makes a block or a home name a block.
 use Rattle.std.proofs.Common.{ℕ, ◌<◌, Bool, true}
 use Rattle.std.specs.Prelude.{Result}
-use Rattle.shm_graph.specs.declared.spot.Spot.TheVariants.{Root}
-use Rattle.shm_graph.specs.Tells.{happens_along}
-use Rattle.shm_calls.specs.declared.calls.Calls.{Calls}
-use Rattle.shm_calls.specs.declared.or.Or.TheVariants.{First, Second}
-use Rattle.shm_calls.specs.CallsControl.{calls_does}
-use Rattle.shm_plain.specs.Calls.{Did, Ran}
-use Rattle.shm_plain.specs.Pools.{Pool, memo_of}
-use Rattle.shm_alloc.specs.declared.point.AllocPoint.{AllocPoint}
-use Rattle.shm_alloc.specs.declared.point.AllocPoint.TheVariants.{Commit}
-use Rattle.shm_alloc.specs.declared.point.AllocState.{AllocState}
-use Rattle.shm_alloc.specs.Alloc.Control.{alloc_control}
-use Rattle.shm_alloc.specs.Alloc.Events.{alloc_event, alloc_event_at}
-use Rattle.shm_count.specs.declared.answer.EraSpent.{EraSpent}
-use Rattle.shm_count.specs.declared.answer.ShareFault.{ShareFault}
-use Rattle.shm_count.specs.declared.point.Aim.{Aim}
-use Rattle.shm_count.specs.declared.point.Aim.TheVariants.{Up, Down, Change}
-use Rattle.shm_count.specs.declared.up_root.RootingPoint.{RootingPoint}
-use Rattle.shm_count.specs.declared.up_root.RootingPoint.TheVariants as rooting
+use Rattle.shm_graph.specs.{declared.{spot.Spot.TheVariants.Root, ask.Me.Me}, Tells.happens_along}
+use Rattle.shm_calls.specs.{declared.{calls.Calls.Calls, or.Or.TheVariants.{First, Second}}, CallsControl.calls_does}
+use Rattle.shm_plain.specs.{Calls.{Did, Ran}, Pools.{Pool, memo_of}}
+use Rattle.shm_alloc.specs.declared.point.{AllocPoint.{AllocPoint, TheVariants.Commit}, AllocState.AllocState}
+use Rattle.shm_alloc.specs.Alloc.{Control.alloc_control, Events.{alloc_event, alloc_event_at}}
+use Rattle.shm_count.specs.declared.{answer.{EraSpent.EraSpent, ShareFault.ShareFault}, point.Aim.Aim}
+use Rattle.shm_count.specs.declared.{point.Aim.TheVariants.{Up, Down, Change}, up_root.RootingPoint.RootingPoint}
 use Rattle.shm_count.specs.declared.up_root.RootingState.{RootingState}
-use Rattle.shm_count.specs.UpRoot.Control.{RootingAnswer, RootingCall, rooting_parts}
-use Rattle.shm_count.specs.UpRoot.{rooting_part, rooting_plan}
-use Rattle.shm_ref.specs.declared.drop_root.DropState.{DropState}
-use Rattle.shm_ref.specs.DropRoot.Control.{DropAnswer, DropCall, drop_parts}
+use Rattle.shm_count.specs.UpRoot.{Control.{RootingAnswer, RootingCall, rooting_parts}, rooting_part, rooting_plan}
+use Rattle.shm_count.specs.declared.up_root.RootingPoint.TheVariants as rooting
+use Rattle.shm_ref.specs.{declared.drop_root.DropState.DropState, DropRoot.Control.{DropAnswer, DropCall, drop_parts}}
 use Rattle.shm_ref.specs.DropRoot.{drop_plan}
-use Rattle.shm_graph.specs.declared.ask.Me.{Me}
-use Rattle.shm_tree.specs.Falling.{AreFalling}
-use Rattle.shm_tree.specs.Working.{IsWorking}
-use Rattle.shm_tree.proofs.Anytime.{AimsAt, only_along, step_only, tear_only, told_falls}
-use Rattle.shm_tree.proofs.Falls.{IsLower, Keeps}
+use Rattle.shm_tree.specs.{Falling.AreFalling, Working.IsWorking}
+use Rattle.shm_tree.proofs.{Anytime.{AimsAt, only_along, step_only, tear_only, told_falls}, Falls.{IsLower, Keeps}}
 
 module _ (r : ℕ → ℕ) (n : ℕ) where
   root_aims : (c k : ℕ) (x : Aim) → AimsAt (IsLower r n) (Root c k) x

@@ -1,6 +1,5 @@
 -- Heights of trees that are balanced again, and of balanced trees by how many keys they have.
-use Rattle.std.proofs.Common.{◌≡◌, ℕ, ◌+◌, ◌≤◌, max, inl, inr, refl, arith}
-use Rattle.std.proofs.lemmas.Bool.{cases_lt, le-ltb, lt-ltb}
+use Rattle.std.proofs.{Common.{◌≡◌, ℕ, ◌+◌, ◌≤◌, max, inl, inr, refl, arith}, lemmas.Bool.{cases_lt, le-ltb, lt-ltb}}
 use Rattle.shm_tree.specs.Trees.{Tree, Empty, Node, height, AreNear, IsBalanced, double_left, double_right, from_left, from_right, joined}
 
 -- t is a balanced tree, as high as the higher one of two trees of the heights a and b, or higher by 1

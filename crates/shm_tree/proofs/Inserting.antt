@@ -1,27 +1,19 @@
 -- One level of a tree in which a number is set at a key, and how far the levels below it came.
 use Rattle.std.proofs.Common.{◌≡◌, ◌≢◌, ◌==◌, ℕ, Bool, true, false, cond, ◌+◌, ◌*◌, ◌-◌, ◌<◌, ◌≤◌, nat_lt, refl, sym, ap, ◌∙◌, subst, arith, inl, inr}
-use Rattle.std.specs.Prelude.{None, Some, if◌then◌else◌}
 use Rattle.std.proofs.lemmas.Bool.{cases_eq, cases_lt, cond-false, cond-true, eq-eqb, ne_eqb}
+use Rattle.std.specs.Prelude.{None, Some, if◌then◌else◌}
 use Rattle.shm_graph.specs.declared.spot.Spot.TheVariants.{Body}
 use Rattle.shm_plain.specs.Pools.{IsRun, Pool}
 use Rattle.shm_count.specs.declared.answer.Made.{Made}
-use Rattle.shm_tree.specs.Bounds.{climb_steps}
-use Rattle.shm_tree.specs.Spending.{HasSpent}
-use Rattle.shm_tree.specs.declared.node.Side.{Side}
-use Rattle.shm_tree.specs.declared.node.Side.TheVariants.{Left, Right}
+use Rattle.shm_tree.specs.{Bounds.climb_steps, Spending.HasSpent, declared.node.Side.{Side, TheVariants.{Left, Right}}}
 use Rattle.shm_tree.specs.Building.{IsAtHand, IsBuilt, IsHeld, IsRebuilt, joined_by, named_by}
-use Rattle.shm_tree.specs.Inserting.{IsRegistered, left_of, outside, right_of}
-use Rattle.shm_tree.specs.Keeping.{HasMade, IsStill}
-use Rattle.shm_tree.specs.Living.{KeepsLives}
-use Rattle.shm_tree.specs.Raising.{IsCheapAt, StandsAgain, side_of}
-use Rattle.shm_tree.specs.Sharing.{CountsTop}
+use Rattle.shm_tree.specs.{Inserting.{IsRegistered, left_of, outside, right_of}, Keeping.{HasMade, IsStill}}
+use Rattle.shm_tree.specs.{Living.KeepsLives, Raising.{IsCheapAt, StandsAgain, side_of}, Sharing.CountsTop}
 use Rattle.shm_tree.specs.Standing.{Stands, weight, word_of}
 use Rattle.shm_tree.specs.Trees.{Tree, Empty, Node, AreNear, height, inserted, joined}
-use Rattle.shm_tree.specs.Ways.{IsEnd, IsOther, down, toward}
-use Rattle.shm_tree.specs.Working.{IsSameLatch, IsWorking, Went}
+use Rattle.shm_tree.specs.{Ways.{IsEnd, IsOther, down, toward}, Working.{IsSameLatch, IsWorking, Went}}
 use Rattle.shm_tree.proofs.Building.{made_more, none_stands, root_reached, rooted_some}
-use Rattle.shm_tree.proofs.Costs.{away, cost, work, work_far, work_high, work_near}
-use Rattle.shm_tree.proofs.Nodes.{made_then}
+use Rattle.shm_tree.proofs.{Costs.{away, cost, work, work_far, work_high, work_near}, Nodes.made_then}
 use Rattle.shm_tree.proofs.Weights.{weight_nodes, weight_none}
 
 by_side : (x y k n : ℕ) (l r : Tree) (b : Bool) → cond b (joined k n (inserted x y l) r) (joined k n l (inserted x y r)) ≡ joined_by (cond b Left Right) (record { key = k; number = n }) (inserted x y (cond b l r)) (cond b r l)

@@ -1,10 +1,8 @@
 -- Trees with a number put at a key.
 use Rattle.std.proofs.Common.{◌≡◌, ℕ, ◌<◌, Some, inl, inr, ◌∙◌, arith}
-use Rattle.std.proofs.lemmas.Bool.{cases_lt, eq-eqb, ne_eqb, le-ltb, lt-ltb}
-use Rattle.std.proofs.lemmas.Bool.Decides.{nat_tests}
+use Rattle.std.proofs.lemmas.Bool.{cases_lt, eq-eqb, ne_eqb, le-ltb, lt-ltb, Decides.nat_tests}
 use Rattle.shm_tree.specs.Trees.{Tree, Empty, Node, height, found, found_with, AreBelow, AreAbove, IsSearch, IsBalanced, InsertsWell, inserted, joined}
-use Rattle.shm_tree.proofs.Heights.{IsGrown, joined_again, left_grown, right_grown}
-use Rattle.shm_tree.proofs.Searching.{joined_keeps}
+use Rattle.shm_tree.proofs.{Heights.{IsGrown, joined_again, left_grown, right_grown}, Searching.joined_keeps}
 
 -- u is the tree t with y at x
 record Inserts (x y : ℕ) (t u : Tree) : Type 0 where

@@ -1,45 +1,24 @@
 -- What a client leaves that takes its latch, gives it back, or asks what a root names.
 use Rattle.std.proofs.Common.{◌≡◌, ◌≢◌, ℕ, ◌+◌, ◌<◌, Bool, true, false, List, [], ◌∷◌, ◌++◌, refl, sym, ap, ◌∙◌, subst, arith}
+use Rattle.std.proofs.lemmas.{Bool.{lt-ltb, false≢true}, List.get_or-set_other}
 use Rattle.std.specs.Prelude.{Option, Some, None, Ok, Err, slice_index, slice_set, nat_lt, if◌then◌else◌}
-use Rattle.std.proofs.lemmas.Bool.{lt-ltb, false≢true}
-use Rattle.std.proofs.lemmas.List.{get_or-set_other}
-use Rattle.shm_words.specs.declared.geometry.Geometry.{Geometry}
+use Rattle.shm_words.specs.{declared.geometry.Geometry.Geometry, Layout.{address, place_at}}
 use Rattle.shm_words.specs.declared.place.Place.TheVariants as place
-use Rattle.shm_words.specs.Layout.{address, place_at}
 use Rattle.shm_words.proofs.Placing.{place-address}
-use Rattle.shm_graph.specs.declared.ask.Me.{Me}
-use Rattle.shm_graph.specs.declared.memo.Memo.{Memo}
-use Rattle.shm_graph.specs.declared.run.Move.{Move}
-use Rattle.shm_graph.specs.declared.run.Move.TheVariants.{Begins}
-use Rattle.shm_graph.specs.declared.spot.Spot.TheVariants.{Latch}
-use Rattle.shm_graph.specs.declared.run.Start.{Start}
-use Rattle.shm_graph.specs.Agents.{acts}
-use Rattle.shm_graph.specs.Asks.{Trail}
-use Rattle.shm_graph.specs.Events.{Event}
-use Rattle.shm_graph.specs.Runs.{Leads, first_state}
-use Rattle.shm_graph.specs.Spots.{classes_in, see, spot_address}
-use Rattle.shm_graph.specs.Tells.{machine_steps}
-use Rattle.shm_graph.proofs.Spots.Fixed.{fixed_is_at}
-use Rattle.shm_graph.proofs.Spots.Seeing.{see_there}
-use Rattle.shm_calls.specs.CallsControl.{calls_control, calls_of}
-use Rattle.shm_calls.specs.Words.{word_control}
-use Rattle.shm_plain.specs.Calls.{Took, state_of, words}
-use Rattle.shm_plain.specs.Pools.{Pool, memo_of}
-use Rattle.shm_plain.specs.Tracks.{kind_next}
+use Rattle.shm_graph.specs.declared.{ask.Me.Me, memo.Memo.Memo, run.{Move.{Move, TheVariants.Begins}, Start.Start}}
+use Rattle.shm_graph.specs.{declared.spot.Spot.TheVariants.Latch, Agents.acts, Asks.Trail, Events.Event}
+use Rattle.shm_graph.specs.{Runs.{Leads, first_state}, Spots.{classes_in, see, spot_address}, Tells.machine_steps}
+use Rattle.shm_graph.proofs.Spots.{Fixed.fixed_is_at, Seeing.see_there}
+use Rattle.shm_calls.specs.{CallsControl.{calls_control, calls_of}, Words.word_control}
+use Rattle.shm_plain.specs.{Calls.{Took, state_of, words}, Pools.{Pool, memo_of}, Tracks.kind_next}
 use Rattle.shm_plain.proofs.OwnTurns.{leads_after}
 use Rattle.shm_count.specs.Roots.{member}
-use Rattle.shm_ref.specs.declared.answer.Busy.{Busy}
-use Rattle.shm_ref.specs.Hold.Control.{busy_trail, holding}
-use Rattle.shm_ref.specs.Hold.{HoldLeaves, hold_plan}
-use Rattle.shm_ref.specs.Release.{Released}
-use Rattle.shm_ref.specs.RootOf.{Named}
+use Rattle.shm_ref.specs.{declared.answer.Busy.Busy, Hold.{Control.{busy_trail, holding, hold_steered}, HoldLeaves}}
+use Rattle.shm_ref.specs.{Release.Released, RootOf.Named}
 use Rattle.shm_ref.proofs.LatchKeeps.{hold_held, hold_loose, hold_reaches, hold_roots, hold_waiting, release_loose, release_roots, release_waiting}
-use Rattle.shm_tree.specs.Keeping.{IsStill}
-use Rattle.shm_tree.specs.Working.{IsReached, IsSameLatch, IsWorking, Reaches}
-use Rattle.shm_tree.proofs.Alive.{IsOn, before, homeless_none, still, works}
-use Rattle.shm_tree.proofs.Findings.{core_quiet, quiet_self}
-use Rattle.shm_tree.proofs.Nodes.{calm_first, calm_held}
-use Rattle.shm_tree.proofs.Shares.{same_reaches, same_roots}
+use Rattle.shm_tree.specs.{Keeping.IsStill, Working.{IsReached, IsSameLatch, IsWorking, Reaches}}
+use Rattle.shm_tree.proofs.{Alive.{IsOn, before, homeless_none, still, works}, Findings.{core_quiet, quiet_self}}
+use Rattle.shm_tree.proofs.{Nodes.{calm_first, calm_held}, Shares.{same_reaches, same_roots}}
 
 -- the word of the first latch
 latch_word : (g : Geometry) (ws : List ℕ) → 0 < g.clients → see g ws (Latch 0) ≡ slice_index ws (address g (place.Latch 0))
@@ -116,11 +95,11 @@ module _ (p q : Pool) (es : List Event) (on : IsOn p q es) where
       none_some (Some x) a b = cc
 
   -- so that nobody is found to hold it
-  pub hold_free : (e : Busy) → r0.latch ≡ None → HoldLeaves (holding me 0) r0 r tr es (Err e) → Took (calls_control word_control hold_plan) 0 p (calls_of hold_plan (holding me 0)) q → ⊥
+  pub hold_free : (e : Busy) → r0.latch ≡ None → HoldLeaves (holding me 0) r0 r tr es (Err e) → Took (calls_control word_control hold_steered) 0 p (calls_of hold_steered (holding me 0)) q → ⊥
   hold_free e none h t =
       let g : Geometry = p.start.geometry in
-      let k = calls_control word_control hold_plan in
-      let m = calls_of hold_plan (holding me 0) in
+      let k = calls_control word_control hold_steered in
+      let m = calls_of hold_steered (holding me 0) in
       let told : t.trail ≡ busy_trail me 0 e.holder = sym t.call ∙ h.trail in
       let grew : q.turns ≡ p.turns ++ words (machine_steps k m (busy_trail me 0 e.holder)) =
       t.grew ∙ (ap (λ ts. ts ++ words (machine_steps k m t.trail)) (turns_same (acts r0) on.working.work.acts) ∙ ap (λ (z : Trail). p.turns ++ words (machine_steps k m z)) told) in

@@ -1,18 +1,13 @@
 -- What stays of a tree once a key is taken out, level by level: each level is told by the one below it.
 use Rattle.std.proofs.Common.{◌≡◌, ◌≢◌, ℕ, zero, suc, ◌+◌, ◌-◌, ◌<◌, ◌≤◌, ◌==◌, Bool, true, false, cond, nat_lt, refl, sym, ap, ◌∙◌, subst, arith, inl, inr, true≢false}
-use Rattle.std.specs.Prelude.{Option, None, Some}
 use Rattle.std.proofs.lemmas.Bool.{cases_lt, cond-false, cond-true, eq-eqb, le-ltb, lt-ltb, ne_eqb}
-use Rattle.shm_tree.specs.declared.node.Content.{Content}
-use Rattle.shm_tree.specs.declared.node.Side.{Side}
-use Rattle.shm_tree.specs.declared.node.Side.TheVariants.{Left, Right}
-use Rattle.shm_tree.specs.Building.{joined_by}
-use Rattle.shm_tree.specs.Inserting.{left_of, right_of}
-use Rattle.shm_tree.specs.Raising.{again}
+use Rattle.std.specs.Prelude.{Option, None, Some}
+use Rattle.shm_tree.specs.{declared.node.{Content.Content, Side.{Side, TheVariants.{Left, Right}}}, Building.joined_by}
+use Rattle.shm_tree.specs.{Inserting.{left_of, right_of}, Raising.again}
 use Rattle.shm_tree.specs.Removing.{content_in, less_least, rest, side_tree}
 use Rattle.shm_tree.specs.Trees.{Tree, Empty, Node, AreAbove, IsSearch, joined, least_key, least_number, merged, removed, without_least}
 use Rattle.shm_tree.specs.Ways.{IsDeep, IsEnd, IsOther, IsSome, down, toward}
-use Rattle.shm_tree.proofs.Searching.{above_less}
-use Rattle.shm_tree.proofs.Ways.{other_some}
+use Rattle.shm_tree.proofs.{Searching.above_less, Ways.other_some}
 
 -- ---- ways behind the node of a key
 

@@ -1,27 +1,18 @@
 -- How few blocks of a tree in which a number is set are others, level by level from the key's place up.
 use Rattle.std.proofs.Common.{◌≡◌, ◌==◌, ℕ, ◌+◌, ◌<◌, ◌≤◌, ◌||◌, not, nat_lt, cond, Bool, true, false, refl, sym, ap, ◌∙◌, subst, arith, inl, inr, ◌⊎◌, true≢false}
-use Rattle.std.specs.Prelude.{None}
 use Rattle.std.proofs.lemmas.Bool.{cases_Bool, cases_eq, eq-eqb, ne_eqb}
-use Rattle.shm_graph.specs.References.{one_if}
-use Rattle.shm_graph.specs.declared.spot.Spot.TheVariants.{Body}
+use Rattle.std.specs.Prelude.{None}
+use Rattle.shm_graph.specs.{References.one_if, declared.spot.Spot.TheVariants.Body}
 use Rattle.shm_plain.specs.Pools.{Pool}
-use Rattle.shm_tree.specs.declared.node.Content.{Content}
-use Rattle.shm_tree.specs.declared.node.Side.{Side}
-use Rattle.shm_tree.specs.declared.node.Side.TheVariants.{Left, Right}
+use Rattle.shm_tree.specs.declared.node.{Content.Content, Side.{Side, TheVariants.{Left, Right}}}
 use Rattle.shm_tree.specs.Building.{KeepsBlocks, joined_by}
 use Rattle.shm_tree.specs.Inserting.{IsRegistered, is_part, left_of, outside, right_of}
-use Rattle.shm_tree.specs.Keeping.{child_of, is_live, node_by, other_side}
-use Rattle.shm_tree.specs.Raising.{IsOverAt, WeighsAgain, side_of}
-use Rattle.shm_tree.specs.Sharing.{CountsTop, IsCount}
-use Rattle.shm_tree.specs.Standing.{Stands, weight, word_of}
+use Rattle.shm_tree.specs.{Keeping.{child_of, is_live, node_by, other_side}, Raising.{IsOverAt, WeighsAgain, side_of}}
+use Rattle.shm_tree.specs.{Sharing.{CountsTop, IsCount}, Standing.{Stands, weight, word_of}}
 use Rattle.shm_tree.specs.Trees.{Tree, Empty, Node, IsBalanced, IsSearch, height, inserted}
 use Rattle.shm_tree.specs.Ways.{IsEnd, IsOther, toward}
-use Rattle.shm_tree.proofs.Answering.{height_none}
-use Rattle.shm_tree.proofs.Costs.{away}
-use Rattle.shm_tree.proofs.Growing.{end_grew, grew_level, level_heights}
-use Rattle.shm_tree.proofs.Inserting.{inserted_up}
-use Rattle.shm_tree.proofs.Rotations.{joined_flat, other_twice, parts}
-use Rattle.shm_tree.proofs.Ways.{stands_one}
+use Rattle.shm_tree.proofs.{Answering.height_none, Costs.away, Growing.{end_grew, grew_level, level_heights}}
+use Rattle.shm_tree.proofs.{Inserting.inserted_up, Rotations.{joined_flat, other_twice, parts}, Ways.stands_one}
 use Rattle.shm_tree.proofs.Weights.{weight_none}
 
 -- ---- the blocks of a tree that stood

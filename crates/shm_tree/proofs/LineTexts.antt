@@ -1,24 +1,17 @@
 -- A line whose shape is told and whose numbers are in range is the one spelling of these.
 use Rattle.std.proofs.Common.{◌≡◌, ℕ, ◌^◌, ◌<◌, ◌≤◌, Bool, true, List, [], ◌∷◌, ◌++◌, Option, Some, None, codes, sym, ap, subst, ◌∙◌, inl, inr}
-use Rattle.std.specs.Str.{bytes_eq}
-use Rattle.shm_script.specs.Text.{spaced}
-use Rattle.shm_script.specs.Numbers.{number_of}
-use Rattle.shm_script.specs.Faults.{between, key_of}
+use Rattle.std.specs.{Str.bytes_eq, Prelude.not}
+use Rattle.shm_script.specs.{Text.spaced, Numbers.number_of, Faults.{between, key_of}}
 use Rattle.shm_script.specs.Shapes.{both, given, one_of, two_of, three_of}
-use Rattle.shm_script.proofs.FitTexts.{either, is_head}
-use Rattle.shm_script.proofs.Inverts.{below_is, between_is, both_is, given_is}
-use Rattle.shm_script.proofs.LineTexts.{blanks, one_text, two_text, three_text}
-use Rattle.shm_script.proofs.NumberTexts.{number_is}
-use Rattle.shm_tree.specs.declared.line.TreeLine.TheVariants as lines
-use Rattle.shm_tree.specs.declared.shape.RawTree.{RawTree}
-use Rattle.shm_tree.specs.declared.shape.RawTree.TheVariants as raw
-use Rattle.shm_tree.specs.declared.judge.TreePlace.{TreePlace}
-use Rattle.shm_tree.specs.declared.judge.FitTree.{FitTree}
-use Rattle.shm_tree.specs.declared.judge.FitTree.TheVariants as fit
+use Rattle.shm_script.proofs.{FitTexts.{either, is_head}, Inverts.{below_is, between_is, both_is, given_is}}
+use Rattle.shm_script.proofs.{LineTexts.{blanks, one_text, two_text, three_text}, NumberTexts.number_is}
+use Rattle.shm_tree.specs.declared.{shape.RawTree.RawTree, judge.{TreePlace.TreePlace, FitTree.FitTree}}
 use Rattle.shm_tree.specs.Shapes.{heading_of, set_of, shape_by}
 use Rattle.shm_tree.specs.Scripts.{fit_of, is_start, is_tree, may_stand, register_of, registers_of}
 use Rattle.shm_tree.specs.ScriptTexts.{LineFits, line_spelled}
-use Rattle.std.specs.Prelude.{not}
+use Rattle.shm_tree.specs.declared.line.TreeLine.TheVariants as lines
+use Rattle.shm_tree.specs.declared.shape.RawTree.TheVariants as raw
+use Rattle.shm_tree.specs.declared.judge.FitTree.TheVariants as fit
 
 -- a line in range
 abbrev pub fit_text : FitTree → List ℕ

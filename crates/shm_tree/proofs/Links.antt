@@ -1,31 +1,21 @@
 -- How a node is made of two trees, step by step.
 use Rattle.std.proofs.Common.{◌≡◌, ℕ, ◌+◌, ◌<◌, ◌≤◌, ◌||◌, max, true, false, List, [], ◌∷◌, ◌++◌, length, refl, sym, ap, ◌∙◌, subst, arith, inl, inr, eqb, ltb, ◌^◌}
-use Rattle.std.specs.List.{AllByRecursion, IsDistinct, list_any}
 use Rattle.std.proofs.lemmas.Bool.{cases_Bool, eqb-true, ltb-false, ltb-true, ne_eqb, false≢true}
 use Rattle.std.proofs.lemmas.Map.Steps.{length-le_from_distinct_below}
+use Rattle.std.specs.List.{AllByRecursion, IsDistinct, list_any}
 use Rattle.shm_words.specs.Layout.{total_of}
 use Rattle.shm_words.proofs.Placing.{total_small}
-use Rattle.shm_graph.specs.declared.spot.Spot.TheVariants.{Body, Head}
-use Rattle.shm_graph.specs.Blocks.{classes}
-use Rattle.shm_graph.specs.Spots.{see}
-use Rattle.shm_graph.specs.Views.{view}
+use Rattle.shm_graph.specs.{declared.spot.Spot.TheVariants.{Body, Head}, Blocks.classes, Spots.see, Views.view}
 use Rattle.shm_graph.specs.Runs.{memos_of}
-use Rattle.shm_graph.proofs.Spots.Spotting.{in_pool}
-use Rattle.shm_graph.proofs.States.Holders.{held_live_block}
+use Rattle.shm_graph.proofs.{Spots.Spotting.in_pool, States.Holders.held_live_block}
 use Rattle.shm_plain.specs.Pools.{IsRun, Pool, memo_of}
-use Rattle.shm_count.specs.declared.answer.Made.{Made}
-use Rattle.shm_count.specs.Roots.{root_word}
-use Rattle.shm_tree.specs.declared.node.Content.{Content}
-use Rattle.shm_tree.specs.declared.node.Pair.{Pair}
-use Rattle.shm_tree.specs.declared.node.Side.{Side}
-use Rattle.shm_tree.specs.declared.node.Side.TheVariants.{Left, Right}
+use Rattle.shm_count.specs.{declared.answer.Made.Made, Roots.root_word}
+use Rattle.shm_tree.specs.declared.node.{Content.Content, Pair.Pair, Side.{Side, TheVariants.{Left, Right}}}
 use Rattle.shm_tree.specs.Falling.{KeepsFalling}
 use Rattle.shm_tree.specs.Keeping.{HasGrown, HasMade, IsBorn, IsLinked, IsMade, IsReferring, IsStill, KeepsNode, KeepsNodes, child_of, is_live, node_by, other_side}
-use Rattle.shm_tree.specs.Standing.{IsNode, Stands, word_of}
-use Rattle.shm_tree.specs.Trees.{Tree, Empty, Node, height}
+use Rattle.shm_tree.specs.{Standing.{IsNode, Stands, word_of}, Trees.{Tree, Empty, Node, height}}
 use Rattle.shm_tree.specs.Working.{IsWorking, Went}
-use Rattle.shm_tree.proofs.Nodes.{calm_held, keeps_then, made_then, trees_kept, working_calm}
-use Rattle.shm_tree.proofs.Turns.{did_then}
+use Rattle.shm_tree.proofs.{Nodes.{calm_held, keeps_then, made_then, trees_kept, working_calm}, Turns.did_then}
 
 -- ---- a tree is no higher than the pool is long
 

@@ -1,38 +1,21 @@
 -- How many blocks are live, by what is made and what is freed.
 use Rattle.std.proofs.Common.{◌≡◌, ◌≢◌, ◌==◌, ℕ, zero, suc, ◌+◌, ◌-◌, ◌<◌, ◌≤◌, Bool, true, false, List, [], ◌∷◌, ◌++◌, refl, sym, ap, ◌∙◌, subst, arith, inl, inr, ◌⊎◌}
-use Rattle.std.specs.List.{filter}
 use Rattle.std.proofs.lemmas.Bool.{cases_Bool, cases_eq, cond-true, cond-false, eq-eqb, ne_eqb}
-use Rattle.shm_words.specs.declared.geometry.Geometry.{Geometry}
-use Rattle.shm_words.specs.Layout.{total_of}
+use Rattle.std.specs.List.{filter}
+use Rattle.shm_words.specs.{declared.geometry.Geometry.Geometry, Layout.total_of}
 use Rattle.shm_words.proofs.Words.{live_not_zero}
-use Rattle.shm_graph.specs.declared.run.Move.{Move}
-use Rattle.shm_graph.specs.declared.run.Move.TheVariants.{Begins, Dies, Word}
-use Rattle.shm_graph.specs.declared.run.Start.{Start}
-use Rattle.shm_graph.specs.declared.spot.Spot.{Spot}
-use Rattle.shm_graph.specs.declared.spot.Spot.TheVariants.{Head}
-use Rattle.shm_graph.specs.Asks.{at_of}
-use Rattle.shm_graph.specs.Blocks.{classes, headers}
-use Rattle.shm_graph.specs.Bounds.{tear_steps}
-use Rattle.shm_graph.specs.CallEvents.{events_in}
+use Rattle.shm_graph.specs.declared.{run.{Move.{Move, TheVariants.{Begins, Dies, Word}}, Start.Start}, spot.Spot.Spot}
+use Rattle.shm_graph.specs.{declared.spot.Spot.TheVariants.Head, Asks.at_of, Blocks.{classes, headers}}
+use Rattle.shm_graph.specs.{Bounds.tear_steps, CallEvents.events_in}
 use Rattle.shm_graph.specs.Events.{Event, Nothing, Alloc, Up, Down, ChangeUp, ChangeDown, Free, Graph, Happens, graph_of}
-use Rattle.shm_graph.specs.Held.{HeldAt}
-use Rattle.shm_graph.specs.Laws.{event_on}
-use Rattle.shm_graph.specs.References.{one_if, sum_below}
-use Rattle.shm_graph.specs.Runs.{Held, Leads, State, memos_of, moved}
-use Rattle.shm_graph.specs.Spots.{classes_in, see, spot_at}
-use Rattle.shm_graph.specs.Tells.{is_event}
-use Rattle.shm_graph.specs.Views.{View, at1, view}
-use Rattle.shm_graph.proofs.Spots.Spotting.{block_within}
-use Rattle.shm_graph.proofs.Spots.Sums.{sum_each}
-use Rattle.shm_graph.proofs.States.Holders.{held_live_block}
-use Rattle.shm_plain.specs.Calls.{AreOf, Did, state_of}
-use Rattle.shm_plain.specs.Pools.{IsRun, Pool, memo_of}
+use Rattle.shm_graph.specs.{Held.HeldAt, Laws.event_on, References.{one_if, sum_below}}
+use Rattle.shm_graph.specs.{Runs.{Held, Leads, State, memos_of, moved}, Spots.{classes_in, see, spot_at}}
+use Rattle.shm_graph.specs.{Tells.is_event, Views.{View, at1, view}}
+use Rattle.shm_graph.proofs.{Spots.{Spotting.block_within, Sums.sum_each}, States.Holders.held_live_block}
+use Rattle.shm_plain.specs.{Calls.{AreOf, Did, state_of}, Pools.{IsRun, Pool, memo_of}}
 use Rattle.shm_count.specs.Tear.Events.{freed_by, frees}
-use Rattle.shm_tree.specs.Keeping.{HasMade, is_live, made_in}
-use Rattle.shm_tree.specs.Spending.{HasSpent}
-use Rattle.shm_tree.specs.Working.{IsSpent}
-use Rattle.shm_tree.proofs.Firsts.{begins_graph, graph_at}
-use Rattle.shm_tree.proofs.Turns.{did_leads}
+use Rattle.shm_tree.specs.{Keeping.{HasMade, is_live, made_in}, Spending.HasSpent, Working.IsSpent}
+use Rattle.shm_tree.proofs.{Firsts.{begins_graph, graph_at}, Turns.did_leads}
 
 -- ---- sums
 

@@ -1,23 +1,17 @@
 -- What roots name, and live blocks, page by page, as the words of a pool say it.
 use Rattle.std.proofs.Common.{◌≡◌, ◌≢◌, ℕ, zero, suc, ◌+◌, ◌*◌, ◌-◌, ◌/◌, ◌%◌, ◌<◌, ◌≤◌, Bool, true, false, cond, eqb, get_or, refl, sym, ap, subst, ◌∙◌, arith, inl, inr}
-use Rattle.std.specs.Prelude.{slice_index}
 use Rattle.std.proofs.lemmas.Bool.{and_from, cases_eq, cond-true, cond-false, eq-eqb, lt-ltb, ne_eqb, true≢false}
-use Rattle.shm_words.specs.declared.geometry.Geometry.{Geometry}
-use Rattle.shm_words.specs.declared.place.Place.TheVariants as place
-use Rattle.shm_words.specs.Headers.{header_of}
+use Rattle.std.specs.Prelude.{slice_index}
+use Rattle.shm_words.specs.{declared.geometry.Geometry.Geometry, Headers.header_of}
 use Rattle.shm_words.specs.Layout.{address, bodies, pages, total_of}
+use Rattle.shm_words.specs.declared.place.Place.TheVariants as place
 use Rattle.shm_graph.specs.declared.spot.Spot.TheVariants.{Body, Head, Root, Tag, Unused}
 use Rattle.shm_graph.specs.References.{live_count, one_if, sum_below}
 use Rattle.shm_graph.specs.Spots.{IsAt, block_spot, classes_in, is_in_body, see, spot_address, spot_at}
-use Rattle.shm_graph.proofs.Spots.Fixed.{fixed_is_at}
-use Rattle.shm_graph.proofs.Spots.Seeing.{see_there}
-use Rattle.shm_graph.proofs.Spots.SpotPlaces.{body_spot_at}
-use Rattle.shm_graph.proofs.Spots.Spotting.{at_below, spot_before_bodies}
-use Rattle.shm_graph.proofs.Spots.WordsAt.{block_header, no_head, page_class}
+use Rattle.shm_graph.proofs.Spots.{Fixed.fixed_is_at, Seeing.see_there, SpotPlaces.body_spot_at}
+use Rattle.shm_graph.proofs.Spots.{Spotting.{at_below, spot_before_bodies}, WordsAt.{block_header, no_head, page_class}}
 use Rattle.shm_plain.specs.Pools.{IsRun, Pool}
-use Rattle.shm_tree.specs.Building.{named_by}
-use Rattle.shm_tree.specs.Holding.{lives_below}
-use Rattle.shm_tree.specs.Keeping.{is_live}
+use Rattle.shm_tree.specs.{Building.named_by, Holding.lives_below, Keeping.is_live}
 
 -- ---- sums
 

@@ -1,19 +1,15 @@
 -- How many blocks came to be live where a tree was built, by the blocks that it has of its own.
 use Rattle.std.proofs.Common.{◌≡◌, ◌≢◌, ◌==◌, ℕ, ◌≤◌, ◌||◌, Bool, true, false, cond, List, [], ◌∷◌, ◌++◌, length, length-append, refl, sym, ap, ◌∙◌, subst, arith, inl, inr, true≢false}
-use Rattle.std.specs.List.{Contains}
 use Rattle.std.proofs.lemmas.Bool.{cases_eq, eqb-true, ne_eqb}
 use Rattle.std.proofs.lemmas.List.Elements.{Contains-append_left, Contains-append_right}
+use Rattle.std.specs.List.{Contains}
 use Rattle.shm_graph.specs.declared.spot.Spot.TheVariants.{Body}
 use Rattle.shm_plain.specs.Pools.{Pool}
 use Rattle.shm_count.specs.declared.answer.Made.{Made}
-use Rattle.shm_tree.specs.Building.{IsBuilt, named_by}
-use Rattle.shm_tree.specs.Inserting.{is_part, outside}
-use Rattle.shm_tree.specs.Keeping.{is_live}
-use Rattle.shm_tree.specs.Living.{AreFewNew, AreLivesNodes, AreRootsTrees}
-use Rattle.shm_tree.specs.Standing.{Stands, weight, word_of}
+use Rattle.shm_tree.specs.{Building.{IsBuilt, named_by}, Inserting.{is_part, outside}, Keeping.is_live}
+use Rattle.shm_tree.specs.{Living.{AreFewNew, AreLivesNodes, AreRootsTrees}, Standing.{Stands, weight, word_of}}
 use Rattle.shm_tree.specs.Trees.{Tree, Empty, Node}
-use Rattle.shm_tree.proofs.Lights.{either, once, outside_new, part_weighs, weighs_live}
-use Rattle.shm_tree.proofs.Ways.{stands_one}
+use Rattle.shm_tree.proofs.{Lights.{either, once, outside_new, part_weighs, weighs_live}, Ways.stands_one}
 
 -- the blocks of a tree that f counts
 abbrev counted : (f : ℕ → ℕ) → ℕ → List ℕ

@@ -1,24 +1,15 @@
 -- What a word named before that lost its reference.
 use Rattle.std.proofs.Common.{◌≡◌, ◌≢◌, ◌==◌, ℕ, zero, suc, List, [], ◌∷◌, sym, ◌∙◌, subst, inl, inr, arith}
+use Rattle.std.proofs.lemmas.{Bool.{cases_Bool, cond-true, cond-false, eq-eqb}, List.Elements.Contains-append_cases}
 use Rattle.std.specs.List.{AllByRecursion, Contains, filter}
-use Rattle.std.proofs.lemmas.Bool.{cases_Bool, cond-true, cond-false, eq-eqb}
-use Rattle.std.proofs.lemmas.List.Elements.{Contains-append_cases}
 use Rattle.shm_words.specs.declared.geometry.Geometry.{Geometry}
-use Rattle.shm_graph.specs.declared.run.Move.{Move}
-use Rattle.shm_graph.specs.declared.run.Move.TheVariants.{Begins, Dies, Word}
-use Rattle.shm_graph.specs.declared.spot.Spot.{Spot}
-use Rattle.shm_graph.specs.Asks.{at_of}
+use Rattle.shm_graph.specs.{declared.{run.Move.{Move, TheVariants.{Begins, Dies, Word}}, spot.Spot.Spot}, Asks.at_of}
 use Rattle.shm_graph.specs.CallEvents.{events_in}
 use Rattle.shm_graph.specs.Events.{Event, Nothing, Alloc, Up, Down, ChangeUp, ChangeDown, Free, Graph, Happens}
-use Rattle.shm_graph.specs.Laws.{event_on}
-use Rattle.shm_graph.specs.Runs.{Leads, State, memos_of, moved}
-use Rattle.shm_graph.specs.Spots.{classes_in, same_spot, see, spot_at}
-use Rattle.shm_graph.specs.Tells.{is_event}
-use Rattle.shm_plain.specs.Calls.{AreOf, Did, state_of}
-use Rattle.shm_plain.specs.Pools.{IsRun, Pool}
-use Rattle.shm_tree.proofs.Firsts.{begins_graph, graph_at}
-use Rattle.shm_tree.proofs.Nodes.{names}
-use Rattle.shm_tree.proofs.Turns.{did_leads}
+use Rattle.shm_graph.specs.{Laws.event_on, Runs.{Leads, State, memos_of, moved}}
+use Rattle.shm_graph.specs.{Spots.{classes_in, same_spot, see, spot_at}, Tells.is_event}
+use Rattle.shm_plain.specs.{Calls.{AreOf, Did, state_of}, Pools.{IsRun, Pool}}
+use Rattle.shm_tree.proofs.{Firsts.{begins_graph, graph_at}, Nodes.names, Turns.did_leads}
 
 -- a reference is lost, or a block is freed
 abbrev pub Loses : Event → Type 0

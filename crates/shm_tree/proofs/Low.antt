@@ -1,8 +1,6 @@
 -- How high a balanced tree of n keys may be.
-use Rattle.std.proofs.Common.{◌≡◌, ℕ, suc, ◌+◌, ◌*◌, ◌^◌, ◌≤◌, max, inl, inr, refl, arith}
-use Rattle.std.proofs.lemmas.Bool.{cases_lt}
-use Rattle.std.proofs.lemmas.Nat.{mul-le}
-use Rattle.std.proofs.Math.Nat.{add-mul, mul-add, pow-suc}
+use Rattle.std.proofs.{Common.{◌≡◌, ℕ, suc, ◌+◌, ◌*◌, ◌^◌, ◌≤◌, max, inl, inr, refl, arith}, lemmas.Bool.cases_lt}
+use Rattle.std.proofs.{lemmas.Nat.mul-le, Math.Nat.{add-mul, mul-add, pow-suc}}
 use Rattle.shm_tree.specs.Trees.{Empty, Node, height, size, AreNear, IsLow}
 
 square_of_sum : (a b : ℕ) → (a + b) * (a + b) ≡ (a * a + a * b) + (b * a + b * b)

@@ -1,54 +1,32 @@
 -- What an allocation of a node leaves.
 use Rattle.std.proofs.Common.{◌≡◌, ◌≢◌, ℕ, ◌+◌, ◌<◌, ◌≤◌, Bool, true, false, cond, List, [], ◌∷◌, length, append-nil, refl, sym, ap, ◌∙◌, subst, arith, inl, inr}
-use Rattle.std.specs.Prelude.{Result, Ok, Err, slice_index}
-use Rattle.std.specs.List.{Contains}
-use Rattle.std.proofs.lemmas.Bool.{cases_Bool, ne_eqb}
-use Rattle.std.proofs.lemmas.List.{get_or-take}
+use Rattle.std.proofs.lemmas.{Bool.{cases_Bool, ne_eqb}, List.get_or-take}
 use Rattle.std.proofs.lemmas.List.Elements.{All-contains, Contains-append_left}
-use Rattle.shm_words.specs.declared.geometry.Geometry.{Geometry}
-use Rattle.shm_words.specs.declared.tag.Tag.{Tag as ATag}
-use Rattle.shm_words.specs.Layout.{place_limit}
+use Rattle.std.specs.{Prelude.{Result, Ok, Err, slice_index}, List.Contains}
+use Rattle.shm_words.specs.{declared.{geometry.Geometry.Geometry, tag.Tag.Tag as ATag}, Layout.place_limit}
 use Rattle.shm_words.specs.Tags.{TagFits, tag_plain, tag_refs, tag_word}
 use Rattle.shm_words.proofs.Words.{live_not_zero, tag_plain-word, tag_refs-word}
-use Rattle.shm_graph.specs.declared.ask.Me.{Me}
-use Rattle.shm_graph.specs.declared.memo.Memo.{Memo}
-use Rattle.shm_graph.specs.declared.memo.Stored.{Stored}
-use Rattle.shm_graph.specs.declared.spot.Spot.{Spot}
-use Rattle.shm_graph.specs.declared.spot.Spot.TheVariants.{Body, Head, Home, Root, Tag}
-use Rattle.shm_graph.specs.Asks.{Trail}
-use Rattle.shm_graph.specs.Bounds.{alloc_steps}
-use Rattle.shm_graph.specs.Blocks.{IsLive, headers}
-use Rattle.shm_graph.specs.Events.{Alloc, Event, Graph, Happens, graph_of}
-use Rattle.shm_graph.specs.Held.{HeldAt, is_loose}
-use Rattle.shm_graph.specs.Runs.{memos_of}
-use Rattle.shm_graph.specs.Spots.{see}
-use Rattle.shm_graph.specs.Views.{View, own_word, view}
-use Rattle.shm_graph.proofs.Memos.KnownChange.{KnownHolds}
-use Rattle.shm_graph.proofs.States.Holders.{held_live_not_zero, reach_counted}
-use Rattle.shm_plain.specs.Calls.{Did}
-use Rattle.shm_plain.specs.Pools.{Pool, memo_of, pool}
-use Rattle.shm_count.specs.declared.answer.Made.{Made}
-use Rattle.shm_count.specs.Roots.{root_word}
-use Rattle.shm_count.specs.Tear.Memos.{Knows}
-use Rattle.shm_alloc.specs.declared.alloc.AllocFault.{AllocFault}
+use Rattle.shm_graph.specs.declared.{ask.Me.Me, memo.{Memo.Memo, Stored.Stored}, spot.Spot.Spot}
+use Rattle.shm_graph.specs.{declared.spot.Spot.TheVariants.{Body, Head, Home, Root, Tag}, Asks.Trail}
+use Rattle.shm_graph.specs.{Bounds.alloc_steps, Blocks.{IsLive, headers}}
+use Rattle.shm_graph.specs.{Events.{Alloc, Event, Graph, Happens, graph_of}, Held.{HeldAt, is_loose}, Runs.memos_of}
+use Rattle.shm_graph.specs.{Spots.see, Views.{View, own_word, view}}
+use Rattle.shm_graph.proofs.{Memos.KnownChange.KnownHolds, States.Holders.{held_live_not_zero, reach_counted}}
+use Rattle.shm_plain.specs.{Calls.Did, Pools.{Pool, memo_of, pool}}
+use Rattle.shm_count.specs.{declared.answer.Made.Made, Roots.root_word, Tear.Memos.Knows}
+use Rattle.shm_alloc.specs.declared.{alloc.AllocFault.AllocFault, point.AllocState.AllocState}
+use Rattle.shm_alloc.specs.Alloc.{Control.tag_asked, AllocGives, IsPrepared, MadeGives, goal_of, more_stored}
 use Rattle.shm_alloc.specs.declared.alloc.AllocFault.TheVariants as fault
-use Rattle.shm_alloc.specs.declared.point.AllocState.{AllocState}
-use Rattle.shm_alloc.specs.Alloc.Control.{tag_asked}
 use Rattle.shm_alloc.proofs.AllocBound.{alloc_bound}
-use Rattle.shm_alloc.specs.Alloc.{AllocGives, IsPrepared, MadeGives, goal_of, more_stored}
 use Rattle.plain_calls.specs.Allocating.{IsAsked}
-use Rattle.shm_tree.specs.declared.node.Content.{Content}
-use Rattle.shm_tree.specs.declared.stop.Stop.TheVariants as stop
-use Rattle.shm_tree.specs.Bounds.{make_steps}
-use Rattle.shm_tree.specs.Causes.{AllocRefused}
-use Rattle.shm_tree.specs.Keeping.{IsMade, IsStill, KeepsNodes, is_live, made_in}
-use Rattle.shm_tree.specs.Standing.{IsNode, word_of}
+use Rattle.shm_tree.specs.{declared.node.Content.Content, Bounds.make_steps, Causes.AllocRefused}
+use Rattle.shm_tree.specs.{Keeping.{IsMade, IsStill, KeepsNodes, is_live, made_in}, Standing.{IsNode, word_of}}
 use Rattle.shm_tree.specs.Working.{DiedIn, HasRoom, IsSameLatch, IsWorking, Reaches}
+use Rattle.shm_tree.specs.declared.stop.Stop.TheVariants as stop
 use Rattle.shm_tree.proofs.Alive.{IsHomeless, IsOn, IsQuiet, after, before, known_tag, known_word, still, works}
 use Rattle.shm_tree.proofs.Firsts.{first_tells}
 use Rattle.shm_tree.proofs.Nodes.{IsCalm, as_started, calm_first, calm_held, from_started, life_same, node_kept, trees_kept}
-use Rattle.shm_tree.proofs.Reach.{reach_grows}
-use Rattle.shm_tree.proofs.Shares.{within_self}
+use Rattle.shm_tree.proofs.{Reach.reach_grows, Shares.within_self}
 
 -- ---- a tag
 

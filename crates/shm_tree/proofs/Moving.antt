@@ -1,31 +1,23 @@
 -- What parts of lines leave of registers and of their versions.
 use Rattle.std.proofs.Common.{◌≡◌, ◌≢◌, ◌==◌, ℕ, ◌*◌, ◌<◌, ◌≤◌, Bool, true, false, List, length, lit≤, refl, sym, ap, ◌∙◌, subst, arith, Result, Ok, Err, inl, inr, ◌⊎◌, true≢false}
-use Rattle.std.specs.Prelude.{slice_index, slice_set, Option, None, Some, IfErr, IfOk}
-use Rattle.std.specs.List.{IsAnyAnswer}
-use Rattle.std.specs.Option.{is_some}
-use Rattle.std.specs.Result.{IsErrAnd}
-use Rattle.std.proofs.lemmas.Bool.{cases_eq, cases_lt, eq-eqb, eqb-true}
-use Rattle.std.proofs.lemmas.Grind.{get_or-set_at}
+use Rattle.std.proofs.lemmas.{Bool.{cases_eq, cases_lt, eq-eqb, eqb-true}, Grind.get_or-set_at}
 use Rattle.std.proofs.lemmas.List.{get_or-set_other, length-set}
+use Rattle.std.specs.{Prelude.{slice_index, slice_set, Option, None, Some, IfErr, IfOk}, List.IsAnyAnswer}
+use Rattle.std.specs.{Option.is_some, Result.IsErrAnd}
 use Rattle.shm_plain.specs.Pools.{Pool, memo_of}
 use Rattle.shm_count.specs.declared.answer.Made.{Made}
-use Rattle.shm_tree.specs.declared.registers.Registers.{Registers}
-use Rattle.shm_tree.specs.declared.stop.Stop.{Stop}
-use Rattle.shm_tree.specs.declared.stop.Stop.TheVariants as stop
+use Rattle.shm_tree.specs.declared.{registers.Registers.Registers, stop.Stop.Stop, remove.Removed.Removed}
 use Rattle.shm_tree.specs.Building.{named_by}
 use Rattle.shm_tree.specs.Forests.{Calls, HasVersions, IsCleared, IsPruned, IsTaken, IsForest, IsFree, IsLeft, IsLopped, IsPut, IsSpare, IsTidy, KeepsNamed, KeepsRegisters, KeepsRoot, KeepsRoots, KeepsVersions, Moves, Stopped, block_in, is_over, root_at, version}
-use Rattle.shm_tree.specs.Keeping.{IsStill}
-use Rattle.shm_tree.specs.Standing.{IsTree, Stands}
-use Rattle.shm_tree.specs.declared.remove.Removed.{Removed}
-use Rattle.shm_tree.specs.Inserting.{IsRegistered}
+use Rattle.shm_tree.specs.{Keeping.IsStill, Standing.{IsTree, Stands}, Inserting.IsRegistered}
 use Rattle.shm_tree.specs.Removing.{IsKept, IsRemoved, IsWithout}
 use Rattle.shm_tree.specs.Trees.{Tree, Empty, Node, found, height, inserted, removed}
 use Rattle.shm_tree.specs.Working.{AreSameRoots, IfAlive, IfRefused, IsEmptied, IsOver, IsRooted, IsSameLatch, IsWorking, Went}
+use Rattle.shm_tree.specs.declared.stop.Stop.TheVariants as stop
 use Rattle.shm_tree.proofs.Answering.{alive_died, alive_map, cause_died, refused_died, refused_map}
 use Rattle.shm_tree.proofs.Building.{built_cut, went_on}
 use Rattle.shm_tree.proofs.Forests.{block_low, block_none, forest_over, named_cut, named_same, named_still, planted_rooted, registers_named, registers_over, registers_then, root_still, stopped_after, stopped_here, stopped_on, told, untold, version_kept, versions_over}
-use Rattle.shm_tree.proofs.Insertions.{inserts_well}
-use Rattle.shm_tree.proofs.Removals.{removes_well}
+use Rattle.shm_tree.proofs.{Insertions.inserts_well, Removals.removes_well}
 
 -- ---- parts of lines
 

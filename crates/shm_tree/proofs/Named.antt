@@ -1,38 +1,25 @@
 -- Each live block is a node of a tree that a root names, where references fall, or a tree stands at each live block.
 use Rattle.std.proofs.Common.{◌≡◌, ◌≢◌, ◌==◌, ◌||◌, ℕ, zero, suc, ◌+◌, ◌-◌, ◌<◌, ◌≤◌, Bool, true, false, cond, List, [], sym, ap, ◌∙◌, subst, arith, inl, inr, true≢false}
-use Rattle.std.specs.List.{Contains}
 use Rattle.std.proofs.lemmas.Bool.{and_parts, cases_Bool, cases_eq, eqb-true, eq-eqb, ltb-true, ne_eqb}
-use Rattle.shm_words.specs.declared.geometry.Geometry.{Geometry}
-use Rattle.shm_words.specs.declared.place.Place.{Place}
+use Rattle.std.specs.List.{Contains}
+use Rattle.shm_words.specs.declared.{geometry.Geometry.Geometry, place.Place.Place}
+use Rattle.shm_words.specs.{Layout.{is_in, place_at, total_of}, Tags.tag_refs}
 use Rattle.shm_words.specs.declared.place.Place.TheVariants as place
-use Rattle.shm_words.specs.Layout.{is_in, place_at, total_of}
-use Rattle.shm_words.specs.Tags.{tag_refs}
 use Rattle.shm_words.proofs.Placing.{in_place}
-use Rattle.shm_graph.specs.declared.spot.Spot.{Spot}
-use Rattle.shm_graph.specs.declared.spot.Spot.TheVariants.{Unused, Head, Tag, Body, Home, Root, Slot}
-use Rattle.shm_graph.specs.Blocks.{classes, headers}
-use Rattle.shm_graph.specs.Ops.{held_over_of, indegree}
-use Rattle.shm_graph.specs.References.{one_if, references_to, sum_below}
-use Rattle.shm_graph.specs.Spots.{see, spot_at, spot_of}
-use Rattle.shm_graph.specs.Views.{View, held_overs, targets, view}
-use Rattle.shm_graph.specs.Runs.{memos_of}
+use Rattle.shm_graph.specs.declared.spot.Spot.{Spot, TheVariants.{Unused, Head, Tag, Body, Home, Root, Slot}}
+use Rattle.shm_graph.specs.{Blocks.{classes, headers}, Ops.{held_over_of, indegree}}
+use Rattle.shm_graph.specs.{References.{one_if, references_to, sum_below}, Spots.{see, spot_at, spot_of}}
+use Rattle.shm_graph.specs.{Views.{View, held_overs, targets, view}, Runs.memos_of}
 use Rattle.shm_graph.proofs.States.Holders.{held_live_not_zero, target_counted}
 use Rattle.shm_plain.specs.Pools.{Pool, memo_of}
 use Rattle.shm_count.specs.declared.answer.Made.{Made}
-use Rattle.shm_tree.proofs.Eras.{spent_stays}
-use Rattle.shm_tree.proofs.Lights.{once, part_weighs, weighs_live}
-use Rattle.shm_tree.specs.Building.{IsBuilt, named_by}
-use Rattle.shm_tree.specs.Falling.{AreFalling}
-use Rattle.shm_tree.specs.Inserting.{is_part, outside}
-use Rattle.shm_tree.specs.Keeping.{is_live}
-use Rattle.shm_tree.specs.Living.{AreFewNew, AreLivesNodes, AreLivesTrees, AreRootsTrees, KeepsLives}
-use Rattle.shm_tree.specs.Standing.{Stands, weight, word_of}
-use Rattle.shm_tree.specs.Trees.{Tree, Empty, Node}
-use Rattle.shm_tree.specs.Working.{IsSpent, IsWorking, Went}
-use Rattle.shm_tree.proofs.Lights.{either, or_first, or_true}
-use Rattle.shm_tree.proofs.Living.{lives_few}
-use Rattle.shm_tree.proofs.Falls.{body_inside, lives_fall}
+use Rattle.shm_tree.proofs.{Eras.spent_stays, Lights.{once, part_weighs, weighs_live, either, or_first, or_true}}
+use Rattle.shm_tree.proofs.{Living.lives_few, Falls.{body_inside, lives_fall}}
 use Rattle.shm_tree.proofs.Nodes.{IsCalm, body_names, calm_first, calm_held, names, root_is, root_names, working_calm}
+use Rattle.shm_tree.specs.{Building.{IsBuilt, named_by}, Falling.AreFalling, Inserting.{is_part, outside}}
+use Rattle.shm_tree.specs.{Keeping.is_live, Living.{AreFewNew, AreLivesNodes, AreLivesTrees, AreRootsTrees, KeepsLives}}
+use Rattle.shm_tree.specs.{Standing.{Stands, weight, word_of}, Trees.{Tree, Empty, Node}}
+use Rattle.shm_tree.specs.Working.{IsSpent, IsWorking, Went}
 
 -- ---- nodes of trees
 

@@ -1,13 +1,9 @@
 -- The words of a node, by their addresses.
 use Rattle.std.proofs.Common.{◌≡◌, ℕ, ◌+◌, ◌<◌, get_or, inl, inr, refl, sym, ap, subst, ◌∙◌, arith}
-use Rattle.shm_words.specs.declared.geometry.Geometry.{Geometry}
-use Rattle.shm_words.specs.Classes.{IsClass, class_for}
-use Rattle.shm_words.specs.Layout.{total_of}
+use Rattle.shm_words.specs.{declared.geometry.Geometry.Geometry, Classes.{IsClass, class_for}, Layout.total_of}
 use Rattle.shm_words.specs.Tags.{tag_plain, tag_refs}
-use Rattle.shm_graph.specs.declared.spot.Spot.TheVariants.{Body, Tag}
-use Rattle.shm_graph.specs.Spots.{class_at, classes_in}
-use Rattle.shm_graph.proofs.Spots.Seeing.{classes-see, see_at}
-use Rattle.shm_graph.proofs.Spots.Spotting.{body_spot, in_block}
+use Rattle.shm_graph.specs.{declared.spot.Spot.TheVariants.{Body, Tag}, Spots.{class_at, classes_in}}
+use Rattle.shm_graph.proofs.Spots.{Seeing.{classes-see, see_at}, Spotting.{body_spot, in_block}}
 use Rattle.shm_graph.proofs.States.Reading.{live_block}
 use Rattle.shm_plain.specs.Pools.{IsRun, Pool}
 use Rattle.shm_tree.specs.Standing.{IsNode, word_of}

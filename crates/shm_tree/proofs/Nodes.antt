@@ -1,35 +1,19 @@
 -- Nodes, trees, live blocks and roots of a pool between two calls of its one client.
 use Rattle.std.proofs.Common.{◌≡◌, ℕ, ◌+◌, ◌<◌, ◌≤◌, true, List, [], ◌++◌, length, refl, sym, ap, ◌∙◌, subst, arith, ltb}
-use Rattle.std.specs.List.{AllByRecursion, filter}
-use Rattle.std.proofs.lemmas.Bool.{cond-true, lt-ltb, cond-false, le-ltb}
-use Rattle.std.proofs.lemmas.List.{length-append}
+use Rattle.std.proofs.lemmas.{Bool.{cond-true, lt-ltb, cond-false, le-ltb}, List.length-append}
 use Rattle.std.proofs.lemmas.List.Elements.{filter-append}
-use Rattle.shm_words.specs.declared.geometry.Geometry.{Geometry}
-use Rattle.shm_words.specs.Headers.{header_of}
-use Rattle.shm_words.specs.Tags.{tag_refs}
-use Rattle.shm_graph.specs.declared.memo.Op.{Op}
-use Rattle.shm_graph.specs.declared.memo.Op.TheVariants as op
-use Rattle.shm_graph.specs.declared.run.Account.{Account}
-use Rattle.shm_graph.specs.declared.run.Move.{Move}
-use Rattle.shm_graph.specs.declared.run.Start.{Start}
-use Rattle.shm_graph.specs.declared.spot.Spot.{Spot}
-use Rattle.shm_graph.specs.declared.spot.Spot.TheVariants.{Body, Head, Home, Root, Tag}
-use Rattle.shm_graph.specs.Blocks.{headers}
-use Rattle.shm_graph.specs.Events.{Event}
-use Rattle.shm_graph.specs.Held.{HeldAt}
-use Rattle.shm_graph.specs.Ops.{cover, cover_of, covered}
-use Rattle.shm_graph.specs.References.{words_of}
-use Rattle.shm_graph.specs.Runs.{memos_of}
-use Rattle.shm_graph.specs.Spots.{see}
+use Rattle.std.specs.List.{AllByRecursion, filter}
+use Rattle.shm_words.specs.{declared.geometry.Geometry.Geometry, Headers.header_of, Tags.tag_refs}
+use Rattle.shm_graph.specs.declared.{memo.Op.Op, run.{Account.Account, Move.Move, Start.Start}, spot.Spot.Spot}
+use Rattle.shm_graph.specs.{declared.spot.Spot.TheVariants.{Body, Head, Home, Root, Tag}, Blocks.headers, Events.Event}
+use Rattle.shm_graph.specs.{Held.HeldAt, Ops.{cover, cover_of, covered}, References.words_of, Runs.memos_of, Spots.see}
 use Rattle.shm_graph.specs.Views.{View, targets, view}
+use Rattle.shm_graph.specs.declared.memo.Op.TheVariants as op
 use Rattle.shm_graph.proofs.States.HomeTarget.{covered_left}
-use Rattle.shm_plain.specs.Calls.{Did}
-use Rattle.shm_plain.specs.Pools.{IsRun, Pool, memo_of, pool}
+use Rattle.shm_plain.specs.{Calls.Did, Pools.{IsRun, Pool, memo_of, pool}}
 use Rattle.shm_count.specs.Roots.{root_word}
 use Rattle.shm_tree.specs.Keeping.{HasMade, IsStill, KeepsNode, KeepsNodes, KeepsTrees, is_alloc, is_live, made_in}
-use Rattle.shm_tree.specs.Standing.{IsNode, Stands, word_of}
-use Rattle.shm_tree.specs.Trees.{Empty, Node}
-use Rattle.shm_tree.specs.Working.{AreSameRoots, IsWorking}
+use Rattle.shm_tree.specs.{Standing.{IsNode, Stands, word_of}, Trees.{Empty, Node}, Working.{AreSameRoots, IsWorking}}
 use Rattle.shm_tree.proofs.Frames.{HasPlain, Unfreed, Unlived, Untouched, life_kept, plain_kept, target_kept}
 use Rattle.shm_tree.proofs.Turns.{did_keeps, did_then}
 

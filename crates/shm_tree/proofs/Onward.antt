@@ -1,12 +1,8 @@
 -- One node further behind the node of a key: to the right of that one, and then to the left.
-use Rattle.std.proofs.Common.{◌≡◌, ◌≢◌, Bool, ℕ, cond, refl, sym, subst, arith}
-use Rattle.std.proofs.lemmas.Bool.{le-ltb, lt-ltb}
+use Rattle.std.proofs.{Common.{◌≡◌, ◌≢◌, Bool, ℕ, cond, refl, sym, subst, arith}, lemmas.Bool.{le-ltb, lt-ltb}}
 use Rattle.shm_plain.specs.Pools.{Pool}
-use Rattle.shm_tree.specs.declared.node.Side.TheVariants.{Left, Right}
-use Rattle.shm_tree.specs.Keeping.{IsStill, child_of}
-use Rattle.shm_tree.specs.Standing.{Stands}
-use Rattle.shm_tree.specs.Trees.{Tree, Empty, Node, AreAbove}
-use Rattle.shm_tree.specs.Ways.{IsEnd, toward}
+use Rattle.shm_tree.specs.{declared.node.Side.TheVariants.{Left, Right}, Keeping.{IsStill, child_of}, Standing.Stands}
+use Rattle.shm_tree.specs.{Trees.{Tree, Empty, Node, AreAbove}, Ways.{IsEnd, toward}}
 
 left_stands : (p : Pool) (b x : ℕ) (t : Tree) → AreAbove x t → b ≢ 0 → Stands p b t → Stands p (child_of p b Left) (toward x t)
 left_stands p b x Empty above some st = absurd (some st)

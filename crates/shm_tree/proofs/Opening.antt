@@ -2,22 +2,13 @@
 use Rattle.std.proofs.Common.{◌≡◌, ℕ, zero, suc, ◌+◌, ◌<◌, ◌≤◌, Bool, true, false, lit≤, refl, sym, ap, ◌∙◌, subst, arith, inl}
 use Rattle.std.specs.Prelude.{slice_index, slice_index_or, replicate, Option, Some, IfSome}
 use Rattle.shm_words.specs.declared.geometry.Geometry.{Geometry}
-use Rattle.shm_graph.specs.declared.memo.Kind.TheVariants.{Client}
-use Rattle.shm_graph.specs.declared.memo.Memo.{Memo}
-use Rattle.shm_graph.specs.declared.run.Start.{Start}
-use Rattle.shm_graph.specs.declared.spot.Spot.TheVariants.{Home, Root}
-use Rattle.shm_graph.specs.Agents.{entered, recovers, steps_made}
-use Rattle.shm_graph.specs.Held.{is_loose}
-use Rattle.shm_graph.specs.Runs.{first_memo}
-use Rattle.shm_graph.specs.Views.{own_word}
+use Rattle.shm_graph.specs.declared.{memo.{Kind.TheVariants.Client, Memo.Memo}, run.Start.Start}
+use Rattle.shm_graph.specs.{declared.spot.Spot.TheVariants.{Home, Root}, Agents.{entered, recovers, steps_made}}
+use Rattle.shm_graph.specs.{Held.is_loose, Runs.first_memo, Views.own_word}
 use Rattle.shm_graph.proofs.States.FirstHeld.{memos_start}
-use Rattle.shm_plain.specs.Calls.{IsAtWork, Ran}
-use Rattle.shm_plain.specs.Pools.{IsRun, Pool, first_pool, memo_of}
+use Rattle.shm_plain.specs.{Calls.{IsAtWork, Ran}, Pools.{IsRun, Pool, first_pool, memo_of}}
 use Rattle.shm_recover.specs.Join.{JoinGives, join_fresh}
-use Rattle.shm_tree.specs.Forests.{HasVersions, IsForest, block_in}
-use Rattle.shm_tree.specs.Standing.{IsTree}
-use Rattle.shm_tree.specs.Trees.{Empty}
-use Rattle.shm_tree.specs.Working.{IsWorking}
+use Rattle.shm_tree.specs.{Forests.{HasVersions, IsForest, block_in}, Standing.IsTree, Trees.Empty, Working.IsWorking}
 use Rattle.shm_tree.proofs.Moving.{nothing_tree}
 
 at_replicate : {A : Type 0} (n r : ℕ) (x d : A) → r < n → slice_index_or (replicate n x) r d ≡ x

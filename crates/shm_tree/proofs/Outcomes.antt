@@ -4,28 +4,18 @@ use Rattle.std.specs.Prelude.{IfErr, IfOk, is_ok}
 use Rattle.shm_words.specs.Layout.{GeometryFits}
 use Rattle.shm_graph.specs.declared.run.Start.{Start}
 use Rattle.shm_plain.specs.Pools.{Pool}
-use Rattle.shm_tree.specs.declared.line.TreeAnswer.{TreeAnswer}
-use Rattle.shm_tree.specs.declared.line.TreeAnswer.TheVariants as answers
-use Rattle.shm_tree.specs.declared.line.TreeLine.{TreeLine}
-use Rattle.shm_tree.specs.declared.line.TreeTurn.{TreeTurn}
-use Rattle.shm_tree.specs.declared.line.TreeTurn.TheVariants as turns
-use Rattle.shm_tree.specs.declared.registers.Registers.{Registers}
-use Rattle.shm_tree.specs.declared.stop.Stop.{Stop}
-use Rattle.shm_tree.specs.declared.stop.Stop.TheVariants as stop
-use Rattle.shm_tree.specs.CutShort.{IsCutShort, IsWordless}
-use Rattle.shm_tree.specs.Falling.{AreFalling}
-use Rattle.shm_tree.specs.ForestCalls.{RanLine}
+use Rattle.shm_tree.specs.declared.line.{TreeAnswer.TreeAnswer, TreeLine.TreeLine, TreeTurn.TreeTurn}
+use Rattle.shm_tree.specs.{declared.{registers.Registers.Registers, stop.Stop.Stop}, CutShort.{IsCutShort, IsWordless}}
+use Rattle.shm_tree.specs.{Falling.AreFalling, ForestCalls.RanLine}
 use Rattle.shm_tree.specs.Forests.{DoesLine, DoesTurn, HasVersions, IsCaused, IsForest, IsInRange, IsLost, IsOwn, IsReading, IsSwept, IsUnspent, KeepsRegisters, Moves, Stopped, is_died, turn_by, turn_of}
-use Rattle.shm_tree.specs.Keeping.{AreSameLives}
-use Rattle.shm_tree.specs.Living.{AreFewNew, AreLivesTrees}
-use Rattle.shm_tree.specs.Trees.{Tree}
-use Rattle.shm_tree.specs.declared.line.TreeLine.TheVariants as lines
+use Rattle.shm_tree.specs.{Keeping.AreSameLives, Living.{AreFewNew, AreLivesTrees}, Trees.Tree}
 use Rattle.shm_tree.specs.Costing.{Costs, CostsLine, EndsLine, FewLine, FewSet, IfEnded, IfStopped, SpendsLine, call_steps, line_steps, made_most, new_most, sweep_steps}
 use Rattle.shm_tree.specs.Working.{IfAlive, IfRefused, Went}
-use Rattle.shm_tree.proofs.Bounding.{line_most}
-use Rattle.shm_tree.proofs.Eras.{spent_stays}
-use Rattle.shm_tree.proofs.Forests.{registers_versions}
-use Rattle.shm_tree.proofs.Moving.{is_over_not}
+use Rattle.shm_tree.specs.declared.line.TreeAnswer.TheVariants as answers
+use Rattle.shm_tree.specs.declared.line.TreeTurn.TheVariants as turns
+use Rattle.shm_tree.specs.declared.stop.Stop.TheVariants as stop
+use Rattle.shm_tree.specs.declared.line.TreeLine.TheVariants as lines
+use Rattle.shm_tree.proofs.{Bounding.line_most, Eras.spent_stays, Forests.registers_versions, Moving.is_over_not}
 use Rattle.shm_tree.proofs.Fresh.{made_few}
 use Rattle.shm_tree.proofs.Refusals.{alive_two, all_of, none_least, refused_three, spends_more, spends_of}
 use Rattle.shm_tree.proofs.Settled.{settled_same, settled_trees}

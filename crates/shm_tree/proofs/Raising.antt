@@ -4,19 +4,14 @@ use Rattle.std.specs.Prelude.{IfSome, Option, None, Some}
 use Rattle.shm_graph.specs.declared.spot.Spot.TheVariants.{Body}
 use Rattle.shm_plain.specs.Pools.{IsRun, Pool}
 use Rattle.shm_count.specs.declared.answer.Made.{Made}
-use Rattle.shm_tree.specs.declared.node.Content.{Content}
-use Rattle.shm_tree.specs.declared.node.Side.{Side}
-use Rattle.shm_tree.specs.declared.node.Side.TheVariants.{Left, Right}
+use Rattle.shm_tree.specs.declared.node.{Content.Content, Side.{Side, TheVariants.{Left, Right}}}
 use Rattle.shm_tree.specs.Building.{IsCheap, IsHeld, IsRebuilt, StandsOf, joined_by, named_by}
 use Rattle.shm_tree.specs.Keeping.{IsStill, KeepsTrees, child_of, node_by, other_side}
 use Rattle.shm_tree.specs.Raising.{IsCheapAt, IsOverAt, StandsAgain, WeighsAgain, content_or, side_of}
-use Rattle.shm_tree.specs.Sharing.{CountsTop, IsOver, WeighsJoined}
-use Rattle.shm_tree.specs.Standing.{Stands, weight, word_of}
+use Rattle.shm_tree.specs.{Sharing.{CountsTop, IsOver, WeighsJoined}, Standing.{Stands, weight, word_of}}
 use Rattle.shm_tree.specs.Trees.{Tree, Empty, Node}
-use Rattle.shm_tree.proofs.Building.{made_more, tree_still}
-use Rattle.shm_tree.proofs.Nodes.{made_then}
-use Rattle.shm_tree.proofs.Rotations.{child_kept, content_is, node_of, parts}
-use Rattle.shm_tree.proofs.Sharings.{some_high, top_kept}
+use Rattle.shm_tree.proofs.{Building.{made_more, tree_still}, Nodes.made_then}
+use Rattle.shm_tree.proofs.{Rotations.{child_kept, content_is, node_of, parts}, Sharings.{some_high, top_kept}}
 use Rattle.shm_tree.proofs.Weights.{weight_nodes}
 
 -- ---- after calls that look

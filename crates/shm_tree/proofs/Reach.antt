@@ -1,26 +1,16 @@
 -- What stays in reach of a client where its roots and its looks come to be more.
 use Rattle.std.proofs.Common.{◌≡◌, ◌≢◌, ℕ, zero, suc, ◌<◌, true, not, List, [], ◌∷◌, ◌++◌, map, append_assoc, refl, sym, ap, ◌∙◌, subst, arith, inl, inr, eqb}
-use Rattle.std.specs.Cmp.{nat_eq_equiv}
-use Rattle.std.specs.List.{Contains, filter, list_any}
-use Rattle.std.proofs.lemmas.Bool.{eqb-true, eq-eqb, ne_eqb, or_left, false≢true}
-use Rattle.std.proofs.lemmas.List.{map-append}
-use Rattle.std.proofs.lemmas.List.Elements.{Contains-append_cases, Contains-append_right}
-use Rattle.std.proofs.lemmas.List.Folds.{list_any-append}
+use Rattle.std.proofs.lemmas.{Bool.{eqb-true, eq-eqb, ne_eqb, or_left, false≢true}, List.map-append}
+use Rattle.std.proofs.lemmas.List.{Elements.{Contains-append_cases, Contains-append_right}, Folds.list_any-append}
 use Rattle.std.proofs.lemmas.Map.Views.{Contains-from_any, list_any-from_Contains}
-use Rattle.shm_graph.specs.declared.memo.Look.{Look}
-use Rattle.shm_graph.specs.declared.memo.Memo.{Memo}
-use Rattle.shm_graph.specs.declared.memo.Op.{Op}
-use Rattle.shm_graph.specs.declared.memo.Op.TheVariants.{Nothing}
-use Rattle.shm_graph.specs.declared.memo.Stored.{Stored}
-use Rattle.shm_graph.specs.declared.spot.Spot.{Spot}
-use Rattle.shm_graph.specs.declared.spot.Spot.TheVariants.{Home, Root}
-use Rattle.shm_graph.specs.Ops.{cover, cover_of}
+use Rattle.std.specs.{Cmp.nat_eq_equiv, List.{Contains, filter, list_any}}
+use Rattle.shm_graph.specs.declared.memo.{Look.Look, Memo.Memo, Op.{Op, TheVariants.Nothing}, Stored.Stored}
+use Rattle.shm_graph.specs.{declared.spot.Spot.{Spot, TheVariants.{Home, Root}}, Ops.{cover, cover_of}}
 use Rattle.shm_graph.specs.Reach.{in_slot, in_slots, is_reached, named_blocks, not_zero, reached_blocks, roots_below, shown}
 use Rattle.shm_graph.specs.Views.{own_word}
 use Rattle.shm_laws.proofs.Keep.{Contains-filter, filter_from}
 use Rattle.shm_steps.proofs.Reaching.{home_reached, look_reached, root_reached}
-use Rattle.shm_count.specs.Retaining.{named_reached, named_same}
-use Rattle.shm_count.specs.Tear.Memos.{is_slot_word}
+use Rattle.shm_count.specs.{Retaining.{named_reached, named_same}, Tear.Memos.is_slot_word}
 
 -- the looks came to be more
 looks_more : (c : ℕ) (m n : Memo) (ls : List Look) (d : ℕ) → n.looks ≡ m.looks ++ ls → Contains (map (λ (k : Look). k.block) m.looks) d → is_reached c n d ≡ true

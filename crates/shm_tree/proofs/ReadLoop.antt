@@ -1,14 +1,10 @@
 -- Reading line by line, as the loop goes.
 use Rattle.std.proofs.Common.{◌≡◌, ℕ, ◌+◌, ◌≤◌, Bool, true, false, cond, ltb, List, [], ◌∷◌, length, Result, Ok, Err, refl, sym, ap, ◌∙◌, arith}
-use Rattle.std.specs.Prelude.{◌==◌}
-use Rattle.std.specs.List.{slice_split}
 use Rattle.std.proofs.lemmas.Bool.Decides.{nat_tests}
-use Rattle.shm_script.specs.declared.fault.ParseStop.{ParseStop}
+use Rattle.std.specs.{Prelude.◌==◌, List.slice_split}
+use Rattle.shm_script.specs.declared.fault.{ParseStop.ParseStop, TraceKind.TheVariants.Syntax, TraceFault.TraceFault}
+use Rattle.shm_script.specs.{Drafts.{Stops, StopsAt}, Faults.{fault_at, limit_fault}}
 use Rattle.shm_script.specs.declared.fault.ParseStop.TheVariants as stop
-use Rattle.shm_script.specs.declared.fault.TraceKind.TheVariants.{Syntax}
-use Rattle.shm_script.specs.declared.fault.TraceFault.{TraceFault}
-use Rattle.shm_script.specs.Drafts.{Stops, StopsAt}
-use Rattle.shm_script.specs.Faults.{fault_at, limit_fault}
 use Rattle.shm_script.proofs.Cuts.{some_piece}
 use Rattle.shm_tree.specs.Scripts.{Drafted, Scripted, draft_none, drafted_line, may_end, read_or, reading, script_of}
 

@@ -1,30 +1,18 @@
 -- What the setting of a reference word does to the graph of references at any moment: of all words it makes this one alone name a block, and that one alone.
 use Rattle.std.proofs.Common.{◌≡◌, ◌≢◌, ℕ, ◌<◌, ◌≤◌, Bool, true, false, refl, sym, ap, ◌∙◌, subst}
-use Rattle.std.specs.Prelude.{Option, None, Some, Result, Ok}
-use Rattle.std.specs.List.{AllByRecursion}
-use Rattle.shm_graph.specs.declared.ask.Me.{Me}
-use Rattle.shm_graph.specs.declared.spot.Spot.{Spot}
-use Rattle.shm_graph.specs.declared.spot.Spot.TheVariants.{Body}
-use Rattle.shm_graph.specs.Asks.{Trail}
-use Rattle.shm_graph.specs.Tells.{happens_along}
-use Rattle.shm_calls.specs.declared.calls.Calls.{Calls}
-use Rattle.shm_calls.specs.declared.or.Or.TheVariants.{First, Second}
+use Rattle.std.specs.{Prelude.{Option, None, Some, Result, Ok}, List.AllByRecursion}
+use Rattle.shm_graph.specs.{declared.{ask.Me.Me, spot.Spot.{Spot, TheVariants.Body}}, Asks.Trail, Tells.happens_along}
+use Rattle.shm_calls.specs.declared.{calls.Calls.Calls, or.Or.TheVariants.{First, Second}}
 use Rattle.shm_calls.specs.CallsControl.{called_on, calls_control, calls_does, calls_of, planned}
-use Rattle.shm_plain.specs.Calls.{Did, Ran}
-use Rattle.shm_plain.specs.Pools.{Pool, memo_of}
-use Rattle.shm_count.specs.declared.point.Aim.{Aim}
-use Rattle.shm_count.specs.declared.point.Aim.TheVariants.{Up, Down, Change}
-use Rattle.shm_ref.specs.declared.answer.SetFault.{SetFault}
-use Rattle.shm_ref.specs.declared.set_ref.SetPoint.{SetPoint}
-use Rattle.shm_ref.specs.declared.set_ref.SetPoint.TheVariants as sets
-use Rattle.shm_ref.specs.declared.set_ref.SetState.{SetState}
-use Rattle.shm_ref.specs.SetRef.Control.{SetAnswer, SetCall, found_after, lowered_after, set_after, set_call_at, set_parts, set_turns, setting}
+use Rattle.shm_plain.specs.{Calls.{Did, Ran}, Pools.{Pool, memo_of}}
+use Rattle.shm_count.specs.declared.point.Aim.{Aim, TheVariants.{Up, Down, Change}}
+use Rattle.shm_ref.specs.declared.{answer.SetFault.SetFault, set_ref.{SetPoint.SetPoint, SetState.SetState}}
+use Rattle.shm_ref.specs.SetRef.Control.{SetAnswer, SetCall, found_after, lowered_after, set_after, set_call_at, set_parts, set_turns, setting, set_steered}
 use Rattle.shm_ref.specs.SetRef.{set_plan}
-use Rattle.shm_tree.specs.Falling.{AreFalling, IsUnnamed}
-use Rattle.shm_tree.specs.Working.{IsWorking}
+use Rattle.shm_ref.specs.declared.set_ref.SetPoint.TheVariants as sets
+use Rattle.shm_tree.specs.{Falling.{AreFalling, IsUnnamed}, Working.IsWorking}
 use Rattle.shm_tree.proofs.Anytime.{AimsAt, only_along, step_only, tear_only, told_falls}
-use Rattle.shm_tree.proofs.Falls.{IsLower, Ups, more_ups, raised}
-use Rattle.shm_tree.proofs.Unnamed.{Spares, unnamed_kept}
+use Rattle.shm_tree.proofs.{Falls.{IsLower, Ups, more_ups, raised}, Unnamed.{Spares, unnamed_kept}}
 
 -- the reference to `to` in word k of block b
 abbrev pub IsReference : ℕ → ℕ → ℕ → Spot → ℕ → Type 0
@@ -84,15 +72,15 @@ module _ (b k to : ℕ) where
   next_is m sets.Change h = h.target
   next_is m _ h = tt
 
-  planned_is : (c : SetCall) (m : SetState) (o : Option (Result (Unit {0}) SetFault)) → PlanIs m → CallIs c → SetIs (planned set_parts set_plan c m o)
+  planned_is : (c : SetCall) (m : SetState) (o : Option (Result (Unit {0}) SetFault)) → PlanIs m → CallIs c → SetIs (planned set_parts set_steered c m o)
   planned_is c m None h is = (h, next_is m m.point h)
   planned_is c m (Some a) h is = (h, is)
 
-  called_is : (m : SetState) (c : SetCall) (o : Option SetAnswer) → PlanIs m → CallIs c → SetIs (called_on set_parts set_plan m c o)
+  called_is : (m : SetState) (c : SetCall) (o : Option SetAnswer) → PlanIs m → CallIs c → SetIs (called_on set_parts set_steered m c o)
   called_is m c None h is = (h, is)
   called_is m c (Some a) h is = planned_is c (set_after m a) (set_turns m a) (plan_stays m a h) is
 
-  set_stays : (m : Calls SetState SetCall (Result (Unit {0}) SetFault) SetAnswer) (n : ℕ) → SetIs m → SetIs ((calls_control set_parts set_plan).after m n)
+  set_stays : (m : Calls SetState SetCall (Result (Unit {0}) SetFault) SetAnswer) (n : ℕ) → SetIs m → SetIs ((calls_control set_parts set_steered).after m n)
   set_stays m n h = called_is m.plan (set_parts.after m.call n) (set_parts.turns m.call n) h.0 (call_stays m.call n h.1)
 
   -- ---- what they tell
@@ -110,14 +98,14 @@ module _ (b k to : ℕ) where
   tells m (Second (Second (Second x))) n h is = tear_only (IsReference b k to) x.me x.block x.point n
 
   -- so its events make that reference alone
-  pub setting_only : (me : Me) (tr : Trail) → AllByRecursion (Ups (IsReference b k to)) (happens_along (calls_control set_parts set_plan) (calls_does set_parts set_plan) (calls_of set_plan (setting me b k to)) tr)
+  pub setting_only : (me : Me) (tr : Trail) → AllByRecursion (Ups (IsReference b k to)) (happens_along (calls_control set_parts set_steered) (calls_does set_parts set_plan) (calls_of set_steered (setting me b k to)) tr)
   setting_only me tr =
-      only_along (calls_control set_parts set_plan) (calls_does set_parts set_plan) SetIs (Ups (IsReference b k to)) set_stays (λ m n h. tells m.plan m.call n h.0 h.1)
-      (calls_of set_plan (setting me b k to)) tr (record { block = refl; word = refl; target = refl }, tt)
+      only_along (calls_control set_parts set_steered) (calls_does set_parts set_plan) SetIs (Ups (IsReference b k to)) set_stays (λ m n h. tells m.plan m.call n h.0 h.1)
+      (calls_of set_steered (setting me b k to)) tr (record { block = refl; word = refl; target = refl }, tt)
 
   -- ---- what it leaves
 
-  module _ (me : Me) (p q : Pool) (x y : ℕ) (w : IsWorking p) (told : 0 < x → Did 0 p q (happens_along (calls_control set_parts set_plan) (calls_does set_parts set_plan) (calls_of set_plan (setting me b k to)) (memo_of q 0).call)) (unnamed : IsUnnamed p b) (other : to ≢ b) where
+  module _ (me : Me) (p q : Pool) (x y : ℕ) (w : IsWorking p) (told : 0 < x → Did 0 p q (happens_along (calls_control set_parts set_steered) (calls_does set_parts set_plan) (calls_of set_steered (setting me b k to)) (memo_of q 0).call)) (unnamed : IsUnnamed p b) (other : to ≢ b) where
     -- a block that no word of a block names may get any rank, so that its references fall, whether the call is answered or not
     pub setting_falls : (answered : Bool) → Ran 0 true answered p q x y → AreFalling p → AreFalling q
     setting_falls answered ran h =

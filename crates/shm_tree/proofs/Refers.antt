@@ -1,50 +1,29 @@
 -- What it leaves to have a node refer to a child.
 use Rattle.std.proofs.Common.{◌≡◌, ◌≢◌, ℕ, zero, suc, ◌+◌, ◌<◌, true, false, List, [], ◌∷◌, ◌++◌, length, append-nil, refl, sym, ap, ◌∙◌, subst, arith, inl, inr, eqb, ◌&&◌}
-use Rattle.std.specs.Prelude.{Some, Result, Ok, Err}
-use Rattle.std.specs.List.{Contains, filter}
 use Rattle.std.proofs.lemmas.Bool.{eq-eqb, ne_eqb}
-use Rattle.shm_graph.specs.declared.ask.Me.{Me}
-use Rattle.shm_graph.specs.declared.memo.Memo.{Memo}
-use Rattle.shm_graph.specs.declared.memo.Stored.{Stored}
-use Rattle.shm_graph.specs.declared.run.Start.{Start}
-use Rattle.shm_graph.specs.declared.spot.Spot.{Spot}
-use Rattle.shm_graph.specs.declared.spot.Spot.TheVariants.{Body, Home, Root, Tag}
-use Rattle.shm_graph.specs.Asks.{IsWithin, Trail}
-use Rattle.shm_graph.specs.Bounds.{change_steps, tear_steps}
-use Rattle.shm_graph.specs.Core.{core}
-use Rattle.shm_graph.specs.Events.{ChangeDown, ChangeUp, Down, Event, Graph, Happens, Up, graph_of}
-use Rattle.shm_graph.specs.Idle.{hold_word}
-use Rattle.shm_graph.specs.Reach.{is_reached}
-use Rattle.shm_graph.specs.Spots.{same_spot, see}
-use Rattle.shm_graph.specs.Views.{View}
-use Rattle.shm_plain.specs.Calls.{Did}
-use Rattle.shm_plain.specs.Pools.{Pool, memo_of}
-use Rattle.shm_count.specs.Retaining.{slots_learnt}
-use Rattle.shm_count.specs.Roots.{member}
-use Rattle.shm_count.specs.Slots.{Untouched}
-use Rattle.shm_count.specs.Tear.Events.{Visit, frees}
+use Rattle.std.specs.{Prelude.{Some, Result, Ok, Err}, List.{Contains, filter}}
+use Rattle.shm_graph.specs.declared.{ask.Me.Me, memo.{Memo.Memo, Stored.Stored}, run.Start.Start, spot.Spot.Spot}
+use Rattle.shm_graph.specs.{declared.spot.Spot.TheVariants.{Body, Home, Root, Tag}, Asks.{IsWithin, Trail}}
+use Rattle.shm_graph.specs.{Bounds.{change_steps, tear_steps}, Core.core}
+use Rattle.shm_graph.specs.{Events.{ChangeDown, ChangeUp, Down, Event, Graph, Happens, Up, graph_of}, Idle.hold_word}
+use Rattle.shm_graph.specs.{Reach.is_reached, Spots.{same_spot, see}, Views.View}
+use Rattle.shm_plain.specs.{Calls.Did, Pools.{Pool, memo_of}}
+use Rattle.shm_count.specs.{Retaining.slots_learnt, Roots.member, Slots.Untouched, Tear.Events.{Visit, frees}}
 use Rattle.shm_count.specs.Tear.Memos.{Knows, is_slot_word}
-use Rattle.shm_ref.specs.declared.answer.SetFault.{SetFault}
-use Rattle.shm_ref.specs.declared.answer.SetFault.TheVariants as fault
-use Rattle.shm_ref.specs.SetRef.Control.{setting}
+use Rattle.shm_ref.specs.{declared.answer.SetFault.SetFault, SetRef.Control.setting}
 use Rattle.shm_ref.specs.SetRef.Memos.{seen_dying, seen_op, seen_reached, seen_word, tag_seen, word_seen}
-use Rattle.shm_ref.specs.SetRef.{SetDid, SetLeaves, SetSpent, SetStays, taken_events}
-use Rattle.shm_ref.specs.SetRef.SetDid.{Kept, Raised, Taken}
+use Rattle.shm_ref.specs.SetRef.{SetDid, SetLeaves, SetSpent, SetStays, taken_events, SetDid.{Kept, Raised, Taken}}
 use Rattle.shm_ref.specs.SetRef.SetSpent.{AtStep, AtTear}
+use Rattle.shm_ref.specs.declared.answer.SetFault.TheVariants as fault
 use Rattle.shm_ref.proofs.SetKeeps.{set_lasts}
-use Rattle.shm_tree.specs.declared.node.Side.{Side}
-use Rattle.shm_tree.specs.declared.node.Side.TheVariants.{Left, Right}
-use Rattle.shm_tree.specs.Bounds.{refer_steps}
-use Rattle.shm_tree.specs.Causes.{SetRefused}
+use Rattle.shm_tree.specs.{declared.node.Side.{Side, TheVariants.{Left, Right}}, Bounds.refer_steps, Causes.SetRefused}
 use Rattle.shm_tree.specs.Keeping.{IsPart, IsReferring, IsStill, KeepsNode, child_of, made_in, other_side, side_word}
-use Rattle.shm_tree.specs.Standing.{IsNode, Stands, word_of}
-use Rattle.shm_tree.specs.Trees.{Tree, Empty, Node}
+use Rattle.shm_tree.specs.{Standing.{IsNode, Stands, word_of}, Trees.{Tree, Empty, Node}}
 use Rattle.shm_tree.specs.Working.{AreSameRoots, IsSameLatch, IsWorking, Reaches}
 use Rattle.shm_tree.proofs.Alive.{IsHomeless, IsOn, after, before, homeless_is, homeless_none, known_word, still, works}
 use Rattle.shm_tree.proofs.Firsts.{first_tells}
 use Rattle.shm_tree.proofs.Nodes.{body_names, child_kept, content_kept, life_same, names, node_kept}
-use Rattle.shm_tree.proofs.Reach.{reach_same_words}
-use Rattle.shm_tree.proofs.Findings.{author_known, refs_known}
+use Rattle.shm_tree.proofs.{Reach.reach_same_words, Findings.{author_known, refs_known}}
 use Rattle.shm_tree.proofs.Shares.{queues_quiet, within_self}
 
 -- ---- trees of which a block is no node

@@ -1,17 +1,12 @@
 -- What calls spend that come one after the other, of which the last was refused.
-use Rattle.std.proofs.Common.{◌≡◌, ℕ, ◌+◌, ◌*◌, ◌<◌, ◌≤◌, sym, ◌∙◌, subst, arith, Result, Ok, Err}
+use Rattle.std.proofs.{Common.{◌≡◌, ℕ, ◌+◌, ◌*◌, ◌<◌, ◌≤◌, sym, ◌∙◌, subst, arith, Result, Ok, Err}, lemmas.Nat.mul-le}
 use Rattle.std.specs.Result.{IsErrAnd}
-use Rattle.std.proofs.lemmas.Nat.{mul-le}
 use Rattle.shm_words.specs.declared.geometry.Geometry.{Geometry}
 use Rattle.shm_plain.specs.Pools.{Pool}
-use Rattle.shm_tree.specs.declared.stop.Stop.{Stop}
-use Rattle.shm_tree.specs.declared.stop.Stop.TheVariants as stop
-use Rattle.shm_tree.specs.Costing.{Costs, Spends}
-use Rattle.shm_tree.specs.Keeping.{IsStill}
+use Rattle.shm_tree.specs.{declared.stop.Stop.Stop, Costing.{Costs, Spends}, Keeping.IsStill}
 use Rattle.shm_tree.specs.Working.{IfAlive, IfRefused, IsWorking, Went}
-use Rattle.shm_tree.proofs.Answering.{refused_died, refused_map}
-use Rattle.shm_tree.proofs.Building.{made_more}
-use Rattle.shm_tree.proofs.Nodes.{made_then}
+use Rattle.shm_tree.specs.declared.stop.Stop.TheVariants as stop
+use Rattle.shm_tree.proofs.{Answering.{refused_died, refused_map}, Building.made_more, Nodes.made_then}
 use Rattle.shm_tree.proofs.Spendings.{spent_call, spent_more, spent_then}
 
 pub spends_of : {n c : ℕ} {p q : Pool} {x y : ℕ} → Costs n c p q x y → Spends n c p q x y

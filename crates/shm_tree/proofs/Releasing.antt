@@ -1,28 +1,18 @@
 -- What calls leave behind which the latch is given back.
 use Rattle.std.proofs.Common.{◌≡◌, ◌≢◌, ℕ, ◌+◌, ◌<◌, ◌≤◌, refl, sym, ◌∙◌, subst, arith, inl, inr, Result, Ok, Err}
-use Rattle.std.specs.Prelude.{IfErr, IfOk, None, Some}
-use Rattle.std.specs.Result.{IsErrAnd}
+use Rattle.std.specs.{Prelude.{IfErr, IfOk, None, Some}, Result.IsErrAnd}
 use Rattle.shm_words.specs.declared.geometry.Geometry.{Geometry}
 use Rattle.shm_plain.specs.Pools.{Pool, memo_of}
-use Rattle.shm_tree.specs.declared.stop.Stop.{Stop}
+use Rattle.shm_tree.specs.{declared.stop.Stop.Stop, Building.{Builds, IsCut}, Costing.{Costs, Spends}}
+use Rattle.shm_tree.specs.{Forests.{Calls, KeepsNamed, block_in}, Keeping.HasMade, Living.KeepsLives}
+use Rattle.shm_tree.specs.{Releasing.{IsGivenBack, IsHeldBack, Releases}, Spending.HasSpent, Standing.Stands}
+use Rattle.shm_tree.specs.{Trees.Tree, Working.{DiedIn, IfAlive, IfRefused, IsSameLatch, IsUnderWay, IsWorking, Went}}
 use Rattle.shm_tree.specs.declared.stop.Stop.TheVariants as stop
-use Rattle.shm_tree.specs.Building.{Builds, IsCut}
-use Rattle.shm_tree.specs.Costing.{Costs, Spends}
-use Rattle.shm_tree.specs.Forests.{Calls, KeepsNamed, block_in}
-use Rattle.shm_tree.specs.Keeping.{HasMade}
-use Rattle.shm_tree.specs.Living.{KeepsLives}
-use Rattle.shm_tree.specs.Releasing.{IsGivenBack, IsHeldBack, Releases}
-use Rattle.shm_tree.specs.Spending.{HasSpent}
-use Rattle.shm_tree.specs.Standing.{Stands}
-use Rattle.shm_tree.specs.Trees.{Tree}
-use Rattle.shm_tree.specs.Working.{DiedIn, IfAlive, IfRefused, IsSameLatch, IsUnderWay, IsWorking, Went}
-use Rattle.shm_tree.proofs.Answering.{alive_died}
-use Rattle.shm_tree.proofs.Building.{Looked, alive_any, alive_kept, alive_refused, went_on}
+use Rattle.shm_tree.proofs.{Answering.alive_died, Building.{Looked, alive_any, alive_kept, alive_refused, went_on}}
 use Rattle.shm_tree.proofs.CutShort.{cut_under}
 use Rattle.shm_tree.proofs.Forests.{Quiet, calls_died, cut_still, named_still, named_then, quiet, quiet_then, root_still, stopped_after, stopped_here, stopped_on}
 use Rattle.shm_tree.proofs.Moving.{alive_is, is_over_not, refused_is, refused_when}
-use Rattle.shm_tree.proofs.Refusals.{spends_more, spends_still, spends_then}
-use Rattle.shm_tree.proofs.Resting.{rests_still, rests_then}
+use Rattle.shm_tree.proofs.{Refusals.{spends_more, spends_still, spends_then}, Resting.{rests_still, rests_then}}
 
 -- ---- how it is taken
 

@@ -1,7 +1,6 @@
 -- Trees without a key.
 use Rattle.std.proofs.Common.{◌≡◌, ℕ, ◌<◌, None, Some, inl, inr, ◌∙◌, arith}
-use Rattle.std.proofs.lemmas.Bool.{cases_lt, eq-eqb, ne_eqb, le-ltb, lt-ltb}
-use Rattle.std.proofs.lemmas.Bool.Decides.{nat_tests}
+use Rattle.std.proofs.lemmas.Bool.{cases_lt, eq-eqb, ne_eqb, le-ltb, lt-ltb, Decides.nat_tests}
 use Rattle.shm_tree.specs.Trees.{Tree, Empty, Node, height, found, found_with, AreBelow, AreAbove, IsSearch, IsBalanced, RemovesWell, joined, least_key, least_number, without_least, merged, removed}
 use Rattle.shm_tree.proofs.Heights.{IsGrown, joined_again, left_fallen, right_fallen}
 use Rattle.shm_tree.proofs.Searching.{above_less, below_more, joined_keeps, not_above, not_below}

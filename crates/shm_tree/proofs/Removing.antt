@@ -1,32 +1,20 @@
 -- One level of a tree without a key, over what stays below it, if anything.
 use Rattle.std.proofs.Common.{◌≡◌, ◌≢◌, ◌==◌, ℕ, zero, suc, cond, ◌+◌, ◌*◌, ◌-◌, ◌≤◌, nat_lt, refl, sym, ap, ◌∙◌, subst, arith, inl, inr}
-use Rattle.std.specs.Prelude.{IfSome, Option, None, Some}
 use Rattle.std.proofs.lemmas.Bool.{cases_eq, cond-true, eq-eqb}
-use Rattle.shm_graph.specs.declared.spot.Spot.TheVariants.{Body}
-use Rattle.shm_graph.specs.References.{one_if, sum_below}
+use Rattle.std.specs.Prelude.{IfSome, Option, None, Some}
+use Rattle.shm_graph.specs.{declared.spot.Spot.TheVariants.Body, References.{one_if, sum_below}}
 use Rattle.shm_plain.specs.Pools.{IsRun, Pool}
 use Rattle.shm_count.specs.declared.answer.Made.{Made}
-use Rattle.shm_tree.specs.declared.node.Content.{Content}
-use Rattle.shm_tree.specs.declared.node.Side.{Side}
-use Rattle.shm_tree.specs.declared.node.Side.TheVariants.{Left, Right}
-use Rattle.shm_tree.specs.Bounds.{fall_steps}
+use Rattle.shm_tree.specs.{declared.node.{Content.Content, Side.{Side, TheVariants.{Left, Right}}}, Bounds.fall_steps}
 use Rattle.shm_tree.specs.Building.{IsAtHand, IsBuilt, IsCut, IsHeld, IsRebuilt, block_of, named_by, rooms}
-use Rattle.shm_tree.specs.Inserting.{IsRegistered}
-use Rattle.shm_tree.specs.Keeping.{IsShared, IsStill, child_of}
-use Rattle.shm_tree.specs.Living.{KeepsLives}
-use Rattle.shm_tree.specs.Removing.{IsKept, StandsMoved, content_in, rest, side_tree}
-use Rattle.shm_tree.specs.Spending.{HasSpent}
-use Rattle.shm_tree.specs.Standing.{Stands, weight, word_of}
-use Rattle.shm_tree.specs.Trees.{Tree, Empty, Node, IsSearch, found}
+use Rattle.shm_tree.specs.{Inserting.IsRegistered, Keeping.{IsShared, IsStill, child_of}, Living.KeepsLives}
+use Rattle.shm_tree.specs.{Removing.{IsKept, StandsMoved, content_in, rest, side_tree}, Spending.HasSpent}
+use Rattle.shm_tree.specs.{Standing.{Stands, weight, word_of}, Trees.{Tree, Empty, Node, IsSearch, found}}
 use Rattle.shm_tree.specs.Ways.{IsEnd, IsLast, IsPlace, IsSome, down}
 use Rattle.shm_tree.specs.Working.{AreSameRoots, IsSameLatch, IsWorking, Went}
 use Rattle.shm_tree.proofs.Building.{built_after, built_cut, made_more, none_stands, root_reached, rooms_rooted, still_cut, cut_then}
-use Rattle.shm_tree.proofs.Inserting.{built_held, built_up}
-use Rattle.shm_tree.proofs.Levels.{IsWay, down_more, way_is}
-use Rattle.shm_tree.proofs.Nodes.{made_then}
-use Rattle.shm_tree.proofs.Rotations.{content_is}
-use Rattle.shm_tree.proofs.Growing.{down_tree}
-use Rattle.shm_tree.proofs.Ways.{down_found, tree_is}
+use Rattle.shm_tree.proofs.{Inserting.{built_held, built_up}, Levels.{IsWay, down_more, way_is}, Nodes.made_then}
+use Rattle.shm_tree.proofs.{Rotations.content_is, Growing.down_tree, Ways.{down_found, tree_is}}
 use Rattle.shm_tree.proofs.Weights.{blocks_nodes, weight_nodes}
 
 -- ---- a tree or none

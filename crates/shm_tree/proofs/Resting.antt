@@ -1,26 +1,15 @@
 -- Calls after which a tree stands at each live block.
 use Rattle.std.proofs.Common.{◌≡◌, ℕ, true, [], sym, ◌∙◌, subst, arith, inl, inr, true≢false, Result, Ok, Err}
-use Rattle.std.specs.Prelude.{IfOk}
-use Rattle.std.specs.List.{Contains}
 use Rattle.std.proofs.lemmas.Bool.{cases_Bool, cases_eq}
-use Rattle.shm_graph.specs.declared.spot.Spot.{Spot}
-use Rattle.shm_graph.specs.declared.spot.Spot.TheVariants.{Body}
+use Rattle.std.specs.{Prelude.IfOk, List.Contains}
+use Rattle.shm_graph.specs.declared.spot.Spot.{Spot, TheVariants.Body}
 use Rattle.shm_plain.specs.Pools.{Pool, memo_of}
 use Rattle.shm_count.specs.declared.answer.Made.{Made}
-use Rattle.shm_tree.specs.declared.node.Content.{Content}
-use Rattle.shm_tree.specs.declared.node.Pair.{Pair}
-use Rattle.shm_tree.specs.declared.node.Side.{Side}
-use Rattle.shm_tree.specs.declared.stop.Stop.{Stop}
-use Rattle.shm_tree.specs.Building.{Builds}
-use Rattle.shm_tree.specs.Living.{KeepsLives}
-use Rattle.shm_tree.specs.Changing.{Changes}
+use Rattle.shm_tree.specs.{declared.{node.{Content.Content, Pair.Pair, Side.Side}, stop.Stop.Stop}, Building.Builds}
+use Rattle.shm_tree.specs.{Living.KeepsLives, Changing.Changes}
 use Rattle.shm_tree.specs.Keeping.{HasTree, IsDropped, IsLinked, IsStill, is_live, node_by}
-use Rattle.shm_tree.specs.Standing.{Stands, word_of}
-use Rattle.shm_tree.specs.Trees.{Tree, Empty, Node}
-use Rattle.shm_tree.specs.Working.{IsSpent, IsWorking, Went}
-use Rattle.shm_tree.proofs.Eras.{spent_stays}
-use Rattle.shm_tree.proofs.Nodes.{body_names, names, working_calm}
-use Rattle.shm_tree.proofs.Weights.{node_left}
+use Rattle.shm_tree.specs.{Standing.{Stands, word_of}, Trees.{Tree, Empty, Node}, Working.{IsSpent, IsWorking, Went}}
+use Rattle.shm_tree.proofs.{Eras.spent_stays, Nodes.{body_names, names, working_calm}, Weights.node_left}
 
 pub rests_then : (p q r : Pool) {x y : ℕ} → IsWorking q → IsWorking r → Went q r x y → KeepsLives p q → KeepsLives q r → KeepsLives p r
 rests_then p q r wq wr went a b calm d live before =

@@ -1,17 +1,12 @@
 -- The closing of a pool whose client has made few word steps isn't refused: its own era leaves room.
 use Rattle.std.proofs.Common.{◌≡◌, ℕ, ◌+◌, ◌-◌, ◌^◌, ◌<◌, ◌≤◌, Bool, true, false, cond, refl, sym, ap, ◌∙◌, subst, arith, Result, Ok, Err}
 use Rattle.std.specs.Prelude.{is_ok}
-use Rattle.shm_graph.specs.declared.run.Account.{Account}
-use Rattle.shm_graph.specs.declared.run.Start.{Start}
-use Rattle.shm_graph.specs.declared.spot.Spot.TheVariants.{Era}
-use Rattle.shm_graph.specs.Agents.{acts, steps_made}
-use Rattle.shm_graph.specs.Runs.{account_at, account_died, changed, memos_of}
+use Rattle.shm_graph.specs.declared.{run.{Account.Account, Start.Start}, spot.Spot.TheVariants.Era}
+use Rattle.shm_graph.specs.{Agents.{acts, steps_made}, Runs.{account_at, account_died, changed, memos_of}}
 use Rattle.shm_graph.specs.Views.{own_word}
-use Rattle.shm_graph.proofs.Memos.MemoSteps.{steps_died}
-use Rattle.shm_graph.proofs.Runs.EraRises.{first_was_held, memo_bounds}
+use Rattle.shm_graph.proofs.{Memos.MemoSteps.steps_died, Runs.EraRises.{first_was_held, memo_bounds}}
 use Rattle.shm_graph.proofs.Runs.Lists.{account_part}
-use Rattle.shm_plain.specs.Calls.{state_of}
-use Rattle.shm_plain.specs.Pools.{IsRun, Pool, after_fall, memo_of}
+use Rattle.shm_plain.specs.{Calls.state_of, Pools.{IsRun, Pool, after_fall, memo_of}}
 use Rattle.shm_count.specs.declared.answer.EraSpent.{EraSpent}
 use Rattle.shm_tree.specs.Ending.{HasParted, IsRevived, IsYoung}
 

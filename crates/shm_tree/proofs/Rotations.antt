@@ -3,15 +3,10 @@ use Rattle.std.proofs.Common.{◌≡◌, ◌≢◌, ℕ, cond, ◌+◌, ◌<◌,
 use Rattle.std.proofs.lemmas.Bool.{cond-true, cond-false, le-ltb, lt-ltb}
 use Rattle.shm_graph.specs.declared.spot.Spot.TheVariants.{Body}
 use Rattle.shm_plain.specs.Pools.{Pool}
-use Rattle.shm_tree.specs.declared.node.Content.{Content}
-use Rattle.shm_tree.specs.declared.node.Pair.{Pair}
-use Rattle.shm_tree.specs.declared.node.Side.{Side}
-use Rattle.shm_tree.specs.declared.node.Side.TheVariants.{Left, Right}
+use Rattle.shm_tree.specs.declared.node.{Content.Content, Pair.Pair, Side.{Side, TheVariants.{Left, Right}}}
 use Rattle.shm_tree.specs.Building.{StandsOf, StandsTurned, StandsTurnedTwice, from_far, joined_by}
 use Rattle.shm_tree.specs.Keeping.{HasNode, HasTree, KeepsNodes, KeepsTrees, child_of, node_by, other_side}
-use Rattle.shm_tree.specs.Standing.{Stands, word_of}
-use Rattle.shm_tree.specs.Working.{IsWorking}
-use Rattle.shm_tree.specs.Trees.{Tree, Empty, Node, height, joined}
+use Rattle.shm_tree.specs.{Standing.{Stands, word_of}, Working.IsWorking, Trees.{Tree, Empty, Node, height, joined}}
 
 -- a content is its key and its number
 pub content_is : {c d : Content} → c.key ≡ d.key → c.number ≡ d.number → c ≡ d

@@ -1,6 +1,5 @@
 -- Search trees that are balanced again.
-use Rattle.std.proofs.Common.{◌≡◌, ℕ, ◌+◌, ◌≤◌, None, inl, inr, refl, arith}
-use Rattle.std.proofs.lemmas.Bool.{cases_lt, le-ltb, lt-ltb}
+use Rattle.std.proofs.{Common.{◌≡◌, ℕ, ◌+◌, ◌≤◌, None, inl, inr, refl, arith}, lemmas.Bool.{cases_lt, le-ltb, lt-ltb}}
 use Rattle.std.proofs.lemmas.Bool.Decides.{nat_tests}
 use Rattle.shm_tree.specs.Trees.{Tree, Empty, Node, height, found, AreBelow, AreAbove, IsSearch, double_left, double_right, from_left, from_right, joined}
 

@@ -1,22 +1,15 @@
 -- Between two lines each live block is a node of a register's tree, where all other roots are empty and references fall.
 use Rattle.std.proofs.Common.{◌≡◌, ℕ, ◌<◌, true, List, [], refl, sym, ap, ◌∙◌, subst, arith, inl, inr, true≢false}
-use Rattle.std.specs.Prelude.{slice_index}
 use Rattle.std.proofs.lemmas.Bool.{cases_Bool}
+use Rattle.std.specs.Prelude.{slice_index}
 use Rattle.shm_plain.specs.Pools.{memo_of}
-use Rattle.shm_tree.specs.declared.registers.Registers.{Registers}
-use Rattle.shm_tree.specs.Building.{named_by}
-use Rattle.shm_tree.specs.Falling.{AreFalling}
+use Rattle.shm_tree.specs.{declared.registers.Registers.Registers, Building.named_by, Falling.AreFalling}
 use Rattle.shm_tree.specs.Forests.{IsForest, IsTidy, IsUnspent, KeepsRegisters, block_in, root_at, version}
-use Rattle.shm_tree.specs.Inserting.{is_part}
-use Rattle.shm_tree.specs.Keeping.{AreSameLives, is_live}
-use Rattle.shm_tree.specs.Living.{AreLivesNodes, AreLivesTrees, AreRootsTrees}
-use Rattle.shm_tree.specs.Standing.{Stands}
+use Rattle.shm_tree.specs.{Inserting.is_part, Keeping.{AreSameLives, is_live}}
+use Rattle.shm_tree.specs.{Living.{AreLivesNodes, AreLivesTrees, AreRootsTrees}, Standing.Stands}
 use Rattle.shm_tree.specs.Trees.{Tree, Empty, Node}
-use Rattle.shm_tree.proofs.Forests.{block_low}
-use Rattle.shm_tree.proofs.Lights.{once, part_weighs, weighs_live}
-use Rattle.shm_tree.proofs.Named.{falling_nodes, part_stands}
-use Rattle.shm_tree.proofs.Spares.{owner}
-use Rattle.shm_tree.proofs.Ways.{stands_one}
+use Rattle.shm_tree.proofs.{Forests.block_low, Lights.{once, part_weighs, weighs_live}}
+use Rattle.shm_tree.proofs.{Named.{falling_nodes, part_stands}, Spares.owner, Ways.stands_one}
 
 -- ---- registers
 

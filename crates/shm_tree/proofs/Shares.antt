@@ -1,33 +1,19 @@
 -- What a share leaves, and what a call leaves that did nothing.
 use Rattle.std.proofs.Common.{◌≡◌, ◌≢◌, ℕ, List, [], ◌∷◌, append-nil, refl, sym, ap, ◌∙◌, subst, arith, eqb}
-use Rattle.std.specs.Prelude.{Result, Ok, Err}
-use Rattle.std.specs.List.{filter}
 use Rattle.std.proofs.lemmas.Bool.{cond-false, ne_eqb}
-use Rattle.shm_graph.specs.declared.ask.Me.{Me}
-use Rattle.shm_graph.specs.declared.memo.Memo.{Memo}
-use Rattle.shm_graph.specs.declared.spot.Spot.TheVariants.{Home, Root}
-use Rattle.shm_graph.specs.Asks.{Trail}
-use Rattle.shm_graph.specs.Core.{core}
-use Rattle.shm_graph.specs.Events.{Event, Up}
-use Rattle.shm_graph.specs.Reach.{is_reached}
-use Rattle.shm_graph.specs.Views.{own_word}
-use Rattle.shm_plain.specs.Calls.{Did}
-use Rattle.shm_plain.specs.Pools.{Pool, memo_of}
+use Rattle.std.specs.{Prelude.{Result, Ok, Err}, List.filter}
+use Rattle.shm_graph.specs.{declared.{ask.Me.Me, memo.Memo.Memo, spot.Spot.TheVariants.{Home, Root}}, Asks.Trail}
+use Rattle.shm_graph.specs.{Core.core, Events.{Event, Up}, Reach.is_reached, Views.own_word}
+use Rattle.shm_plain.specs.{Calls.Did, Pools.{Pool, memo_of}}
 use Rattle.shm_plain.proofs.OwnTurns.{did_none}
-use Rattle.shm_count.specs.declared.answer.ShareFault.{ShareFault}
-use Rattle.shm_count.specs.declared.answer.ShareFault.TheVariants.{EraSpent, RootsFull, CountFull}
-use Rattle.shm_count.specs.Roots.{member, root_word}
-use Rattle.shm_count.specs.Slots.{Untouched}
-use Rattle.shm_count.specs.Tear.Memos.{is_slot_word}
-use Rattle.shm_count.specs.UpRoot.{UpRootLeaves}
+use Rattle.shm_count.specs.declared.answer.ShareFault.{ShareFault, TheVariants.{EraSpent, RootsFull, CountFull}}
+use Rattle.shm_count.specs.{Roots.{member, root_word}, Slots.Untouched, Tear.Memos.is_slot_word, UpRoot.UpRootLeaves}
 use Rattle.shm_count.specs.Waiting.{LeavesQueues}
 use Rattle.shm_ref.proofs.RootKeeps.{share_dying, share_left, share_named}
-use Rattle.shm_tree.specs.Causes.{ShareRefused, Within}
-use Rattle.shm_tree.specs.Keeping.{IsShared, IsStill, KeepsNodes, made_in}
+use Rattle.shm_tree.specs.{Causes.{ShareRefused, Within}, Keeping.{IsShared, IsStill, KeepsNodes, made_in}}
 use Rattle.shm_tree.specs.Working.{AreSameRoots, HasRoom, IsSameLatch, IsWorking, Reaches}
 use Rattle.shm_tree.proofs.Alive.{IsHomeless, IsOn, IsQuiet, after, before, homeless_is, homeless_none, still, works}
-use Rattle.shm_tree.proofs.Nodes.{life_same, node_kept, trees_kept}
-use Rattle.shm_tree.proofs.Reach.{reach_grows, reach_same_words}
+use Rattle.shm_tree.proofs.{Nodes.{life_same, node_kept, trees_kept}, Reach.{reach_grows, reach_same_words}}
 
 pub queues_quiet : (m r : Memo) → LeavesQueues m r → IsQuiet m r
 queues_quiet m r h = record { loose = h.loose; unsent = h.unsent; untaken = h.untaken }

@@ -4,21 +4,14 @@ use Rattle.std.specs.Prelude.{IfOk}
 use Rattle.shm_graph.specs.declared.spot.Spot.TheVariants.{Body}
 use Rattle.shm_plain.specs.Pools.{Pool}
 use Rattle.shm_count.specs.declared.answer.Made.{Made}
-use Rattle.shm_tree.specs.declared.node.Content.{Content}
-use Rattle.shm_tree.specs.declared.node.Pair.{Pair}
-use Rattle.shm_tree.specs.declared.node.Side.{Side}
-use Rattle.shm_tree.specs.declared.node.Side.TheVariants.{Left, Right}
-use Rattle.shm_tree.specs.declared.stop.Stop.{Stop}
-use Rattle.shm_tree.specs.Building.{IsBuilt, IsHeld, StandsOf, from_far, joined_by, named_by}
+use Rattle.shm_tree.specs.declared.node.{Content.Content, Pair.Pair, Side.{Side, TheVariants.{Left, Right}}}
+use Rattle.shm_tree.specs.{declared.stop.Stop.Stop, Building.{IsBuilt, IsHeld, StandsOf, from_far, joined_by, named_by}}
 use Rattle.shm_tree.specs.Keeping.{IsDropped, IsLinked, IsStill, KeepsNode, child_of, node_by, other_side}
 use Rattle.shm_tree.specs.Sharing.{CountsTop, IsFresh, IsOver, WeighsCrowned, WeighsFar, WeighsJoined, WeighsRaised, WeighsTurned, WeighsTurnedTwice}
-use Rattle.shm_tree.specs.Standing.{Stands, weight, word_of}
-use Rattle.shm_tree.specs.Trees.{Tree, height}
-use Rattle.shm_tree.specs.Working.{IsEmptied, IsWorking}
+use Rattle.shm_tree.specs.{Standing.{Stands, weight, word_of}, Trees.{Tree, height}, Working.{IsEmptied, IsWorking}}
 use Rattle.shm_tree.proofs.Answering.{height_none}
 use Rattle.shm_tree.proofs.Rotations.{child_kept, content_is, far_double, far_single, joined_far, joined_flat, joined_near, node_of, node_other, parts, shaped}
-use Rattle.shm_tree.proofs.Ways.{stands_one}
-use Rattle.shm_tree.proofs.Weights.{node_root, weigh_link, weigh_sides, weight_nodes, weight_root}
+use Rattle.shm_tree.proofs.{Ways.stands_one, Weights.{node_root, weigh_link, weigh_sides, weight_nodes, weight_root}}
 
 pub weighs_once : (p q r : Pool) (s : Side) (c : Content) (trees : Pair) (m : ℕ) → trees.far ≢ 0 → IsStill p q → ((y z : Tree) → Stands p (child_of p trees.far s) y → Stands p (child_of p trees.far (other_side s)) z → height y ≤ height z) → WeighsTurned c s trees m q r → WeighsFar c s trees m p r
 weighs_once p q r s c trees m some still low b f x t count top sx st =

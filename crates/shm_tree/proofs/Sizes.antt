@@ -5,13 +5,9 @@ use Rattle.shm_words.proofs.Placing.{total_most_wide}
 use Rattle.shm_graph.specs.declared.spot.Spot.TheVariants.{Body}
 use Rattle.shm_plain.specs.Pools.{IsRun, Pool}
 use Rattle.shm_tree.specs.declared.registers.Registers.{Registers}
-use Rattle.shm_tree.specs.Forests.{HasVersions, IsForest, block_at, block_in, root_at, version}
-use Rattle.shm_tree.specs.Holding.{HasSearch}
-use Rattle.shm_tree.specs.Standing.{Stands, word_of}
-use Rattle.shm_tree.specs.Trees.{Tree, Empty, Node, size}
-use Rattle.shm_tree.proofs.Fitting.{size_small}
-use Rattle.shm_tree.proofs.NodeWords.{node_word}
-use Rattle.shm_tree.proofs.Ways.{height_at, height_at_is, stands_node}
+use Rattle.shm_tree.specs.{Forests.{HasVersions, IsForest, block_at, block_in, root_at, version}, Holding.HasSearch}
+use Rattle.shm_tree.specs.{Standing.{Stands, word_of}, Trees.{Tree, Empty, Node, size}}
+use Rattle.shm_tree.proofs.{Fitting.size_small, NodeWords.node_word, Ways.{height_at, height_at_is, stands_node}}
 
 -- what was counted of a tree
 abbrev pub Sized : Pool → ℕ → ℕ → Type 0

@@ -1,29 +1,17 @@
 -- What is read of bytes is a script, and the bytes are its one spelling.
 use Rattle.std.proofs.Common.{◌≡◌, ℕ, ◌+◌, true, cond, ltb, List, [], ◌∷◌, ◌++◌, length, Option, Some, None, Result, Ok, Err, codes, inl, inr, refl, sym, ap, subst, ◌∙◌, append_assoc}
-use Rattle.std.specs.Prelude.{◌==◌}
-use Rattle.std.specs.List.{flat_map, slice_split, join_with_byte}
-use Rattle.std.proofs.lemmas.Bool.{ltb-false}
-use Rattle.std.proofs.lemmas.List.{append-nil}
-use Rattle.std.proofs.lemmas.List.Concat.{flat_map-append}
+use Rattle.std.proofs.lemmas.{Bool.ltb-false, List.{append-nil, Concat.flat_map-append}}
 use Rattle.std.proofs.lemmas.List.Splits.{join_with_byte-slice_split}
-use Rattle.shm_script.specs.declared.fault.TraceKind.{TraceKind}
-use Rattle.shm_script.specs.declared.fault.TraceKind.TheVariants.{Syntax}
-use Rattle.shm_script.specs.declared.fault.TraceFault.{TraceFault}
-use Rattle.shm_script.specs.Faults.{fault_at}
-use Rattle.shm_script.specs.Text.{ended, spaced}
-use Rattle.shm_script.proofs.Cuts.{some_piece}
-use Rattle.shm_script.proofs.FitTexts.{either}
-use Rattle.shm_script.proofs.LineTexts.{join_blanks}
-use Rattle.shm_script.proofs.Lists.{all_push}
-use Rattle.shm_tree.specs.declared.line.TreeLine.{TreeLine}
-use Rattle.shm_tree.specs.declared.shape.RawTree.{RawTree}
-use Rattle.shm_tree.specs.declared.judge.TreePlace.{TreePlace}
-use Rattle.shm_tree.specs.declared.judge.TreePlace.TheVariants as place
-use Rattle.shm_tree.specs.declared.judge.FitTree.{FitTree}
-use Rattle.shm_tree.specs.declared.judge.FitTree.TheVariants as fit
-use Rattle.shm_tree.specs.Shapes.{shape_from, shape_of}
+use Rattle.std.specs.{Prelude.◌==◌, List.{flat_map, slice_split, join_with_byte}}
+use Rattle.shm_script.specs.declared.fault.{TraceKind.{TraceKind, TheVariants.Syntax}, TraceFault.TraceFault}
+use Rattle.shm_script.specs.{Faults.fault_at, Text.{ended, spaced}}
+use Rattle.shm_script.proofs.{Cuts.some_piece, FitTexts.either, LineTexts.join_blanks, Lists.all_push}
+use Rattle.shm_tree.specs.declared.{line.TreeLine.TreeLine, shape.RawTree.RawTree, judge.TreePlace.TreePlace}
+use Rattle.shm_tree.specs.{declared.judge.FitTree.FitTree, Shapes.{shape_from, shape_of}}
 use Rattle.shm_tree.specs.Scripts.{Drafted, Scripted, draft_after, draft_none, drafted, drafted_line, fit_of, judged, may_end, may_stand, ranged, read_or, reading, script_of}
 use Rattle.shm_tree.specs.ScriptTexts.{IsScript, LineFits, Spells, life_spelled, line_ended, text_of}
+use Rattle.shm_tree.specs.declared.judge.TreePlace.TheVariants as place
+use Rattle.shm_tree.specs.declared.judge.FitTree.TheVariants as fit
 use Rattle.shm_tree.proofs.LineTexts.{FitIn, fit_text, line_told, stands}
 
 -- ---- one line

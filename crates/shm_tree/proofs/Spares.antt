@@ -1,12 +1,10 @@
 -- Of sixteen roots at most twelve are those of registers.
 use Rattle.std.proofs.Common.{◌≡◌, ◌≢◌, ◌==◌, ℕ, zero, suc, ◌+◌, ◌<◌, ◌≤◌, Bool, true, false, cond, List, [], ◌∷◌, length, lit≤, refl, sym, ap, ◌∙◌, arith, inl, inr, ◌⊎◌, true≢false}
-use Rattle.std.specs.Prelude.{slice_index}
 use Rattle.std.proofs.lemmas.Bool.{cases_Bool, cases_eq, cond-false, cond-true, eq-eqb, ne_eqb}
+use Rattle.std.specs.Prelude.{slice_index}
 use Rattle.shm_graph.specs.References.{one_if, sum_below}
 use Rattle.shm_plain.specs.Pools.{Pool}
-use Rattle.shm_tree.specs.declared.registers.Registers.{Registers}
-use Rattle.shm_tree.specs.Building.{named_by, rooms}
-use Rattle.shm_tree.specs.Forests.{IsFree, IsTidy}
+use Rattle.shm_tree.specs.{declared.registers.Registers.Registers, Building.{named_by, rooms}, Forests.{IsFree, IsTidy}}
 
 abbrev among : List ℕ → ℕ → Bool
 among [] k = false

@@ -1,22 +1,16 @@
 -- Word steps of calls that come one after the other.
 use Rattle.std.proofs.Common.{◌≡◌, ℕ, ◌+◌, ◌-◌, ◌*◌, ◌<◌, ◌≤◌, ◌⊎◌, List, [], ◌∷◌, ◌++◌, length, refl, sym, subst, arith, inl, inr}
-use Rattle.std.specs.List.{All, Contains}
 use Rattle.std.proofs.lemmas.Nat.{mul-le}
+use Rattle.std.specs.List.{All, Contains}
 use Rattle.shm_words.specs.declared.geometry.Geometry.{Geometry}
-use Rattle.shm_graph.specs.declared.run.Start.{Start}
-use Rattle.shm_graph.specs.declared.spot.Spot.TheVariants.{Era}
-use Rattle.shm_graph.specs.Bounds.{tear_steps}
-use Rattle.shm_graph.specs.Spots.{see}
+use Rattle.shm_graph.specs.{declared.{run.Start.Start, spot.Spot.TheVariants.Era}, Bounds.tear_steps, Spots.see}
 use Rattle.shm_graph.specs.Views.{own_word}
 use Rattle.shm_graph.proofs.Runs.EraRises.{run_rises}
-use Rattle.shm_plain.specs.Calls.{state_of}
-use Rattle.shm_plain.specs.Pools.{IsRun, Pool, memo_of}
+use Rattle.shm_plain.specs.{Calls.state_of, Pools.{IsRun, Pool, memo_of}}
 use Rattle.shm_count.specs.Tear.Events.{Visit, frees}
 use Rattle.shm_ref.specs.Leaving.{frees-append}
-use Rattle.shm_tree.specs.Bounds.{climb_steps, drop_steps, insert_steps, lowest_steps, raise_steps}
-use Rattle.shm_tree.specs.Spending.{HasSpent}
-use Rattle.shm_tree.specs.Tearing.{HasTorn}
-use Rattle.shm_tree.specs.Working.{IsSpent, IsWorking, Went}
+use Rattle.shm_tree.specs.{Bounds.{climb_steps, drop_steps, insert_steps, lowest_steps, raise_steps}, Spending.HasSpent}
+use Rattle.shm_tree.specs.{Tearing.HasTorn, Working.{IsSpent, IsWorking, Went}}
 use Rattle.shm_tree.proofs.Turns.{did_leads, did_then}
 
 -- an own era that is spent stays so

@@ -1,25 +1,13 @@
 -- Machines of which no exchange fails where nobody else makes a word step.
 use Rattle.std.proofs.Common.{◌≡◌, ℕ, Bool, true, false, refl, sym, ◌∙◌, subst, append_assoc, ◌++◌}
 use Rattle.std.specs.Prelude.{Option, Some, None}
-use Rattle.shm_graph.specs.declared.ask.Ask.{Ask}
-use Rattle.shm_graph.specs.declared.ask.Ask.TheVariants.{Exchange, Load, Store}
-use Rattle.shm_graph.specs.declared.ask.Me.{Me}
-use Rattle.shm_graph.specs.declared.memo.Memo.{Memo}
-use Rattle.shm_graph.specs.declared.spot.Spot.{Spot}
-use Rattle.shm_graph.specs.Asks.{Trail, at_of, call_before, failed_by, seen_of, words_after}
-use Rattle.shm_graph.specs.Blocks.{classes}
-use Rattle.shm_graph.specs.Laws.{Control, Ends, Frame, Outcome, Stands}
-use Rattle.shm_graph.specs.Mapped.{OnTheWay, mapped}
+use Rattle.shm_graph.specs.declared.{ask.{Ask.{Ask, TheVariants.{Exchange, Load, Store}}, Me.Me}, memo.Memo.Memo}
+use Rattle.shm_graph.specs.{declared.spot.Spot.Spot, Asks.{Trail, at_of, call_before, failed_by, seen_of, words_after}}
+use Rattle.shm_graph.specs.{Blocks.classes, Laws.{Control, Ends, Frame, Outcome, Stands}, Mapped.{OnTheWay, mapped}}
 use Rattle.shm_graph.specs.Spots.{spot_at}
-use Rattle.shm_calls.specs.declared.calls.Calls.{Calls}
-use Rattle.shm_calls.specs.declared.or.Or.{Or}
-use Rattle.shm_calls.specs.declared.or.Or.TheVariants.{First, Second}
-use Rattle.shm_calls.specs.declared.word.Word.{Word}
-use Rattle.shm_calls.specs.CallsControl.{answered, called_on, calls_control, planned}
-use Rattle.shm_calls.specs.CallsFit.{CallsFits}
-use Rattle.shm_calls.specs.Either.{OrFits, or_control, told_outcome}
-use Rattle.shm_calls.specs.Plans.{Planned}
-use Rattle.shm_calls.specs.Words.{WordFits, word_control}
+use Rattle.shm_calls.specs.declared.{calls.Calls.Calls, or.Or.{Or, TheVariants.{First, Second}}, word.Word.Word}
+use Rattle.shm_calls.specs.{CallsControl.{answered, called_on, calls_control, planned}, CallsFit.CallsFits}
+use Rattle.shm_calls.specs.{Either.{OrFits, or_control, told_outcome}, Plans.Planned, Words.{WordFits, word_control}}
 
 -- of a machine: what it knows of the words where nobody else steps
 module _ {S A : Type 0} (k : Control S A) (knows : S → (Spot → ℕ) → Type 0) where
@@ -103,26 +91,26 @@ module _ {P C B A : Type 0} (k : Control C B) (q : Planned P C B A) (knows : C �
   -- its parts are sure, and a call begins with what it knows of the words, whatever these are
   pub record CallsSure : Type 0 where
     pub parts : (p : P) → AreSure k knows (q.part p).fits
-    pub begins : (p : P) (w : Spot → ℕ) → knows (q.call p) w
+    pub begins : (p : P) (w : Spot → ℕ) → knows (q.steered.call p) w
 
   module _ (d : CallsSure) where
-    known : (p : P) (c : C) (o : Option B) (w : Spot → ℕ) → Outcome o (knows c w) (λ b. Unit {0}) → Outcome (answered k q p o) (calls_know (called_on k q p c o) w) (λ x. Unit {0})
+    known : (p : P) (c : C) (o : Option B) (w : Spot → ℕ) → Outcome o (knows c w) (λ b. Unit {0}) → Outcome (answered k q.steered p o) (calls_know (called_on k q.steered p c o) w) (λ x. Unit {0})
     known p c None w h = h
-    known p c (Some b) w h = go (q.turns p b)
+    known p c (Some b) w h = go (q.steered.turns p b)
       where
-        go : (u : Option A) → Outcome u (calls_know (planned k q c (q.after p b) u) w) (λ x. Unit {0})
-        go None = d.begins (q.after p b) w
+        go : (u : Option A) → Outcome u (calls_know (planned k q.steered c (q.steered.after p b) u) w) (λ x. Unit {0})
+        go None = d.begins (q.steered.after p b) w
         go (Some x) = tt
 
     -- so is the machine of calls
-    pub calls_sure : AreSure (calls_control k q) calls_know (CallsFits k q)
+    pub calls_sure : AreSure (calls_control k q.steered) calls_know (CallsFits k q)
     calls_sure m r0 tr w r f going s fit is =
         let a : Ask = k.asks m.call in
-        let at : Spot = spot_at (q.me m.plan).geometry (classes w) (at_of a) in
+        let at : Spot = spot_at (q.steered.me m.plan).geometry (classes w) (at_of a) in
         let n : ℕ = seen_of a (w at) in
         let stands : Stands (k.me m.call) w r f fit.t =
         subst (λ (me : Me). Stands me w r f fit.t) (sym fit.me)
-        (record { held = s.held; who = s.who; call = ends_more (call_before f.fresh (r (q.me m.plan).who).call) fit.before fit.t (subst (Ends (call_before f.fresh (r (q.me m.plan).who).call)) fit.split s.call) }) in
+        (record { held = s.held; who = s.who; call = ends_more (call_before f.fresh (r (q.steered.me m.plan).who).call) fit.before fit.t (subst (Ends (call_before f.fresh (r (q.steered.me m.plan).who).call)) fit.split s.call) }) in
         let fits : (q.part m.plan).fits m.call fit.rs (r (k.me m.call).who) fit.t = subst (λ (me : Me). (q.part m.plan).fits m.call fit.rs (r me.who) fit.t) (sym fit.me) fit.fits in
         let one : IsSure k knows m.call n (words_after w a at) =
         subst (λ (me : Me). let p = spot_at me.geometry (classes w) (at_of a) in IsSure k knows m.call (seen_of a (w p)) (words_after w a p)) fit.me

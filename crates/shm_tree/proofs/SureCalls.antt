@@ -1,48 +1,29 @@
 -- No exchange fails where the one client of a pool shares a block, sets a reference or drops a root: how many word steps that takes at most.
 use Rattle.std.proofs.Common.{ℕ, ◌+◌, ◌≤◌, true, false, refl, List, arith}
 use Rattle.std.specs.Prelude.{Result, Ok, Err}
-use Rattle.shm_graph.specs.declared.spot.Spot.{Spot}
-use Rattle.shm_graph.specs.declared.spot.Spot.TheVariants.{Body, Root}
-use Rattle.shm_graph.specs.Asks.{IsWithin}
-use Rattle.shm_graph.specs.Events.{Event}
-use Rattle.shm_plain.specs.Calls.{Ran, Took}
-use Rattle.shm_plain.specs.Pools.{Pool, memo_of}
-use Rattle.shm_calls.specs.CallsControl.{calls_control, calls_of}
-use Rattle.shm_calls.specs.Either.{OrFits, or_control}
+use Rattle.shm_graph.specs.{declared.spot.Spot.{Spot, TheVariants.{Body, Root}}, Asks.IsWithin, Events.Event}
+use Rattle.shm_plain.specs.{Calls.{Ran, Took}, Pools.{Pool, memo_of}}
+use Rattle.shm_calls.specs.{CallsControl.{calls_control, calls_of}, Either.{OrFits, or_control}}
 use Rattle.shm_calls.specs.Words.{WordFits, word_control}
-use Rattle.shm_count.specs.declared.answer.ShareFault.{ShareFault}
-use Rattle.shm_count.specs.declared.answer.ShareFault.TheVariants as share
-use Rattle.shm_count.specs.declared.point.Aim.TheVariants.{Up}
-use Rattle.shm_count.specs.declared.up_root.RootingPoint.{RootingPoint}
-use Rattle.shm_count.specs.declared.up_root.RootingPoint.TheVariants.{Era, Look, Step}
-use Rattle.shm_count.specs.declared.up_root.RootingState.{RootingState}
-use Rattle.shm_count.specs.Roots.{member}
-use Rattle.shm_count.specs.ShareTask.{ShareMay, share_task}
+use Rattle.shm_count.specs.declared.{answer.ShareFault.ShareFault, point.Aim.TheVariants.Up}
+use Rattle.shm_count.specs.declared.up_root.RootingPoint.{RootingPoint, TheVariants.{Era, Look, Step}}
+use Rattle.shm_count.specs.{declared.up_root.RootingState.RootingState, Roots.member, ShareTask.{ShareMay, share_task}}
 use Rattle.shm_count.specs.Step.Control.{first_point, step_control}
-use Rattle.shm_count.specs.Step.Machines.{down_answer, down_control, up_answer, up_control}
-use Rattle.shm_count.specs.Step.{StepFits}
-use Rattle.shm_count.specs.StepsAt.{ChangeFitsAt, DownFitsAt, UpFitsAt}
-use Rattle.shm_count.specs.StepsFrom.{FitsFrom}
-use Rattle.shm_count.specs.Tear.Control.{tear_control}
+use Rattle.shm_count.specs.Step.{Machines.{down_answer, down_control, up_answer, up_control}, StepFits}
+use Rattle.shm_count.specs.{StepsAt.{ChangeFitsAt, DownFitsAt, UpFitsAt}, StepsFrom.FitsFrom, Tear.Control.tear_control}
 use Rattle.shm_count.specs.Tear.{TearFits}
-use Rattle.shm_count.specs.UpRoot.Control.{RootingCall, is_era, rooting, rooting_call, rooting_parts}
-use Rattle.shm_count.specs.UpRoot.Laws.{rooting_laws}
-use Rattle.shm_count.specs.UpRoot.{UpRootLeaves, rooting_part, rooting_plan}
-use Rattle.shm_ref.specs.declared.drop_root.DropPoint.{DropPoint}
-use Rattle.shm_ref.specs.declared.drop_root.DropPoint.TheVariants as drop
-use Rattle.shm_ref.specs.declared.drop_root.DropState.{DropState}
-use Rattle.shm_ref.specs.declared.set_ref.SetPoint.{SetPoint}
-use Rattle.shm_ref.specs.declared.set_ref.SetPoint.TheVariants as set
+use Rattle.shm_count.specs.UpRoot.Control.{RootingCall, is_era, rooting, rooting_call, rooting_parts, rooting_steered}
+use Rattle.shm_count.specs.UpRoot.{Laws.rooting_laws, UpRootLeaves, rooting_part, rooting_plan}
+use Rattle.shm_count.specs.declared.answer.ShareFault.TheVariants as share
+use Rattle.shm_ref.specs.declared.{drop_root.{DropPoint.DropPoint, DropState.DropState}, set_ref.SetPoint.SetPoint}
 use Rattle.shm_ref.specs.declared.set_ref.SetState.{SetState}
-use Rattle.shm_ref.specs.DropRoot.Control.{DropCall, drop_call_at, drop_parts, dropping, is_load}
-use Rattle.shm_ref.specs.DropRoot.Laws.{drop_laws}
-use Rattle.shm_ref.specs.DropRoot.{drop_plan}
-use Rattle.shm_ref.specs.RootTasks.{DropMay, SetMay, drop_task, set_task}
-use Rattle.shm_ref.specs.SetRef.Control.{SetCall, is_tag, set_call_at, set_parts, setting}
-use Rattle.shm_ref.specs.SetRef.Laws.{set_laws}
+use Rattle.shm_ref.specs.DropRoot.Control.{DropCall, drop_call_at, drop_parts, dropping, is_load, drop_steered}
+use Rattle.shm_ref.specs.{DropRoot.{Laws.drop_laws, drop_plan}, RootTasks.{DropMay, SetMay, drop_task, set_task}}
+use Rattle.shm_ref.specs.SetRef.{Control.{SetCall, is_tag, set_call_at, set_parts, setting, set_steered}, Laws.set_laws}
 use Rattle.shm_ref.specs.SetRef.{set_plan}
-use Rattle.shm_tree.specs.Bounds.{share_steps}
-use Rattle.shm_tree.specs.Working.{IsWorking}
+use Rattle.shm_ref.specs.declared.drop_root.DropPoint.TheVariants as drop
+use Rattle.shm_ref.specs.declared.set_ref.SetPoint.TheVariants as set
+use Rattle.shm_tree.specs.{Bounds.share_steps, Working.IsWorking}
 use Rattle.shm_tree.proofs.Sure.{AreSure, CallsSure, fewer_sure, mapped_sure, or_knows, or_sure, word_knows, word_sure}
 use Rattle.shm_tree.proofs.SureRuns.{plan_most}
 use Rattle.shm_tree.proofs.SureSteps.{first_knows, from_sure, step_knows, step_sure, tear_knows, tear_sure}
@@ -81,7 +62,7 @@ rooting_sure = record { parts = λ m. parts m m.point; begins = λ m w. begins m
     begins m Look w = refl
     begins m Step w = first_knows (Up m.block) m.me.geometry.wide m.era w
 
-pub share_most : (n : ℕ) (p r : Pool) (b x y : ℕ) → IsWorking p → ShareMay (rooting (member p.start.geometry 0) b) (memo_of p 0) → Took (calls_control rooting_parts rooting_plan) 0 p (calls_of rooting_plan (rooting (member p.start.geometry 0) b)) r → Ran 0 true true p r x y → IsWithin n (memo_of r 0).call → x ≤ y + n
+pub share_most : (n : ℕ) (p r : Pool) (b x y : ℕ) → IsWorking p → ShareMay (rooting (member p.start.geometry 0) b) (memo_of p 0) → Took (calls_control rooting_parts rooting_steered) 0 p (calls_of rooting_steered (rooting (member p.start.geometry 0) b)) r → Ran 0 true true p r x y → IsWithin n (memo_of r 0).call → x ≤ y + n
 share_most n p r b x y h may t ran most = plan_most rooting_parts rooting_plan rooting_laws ShareMay (λ m a. Unit {0}) share_task rooting_knows rooting_sure n p r (rooting (member p.start.geometry 0) b) x y h refl may t ran most
 
 -- ---- the setting of a reference
@@ -110,7 +91,7 @@ set_sure = record { parts = parts; begins = λ m w. begins m m.point w }
     begins m set.Change w = tt
     begins m set.Tear w = tt
 
-pub set_most : (n : ℕ) (p r : Pool) (b i c x y : ℕ) → IsWorking p → SetMay (setting (member p.start.geometry 0) b i c) (memo_of p 0) → Took (calls_control set_parts set_plan) 0 p (calls_of set_plan (setting (member p.start.geometry 0) b i c)) r → Ran 0 true true p r x y → IsWithin n (memo_of r 0).call → x ≤ y + n
+pub set_most : (n : ℕ) (p r : Pool) (b i c x y : ℕ) → IsWorking p → SetMay (setting (member p.start.geometry 0) b i c) (memo_of p 0) → Took (calls_control set_parts set_steered) 0 p (calls_of set_steered (setting (member p.start.geometry 0) b i c)) r → Ran 0 true true p r x y → IsWithin n (memo_of r 0).call → x ≤ y + n
 set_most n p r b i c x y h may t ran most = plan_most set_parts set_plan set_laws SetMay (λ m a. Unit {0}) set_task set_knows set_sure n p r (setting (member p.start.geometry 0) b i c) x y h refl may t ran most
 
 -- ---- a drop of a root
@@ -133,12 +114,12 @@ drop_sure = record { parts = parts; begins = λ m w. begins m m.point w }
     begins m drop.Lower w = tt
     begins m drop.Tear w = tt
 
-pub drop_most : (n : ℕ) (p r : Pool) (k x y : ℕ) → IsWorking p → DropMay (dropping (member p.start.geometry 0) k) (memo_of p 0) → Took (calls_control drop_parts drop_plan) 0 p (calls_of drop_plan (dropping (member p.start.geometry 0) k)) r → Ran 0 true true p r x y → IsWithin n (memo_of r 0).call → x ≤ y + n
+pub drop_most : (n : ℕ) (p r : Pool) (k x y : ℕ) → IsWorking p → DropMay (dropping (member p.start.geometry 0) k) (memo_of p 0) → Took (calls_control drop_parts drop_steered) 0 p (calls_of drop_steered (dropping (member p.start.geometry 0) k)) r → Ran 0 true true p r x y → IsWithin n (memo_of r 0).call → x ≤ y + n
 drop_most n p r k x y h may t ran most = plan_most drop_parts drop_plan drop_laws DropMay (λ m a. Unit {0}) drop_task drop_knows drop_sure n p r (dropping (member p.start.geometry 0) k) x y h refl may t ran most
 
 -- ---- how many word steps each takes at most
 
-pub share_within : (p r : Pool) (b x y : ℕ) (es : List Event) (a : Result ℕ ShareFault) → IsWorking p → ShareMay (rooting (member p.start.geometry 0) b) (memo_of p 0) → Took (calls_control rooting_parts rooting_plan) 0 p (calls_of rooting_plan (rooting (member p.start.geometry 0) b)) r → Ran 0 true true p r x y
+pub share_within : (p r : Pool) (b x y : ℕ) (es : List Event) (a : Result ℕ ShareFault) → IsWorking p → ShareMay (rooting (member p.start.geometry 0) b) (memo_of p 0) → Took (calls_control rooting_parts rooting_steered) 0 p (calls_of rooting_steered (rooting (member p.start.geometry 0) b)) r → Ran 0 true true p r x y
     → UpRootLeaves (member p.start.geometry 0) b (memo_of p 0) (memo_of r 0) (memo_of r 0).call es a → x ≤ y + share_steps p.start.geometry
 share_within p r b x y es a h may t ran l =
     share_most (share_steps p.start.geometry) p r b x y h may t ran (within a l)

@@ -1,49 +1,28 @@
 -- No exchange of a count step, or of a tear-down, fails where nobody else steps: it exchanges the header that was read.
 use Rattle.std.proofs.Common.{◌≡◌, ℕ, ◌+◌, sym, ap, ◌∙◌, refl, subst, Bool, true, false, eqb, ltb, ◌&&◌, ◌%◌, List}
-use Rattle.std.specs.Prelude.{Result, Ok, Err, if◌then◌else◌}
 use Rattle.std.proofs.lemmas.Bool.{true≢false, eq-eqb}
-use Rattle.shm_words.specs.declared.tag.Tag.{Tag as ATag}
-use Rattle.shm_words.specs.Headers.{header_of}
-use Rattle.shm_words.specs.Layout.{address_limit}
-use Rattle.shm_graph.specs.declared.ask.Ask.{Ask}
-use Rattle.shm_graph.specs.declared.ask.Me.{Me}
-use Rattle.shm_graph.specs.declared.memo.Memo.{Memo}
-use Rattle.shm_graph.specs.declared.spot.Spot.{Spot}
-use Rattle.shm_graph.specs.declared.spot.Spot.TheVariants.{Body, Head}
-use Rattle.shm_graph.specs.Asks.{Trail, at_of, failed_by, seen_of, words_after}
-use Rattle.shm_graph.specs.Blocks.{classes}
-use Rattle.shm_graph.specs.Events.{Event}
-use Rattle.shm_graph.specs.Laws.{Frame, Outcome, Stands}
-use Rattle.shm_graph.specs.Spots.{spot_at}
-use Rattle.shm_graph.specs.Tells.{happens_along}
+use Rattle.std.specs.Prelude.{Result, Ok, Err, if◌then◌else◌}
+use Rattle.shm_words.specs.{declared.tag.Tag.Tag as ATag, Headers.header_of, Layout.address_limit}
+use Rattle.shm_graph.specs.declared.{ask.{Ask.Ask, Me.Me}, memo.Memo.Memo, spot.Spot.{Spot, TheVariants.{Body, Head}}}
+use Rattle.shm_graph.specs.{Asks.{Trail, at_of, failed_by, seen_of, words_after}, Blocks.classes, Events.Event}
+use Rattle.shm_graph.specs.{Laws.{Frame, Outcome, Stands}, Spots.spot_at, Tells.happens_along}
 use Rattle.shm_graph.proofs.StepKinds.Loads.{choice}
-use Rattle.shm_count.specs.declared.answer.UpFault.{UpFault}
+use Rattle.shm_count.specs.declared.{answer.UpFault.UpFault, point.Aim.{Aim, TheVariants.{Up, Down, Change}}}
+use Rattle.shm_count.specs.declared.point.{Half.Half, StepPoint.StepPoint, StepState.StepState, StepNext.StepNext}
+use Rattle.shm_count.specs.declared.tear_point.{TearPoint.TearPoint, TearState.TearState, TearNext.TearNext}
+use Rattle.shm_count.specs.Step.Control.{PointFits, block_at, closed_next, committed_next, era_next, exchange_next, first_next, header_next, last_era, raises, row_next, step_ask_at, step_control, step_next_at}
+use Rattle.shm_count.specs.Step.{Headers.half_block, BeforeExchange.row_spot, CanStep, PointHolds, StepFits}
+use Rattle.shm_count.specs.StepsFrom.{FitsFrom}
+use Rattle.shm_count.specs.Tear.Control.{TearPointFits, down_next, entered_next, freed_next, lowered_next, relinked, tag_read, tear_ask_at, tear_control, tear_next_at, word_address, word_next, word_or_free}
+use Rattle.shm_count.specs.Tear.{Events.{tear_event, tear_start}, Laws.{IsRunning, fit_runs}, TearFits, TearHolds}
 use Rattle.shm_count.specs.declared.answer.UpFault.TheVariants as fault
-use Rattle.shm_count.specs.declared.point.Aim.{Aim}
-use Rattle.shm_count.specs.declared.point.Aim.TheVariants.{Up, Down, Change}
-use Rattle.shm_count.specs.declared.point.Half.{Half}
 use Rattle.shm_count.specs.declared.point.Half.TheVariants as half
-use Rattle.shm_count.specs.declared.point.StepPoint.{StepPoint}
 use Rattle.shm_count.specs.declared.point.StepPoint.TheVariants as step
-use Rattle.shm_count.specs.declared.point.StepState.{StepState}
-use Rattle.shm_count.specs.declared.point.StepNext.{StepNext}
 use Rattle.shm_count.specs.declared.point.StepNext.TheVariants as next
-use Rattle.shm_count.specs.declared.tear_point.TearPoint.{TearPoint}
 use Rattle.shm_count.specs.declared.tear_point.TearPoint.TheVariants as point
-use Rattle.shm_count.specs.declared.tear_point.TearState.{TearState}
-use Rattle.shm_count.specs.declared.tear_point.TearNext.{TearNext}
 use Rattle.shm_count.specs.declared.tear_point.TearNext.TheVariants as tear
 use Rattle.shm_count.specs.Step.Control as steps
-use Rattle.shm_count.specs.Step.Control.{PointFits, block_at, closed_next, committed_next, era_next, exchange_next, first_next, header_next, last_era, raises, row_next, step_ask_at, step_control, step_next_at}
-use Rattle.shm_count.specs.Step.Headers.{half_block}
-use Rattle.shm_count.specs.Step.BeforeExchange.{row_spot}
-use Rattle.shm_count.specs.Step.{CanStep, PointHolds, StepFits}
-use Rattle.shm_count.specs.StepsFrom.{FitsFrom}
 use Rattle.shm_count.specs.Tear.Control as tears
-use Rattle.shm_count.specs.Tear.Control.{TearPointFits, down_next, entered_next, freed_next, lowered_next, relinked, tag_read, tear_ask_at, tear_control, tear_next_at, word_address, word_next, word_or_free}
-use Rattle.shm_count.specs.Tear.Events.{tear_event, tear_start}
-use Rattle.shm_count.specs.Tear.Laws.{IsRunning, fit_runs}
-use Rattle.shm_count.specs.Tear.{TearFits, TearHolds}
 use Rattle.shm_tree.proofs.Sure.{AreSure}
 
 -- ---- count steps

@@ -1,34 +1,20 @@
 -- How many blocks a drop of a root tears down: of a tree that stood at the root at most the nodes that are gone.
 use Rattle.std.proofs.Common.{◌≡◌, ◌≢◌, ℕ, zero, suc, ◌+◌, ◌≤◌, add-one, Bool, List, [], ◌∷◌, ◌++◌, append-nil, length, refl, sym, ap, ◌∙◌, subst, arith, inl, inr}
-use Rattle.std.specs.Prelude.{Ok, Err}
-use Rattle.std.specs.List.{All, Contains}
 use Rattle.std.proofs.lemmas.List.Elements.{Contains-append_cases, Contains-append_left, Contains-append_right}
-use Rattle.shm_graph.specs.declared.memo.Memo.{Memo}
-use Rattle.shm_graph.specs.declared.spot.Spot.{Spot}
-use Rattle.shm_graph.specs.declared.spot.Spot.TheVariants.{Body, Root}
+use Rattle.std.specs.{Prelude.{Ok, Err}, List.{All, Contains}}
+use Rattle.shm_graph.specs.declared.{memo.Memo.Memo, spot.Spot.{Spot, TheVariants.{Body, Root}}}
 use Rattle.shm_graph.specs.Events.{Event, Down, Free}
-use Rattle.shm_plain.specs.Calls.{Did}
-use Rattle.shm_plain.specs.Pools.{Pool, memo_of}
-use Rattle.shm_count.specs.declared.answer.EraSpent.{EraSpent}
-use Rattle.shm_count.specs.Roots.{member, root_word}
+use Rattle.shm_plain.specs.{Calls.Did, Pools.{Pool, memo_of}}
+use Rattle.shm_count.specs.{declared.answer.EraSpent.EraSpent, Roots.{member, root_word}}
 use Rattle.shm_count.specs.Tear.Events.{InOrder, Visit, Walk, Walks, events_of, frees, frees_of}
 use Rattle.shm_count.specs.Tear.Events.Walk.{Fell, Freed, Kept}
 use Rattle.shm_count.proofs.TearWalks.{walk_stopped}
-use Rattle.shm_ref.specs.DropRoot.Control.{dropping}
-use Rattle.shm_ref.specs.DropRoot.{DropLeaves}
-use Rattle.shm_ref.specs.Leaving.{frees-append}
-use Rattle.shm_ref.specs.Lefts.{RootEvents}
+use Rattle.shm_ref.specs.{DropRoot.{Control.dropping, DropLeaves}, Leaving.frees-append, Lefts.RootEvents}
 use Rattle.shm_ref.proofs.RefusedDrops.{spent_emptied}
-use Rattle.shm_tree.specs.Keeping.{IsStill}
-use Rattle.shm_tree.specs.Standing.{IsNode, Stands, weight, word_of}
-use Rattle.shm_tree.specs.Tearing.{HasTorn, IsGone}
-use Rattle.shm_tree.specs.Trees.{Tree, Empty, Node}
-use Rattle.shm_tree.specs.Working.{IsWorking}
-use Rattle.shm_tree.proofs.Alive.{IsOn, before}
-use Rattle.shm_tree.proofs.Drops.{torn_gone, torn_loses}
-use Rattle.shm_tree.proofs.Losses.{lost_named}
-use Rattle.shm_tree.proofs.Nodes.{IsCalm, body_names, body_past, names}
-use Rattle.shm_tree.proofs.Turns.{did_then}
+use Rattle.shm_tree.specs.{Keeping.IsStill, Standing.{IsNode, Stands, weight, word_of}, Tearing.{HasTorn, IsGone}}
+use Rattle.shm_tree.specs.{Trees.{Tree, Empty, Node}, Working.IsWorking}
+use Rattle.shm_tree.proofs.{Alive.{IsOn, before}, Drops.{torn_gone, torn_loses}, Losses.lost_named}
+use Rattle.shm_tree.proofs.{Nodes.{IsCalm, body_names, body_past, names}, Turns.did_then}
 
 -- ---- sums
 

@@ -1,29 +1,17 @@
 -- What the word steps of one identity keep, by the events among them that change the graph of references.
 use Rattle.std.proofs.Common.{◌≡◌, ◌==◌, ℕ, ◌<◌, Bool, true, false, cond, append_assoc, List, [], ◌∷◌, ◌++◌, refl, sym, ap, ◌∙◌, subst, length}
-use Rattle.std.specs.List.{AllByRecursion, filter}
 use Rattle.std.proofs.lemmas.Bool.{cond-true, eq-eqb}
+use Rattle.std.specs.List.{AllByRecursion, filter}
 use Rattle.shm_words.specs.declared.geometry.Geometry.{Geometry}
-use Rattle.shm_graph.specs.declared.ask.Ask.{Ask}
-use Rattle.shm_graph.specs.declared.memo.Kind.{Kind}
-use Rattle.shm_graph.specs.declared.memo.Step.{Step}
-use Rattle.shm_graph.specs.declared.run.Move.{Move}
-use Rattle.shm_graph.specs.declared.run.Move.TheVariants.{Begins, Dies, Word}
-use Rattle.shm_graph.specs.declared.run.Start.{Start}
-use Rattle.shm_graph.specs.declared.spot.Spot.{Spot}
-use Rattle.shm_graph.specs.Asks.{at_of, words_after}
-use Rattle.shm_graph.specs.CallEvents.{events_in}
-use Rattle.shm_graph.specs.Events.{Event, Nothing, Alloc, Up, Down, ChangeUp, ChangeDown, Free}
-use Rattle.shm_graph.specs.Held.{HeldAt}
+use Rattle.shm_graph.specs.declared.{ask.Ask.Ask, memo.{Kind.Kind, Step.Step}, run.Move.Move}
+use Rattle.shm_graph.specs.declared.{run.{Move.TheVariants.{Begins, Dies, Word}, Start.Start}, spot.Spot.Spot}
+use Rattle.shm_graph.specs.{Asks.{at_of, words_after}, CallEvents.events_in}
+use Rattle.shm_graph.specs.{Events.{Event, Nothing, Alloc, Up, Down, ChangeUp, ChangeDown, Free}, Held.HeldAt}
 use Rattle.shm_graph.specs.Laws.{Stepped, event_on}
 use Rattle.shm_graph.specs.Runs.{Held, Leads, State, account_at, account_entered, first_state, memos_of, moved}
-use Rattle.shm_graph.specs.Spots.{classes_in, see, spot_at}
-use Rattle.shm_graph.specs.Tells.{is_event}
-use Rattle.shm_graph.specs.Views.{View, view}
-use Rattle.shm_graph.proofs.Runs.Going.{acts_within}
-use Rattle.shm_graph.proofs.Runs.Lists.{memos_of-changed, see-words_set}
-use Rattle.shm_graph.proofs.Runs.Running.{view-at1}
-use Rattle.shm_plain.specs.Calls.{AreOf, Did, state_of}
-use Rattle.shm_plain.specs.Pools.{IsRun, Pool}
+use Rattle.shm_graph.specs.{Spots.{classes_in, see, spot_at}, Tells.is_event, Views.{View, view}}
+use Rattle.shm_graph.proofs.Runs.{Going.acts_within, Lists.{memos_of-changed, see-words_set}, Running.view-at1}
+use Rattle.shm_plain.specs.{Calls.{AreOf, Did, state_of}, Pools.{IsRun, Pool}}
 use Rattle.shm_plain.proofs.OwnTurns.{leads_after}
 
 -- a word step of the identity whose event is good keeps what the words and the memos show

@@ -1,24 +1,17 @@
 -- Blocks that no word of a block names: those that aren't live, and what keeps one so.
 use Rattle.std.proofs.Common.{◌≡◌, ◌≢◌, ℕ, false, true, cond, List, sym, ◌∙◌, subst, inl, inr, true≢false}
-use Rattle.std.specs.List.{AllByRecursion}
 use Rattle.std.proofs.lemmas.Bool.{cases_Bool, cond-false, cond-true}
+use Rattle.std.specs.List.{AllByRecursion}
 use Rattle.shm_words.specs.declared.geometry.Geometry.{Geometry}
-use Rattle.shm_graph.specs.declared.spot.Spot.{Spot}
-use Rattle.shm_graph.specs.declared.spot.Spot.TheVariants.{Body}
+use Rattle.shm_graph.specs.declared.spot.Spot.{Spot, TheVariants.Body}
 use Rattle.shm_graph.specs.Events.{Event, Nothing, Alloc, Up, Down, ChangeUp, ChangeDown, Free, Graph, Happens, graph_of}
-use Rattle.shm_graph.specs.Spots.{same_spot}
-use Rattle.shm_graph.specs.Views.{targets}
+use Rattle.shm_graph.specs.{Spots.same_spot, Views.targets}
 use Rattle.shm_graph.proofs.States.Holders.{held_live_not_zero}
-use Rattle.shm_plain.specs.Calls.{Did}
-use Rattle.shm_plain.specs.Pools.{IsRun, Pool}
+use Rattle.shm_plain.specs.{Calls.Did, Pools.{IsRun, Pool}}
 use Rattle.shm_count.specs.declared.answer.Made.{Made}
-use Rattle.shm_tree.specs.Falling.{IsUnnamed}
-use Rattle.shm_tree.specs.Keeping.{HasTree, IsBorn, is_live}
-use Rattle.shm_tree.specs.Standing.{Stands}
+use Rattle.shm_tree.specs.{Falling.IsUnnamed, Keeping.{HasTree, IsBorn, is_live}, Standing.Stands}
 use Rattle.shm_tree.specs.Trees.{Tree, Empty, Node}
-use Rattle.shm_tree.proofs.Alive.{IsOn, after, before}
-use Rattle.shm_tree.proofs.Falls.{Ups}
-use Rattle.shm_tree.proofs.Nodes.{IsCalm, calm_held, from_started}
+use Rattle.shm_tree.proofs.{Alive.{IsOn, after, before}, Falls.Ups, Nodes.{IsCalm, calm_held, from_started}}
 use Rattle.shm_tree.proofs.Turns.{StepsKeep, did_keeps}
 
 -- a block that isn't live is named by no word

@@ -1,37 +1,20 @@
 -- Where the client of a pool has made few word steps its own era leaves room, and no call was refused since it doesn't.
 use Rattle.std.proofs.Common.{◌≡◌, ℕ, zero, suc, ◌+◌, ◌-◌, ◌^◌, ◌<◌, ◌≤◌, ◌⊎◌, List, [], ◌++◌, length, refl, sym, ap, ◌∙◌, subst, arith, inl, inr, Err}
 use Rattle.shm_words.specs.declared.geometry.Geometry.{Geometry}
-use Rattle.shm_graph.specs.declared.ask.Me.{Me}
-use Rattle.shm_graph.specs.declared.memo.Memo.{Memo}
-use Rattle.shm_graph.specs.declared.run.Start.{Start}
-use Rattle.shm_graph.specs.declared.spot.Spot.{Spot}
-use Rattle.shm_graph.specs.declared.spot.Spot.TheVariants.{Body, Era}
-use Rattle.shm_graph.specs.Agents.{steps_made}
-use Rattle.shm_graph.specs.Asks.{Trail}
-use Rattle.shm_graph.specs.Events.{Event}
-use Rattle.shm_graph.specs.Spots.{see}
-use Rattle.shm_graph.specs.Views.{own_word}
+use Rattle.shm_graph.specs.declared.{ask.Me.Me, memo.Memo.Memo, run.Start.Start, spot.Spot.Spot}
+use Rattle.shm_graph.specs.{declared.spot.Spot.TheVariants.{Body, Era}, Agents.steps_made, Asks.Trail, Events.Event}
+use Rattle.shm_graph.specs.{Spots.see, Views.own_word}
 use Rattle.shm_graph.proofs.Runs.EraRises.{first_was_held, memo_bounds, run_rises}
-use Rattle.shm_plain.specs.Calls.{Did, state_of}
-use Rattle.shm_plain.specs.Pools.{IsRun, Pool, memo_of}
+use Rattle.shm_plain.specs.{Calls.{Did, state_of}, Pools.{IsRun, Pool, memo_of}}
+use Rattle.shm_alloc.specs.{declared.point.AllocState.AllocState, Alloc.AllocGives}
 use Rattle.shm_alloc.specs.declared.alloc.AllocFault.TheVariants as alloc
-use Rattle.shm_alloc.specs.declared.point.AllocState.{AllocState}
-use Rattle.shm_alloc.specs.Alloc.{AllocGives}
-use Rattle.shm_count.specs.declared.answer.EraSpent.{EraSpent}
+use Rattle.shm_count.specs.{declared.answer.EraSpent.EraSpent, Roots.member, Step.Control.last_era, UpRoot.UpRootLeaves}
 use Rattle.shm_count.specs.declared.answer.ShareFault.TheVariants as share
-use Rattle.shm_count.specs.Roots.{member}
-use Rattle.shm_count.specs.Step.Control.{last_era}
-use Rattle.shm_count.specs.UpRoot.{UpRootLeaves}
+use Rattle.shm_ref.specs.{DropRoot.{Control.dropping, DropLeaves}, SetRef.Control.setting}
+use Rattle.shm_ref.specs.SetRef.{SetLeaves, SetSpent, aim_of, taken_events, SetSpent.{AtStep, AtTear}}
 use Rattle.shm_ref.specs.declared.answer.SetFault.TheVariants as set
-use Rattle.shm_ref.specs.DropRoot.Control.{dropping}
-use Rattle.shm_ref.specs.DropRoot.{DropLeaves}
-use Rattle.shm_ref.specs.SetRef.Control.{setting}
-use Rattle.shm_ref.specs.SetRef.{SetLeaves, SetSpent, aim_of, taken_events}
-use Rattle.shm_ref.specs.SetRef.SetSpent.{AtStep, AtTear}
+use Rattle.shm_tree.specs.{Causes.{StopCause, Within}, Forests.Stopped, Working.IsSpent}
 use Rattle.shm_tree.specs.declared.stop.Stop.TheVariants as stop
-use Rattle.shm_tree.specs.Causes.{StopCause, Within}
-use Rattle.shm_tree.specs.Forests.{Stopped}
-use Rattle.shm_tree.specs.Working.{IsSpent}
 use Rattle.shm_tree.proofs.Turns.{did_leads}
 
 -- the own era

@@ -3,10 +3,8 @@ use Rattle.std.proofs.Common.{◌≡◌, ◌≢◌, ℕ, zero, suc, ◌+◌, ◌
 use Rattle.std.proofs.lemmas.Bool.{eq-eqb, ne_eqb}
 use Rattle.shm_graph.specs.declared.spot.Spot.TheVariants.{Body}
 use Rattle.shm_plain.specs.Pools.{Pool}
-use Rattle.shm_tree.specs.declared.node.Side.TheVariants.{Left, Right}
-use Rattle.shm_tree.specs.Keeping.{HasNode, child_of}
-use Rattle.shm_tree.specs.Standing.{IsTree, Stands, weight, word_of}
-use Rattle.shm_tree.specs.Trees.{Tree, Empty, Node, found, height}
+use Rattle.shm_tree.specs.{declared.node.Side.TheVariants.{Left, Right}, Keeping.{HasNode, child_of}}
+use Rattle.shm_tree.specs.{Standing.{IsTree, Stands, weight, word_of}, Trees.{Tree, Empty, Node, found, height}}
 use Rattle.shm_tree.specs.Ways.{IsDeep, IsEnd, IsOther, IsSome, down, toward}
 
 -- what stands at a block is one tree

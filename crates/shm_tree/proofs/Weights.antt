@@ -1,19 +1,14 @@
 -- What calls keep of the blocks of trees, and how many blocks of a tree that was built are others.
 use Rattle.std.proofs.Common.{◌≡◌, ◌≢◌, ℕ, ◌+◌, false, refl, sym, ap, ◌∙◌, subst, arith, inl, inr, true≢false}
 use Rattle.std.proofs.lemmas.Bool.{cases_eq}
-use Rattle.shm_graph.specs.declared.spot.Spot.{Spot}
-use Rattle.shm_graph.specs.declared.spot.Spot.TheVariants.{Body, Root}
+use Rattle.shm_graph.specs.declared.spot.Spot.{Spot, TheVariants.{Body, Root}}
 use Rattle.shm_graph.proofs.States.Holders.{target_counted}
 use Rattle.shm_plain.specs.Pools.{Pool}
 use Rattle.shm_count.specs.declared.answer.Made.{Made}
-use Rattle.shm_tree.specs.declared.node.Content.{Content}
-use Rattle.shm_tree.specs.declared.node.Pair.{Pair}
-use Rattle.shm_tree.specs.declared.node.Side.{Side}
-use Rattle.shm_tree.specs.declared.node.Side.TheVariants.{Left, Right}
+use Rattle.shm_tree.specs.declared.node.{Content.Content, Pair.Pair, Side.{Side, TheVariants.{Left, Right}}}
 use Rattle.shm_tree.specs.Building.{IsCut, KeepsBlocks, named_by}
 use Rattle.shm_tree.specs.Keeping.{IsBorn, IsDropped, IsLinked, KeepsNode, KeepsNodes, child_of, is_live, node_by, other_side}
-use Rattle.shm_tree.specs.Standing.{IsNode, Stands, weight, word_of}
-use Rattle.shm_tree.specs.Trees.{Tree, Empty, Node}
+use Rattle.shm_tree.specs.{Standing.{IsNode, Stands, weight, word_of}, Trees.{Tree, Empty, Node}}
 use Rattle.shm_tree.specs.Working.{IsEmptied, IsWorking}
 use Rattle.shm_tree.proofs.Nodes.{IsCalm, body_names, calm_first, calm_held, names, root_is, root_names, working_calm}
 

@@ -2,19 +2,11 @@
 use Rattle.std.specs.Prelude.{◌≡◌, ◌≢◌, ℕ, ◌<◌, Option, None, Some, Result, IfErr, IfSome, ◌==◌}
 use Rattle.shm_graph.specs.References.{one_if, sum_below}
 use Rattle.shm_plain.specs.Pools.{Pool, memo_of}
-use Rattle.shm_count.specs.declared.answer.Made.{Made}
-use Rattle.shm_count.specs.Roots.{root_word}
-use Rattle.shm_tree.specs.declared.balance.Plan.{Plan}
-use Rattle.shm_tree.specs.declared.node.Content.{Content}
-use Rattle.shm_tree.specs.declared.node.Pair.{Pair}
-use Rattle.shm_tree.specs.declared.node.Side.{Side}
-use Rattle.shm_tree.specs.declared.node.Side.TheVariants.{Left, Right}
-use Rattle.shm_tree.specs.declared.stop.Stop.{Stop}
-use Rattle.shm_tree.specs.Causes.{StopCause}
-use Rattle.shm_tree.specs.Keeping.{HasMade, HasTree, node_by, other_side}
-use Rattle.shm_tree.specs.Spending.{HasSpent}
-use Rattle.shm_tree.specs.Standing.{Stands, weight}
-use Rattle.shm_tree.specs.Trees.{Tree, AreNear, from_left, from_right, height, joined}
+use Rattle.shm_count.specs.{declared.answer.Made.Made, Roots.root_word}
+use Rattle.shm_tree.specs.declared.{balance.Plan.Plan, node.{Content.Content, Pair.Pair, Side.Side}}
+use Rattle.shm_tree.specs.{declared.{node.Side.TheVariants.{Left, Right}, stop.Stop.Stop}, Causes.StopCause}
+use Rattle.shm_tree.specs.{Keeping.{HasMade, HasTree, node_by, other_side}, Spending.HasSpent}
+use Rattle.shm_tree.specs.{Standing.{Stands, weight}, Trees.{Tree, AreNear, from_left, from_right, height, joined}}
 use Rattle.shm_tree.specs.Working.{DiedIn, IfAlive, IfRefused, IsReached, IsRooted, IsSameLatch, IsWorking, Went}
 
 -- what a root names

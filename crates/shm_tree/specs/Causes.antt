@@ -1,25 +1,15 @@
 -- Why a line stops: a call of it was refused so.
 use Rattle.std.specs.Prelude.{◌≡◌, ℕ, ◌⊎◌, List, [], length, Err}
-use Rattle.shm_graph.specs.declared.memo.Memo.{Memo}
-use Rattle.shm_graph.specs.Asks.{Trail}
-use Rattle.shm_graph.specs.Events.{Event}
-use Rattle.shm_plain.specs.Calls.{Did}
-use Rattle.shm_plain.specs.Pools.{IsRun, Pool, memo_of}
-use Rattle.shm_alloc.specs.declared.alloc.AllocFault.{AllocFault}
+use Rattle.shm_graph.specs.{declared.memo.Memo.Memo, Asks.Trail, Events.Event}
+use Rattle.shm_plain.specs.{Calls.Did, Pools.{IsRun, Pool, memo_of}}
+use Rattle.shm_alloc.specs.{declared.{alloc.AllocFault.AllocFault, point.AllocState.AllocState}, Alloc.AllocGives}
 use Rattle.shm_alloc.specs.declared.alloc.AllocFault.TheVariants as alloc
-use Rattle.shm_alloc.specs.declared.point.AllocState.{AllocState}
-use Rattle.shm_alloc.specs.Alloc.{AllocGives}
-use Rattle.shm_count.specs.declared.answer.EraSpent.{EraSpent}
-use Rattle.shm_count.specs.declared.answer.ShareFault.{ShareFault}
-use Rattle.shm_count.specs.declared.answer.ShareFault.TheVariants as share
-use Rattle.shm_count.specs.Roots.{member}
+use Rattle.shm_count.specs.{declared.answer.{EraSpent.EraSpent, ShareFault.ShareFault}, Roots.member}
 use Rattle.shm_count.specs.UpRoot.{UpRootLeaves}
-use Rattle.shm_ref.specs.declared.answer.SetFault.{SetFault}
+use Rattle.shm_count.specs.declared.answer.ShareFault.TheVariants as share
+use Rattle.shm_ref.specs.{declared.answer.SetFault.SetFault, DropRoot.{Control.dropping, DropLeaves}}
+use Rattle.shm_ref.specs.SetRef.{Control.setting, SetLeaves}
 use Rattle.shm_ref.specs.declared.answer.SetFault.TheVariants as set
-use Rattle.shm_ref.specs.DropRoot.Control.{dropping}
-use Rattle.shm_ref.specs.DropRoot.{DropLeaves}
-use Rattle.shm_ref.specs.SetRef.Control.{setting}
-use Rattle.shm_ref.specs.SetRef.{SetLeaves}
 use Rattle.plain_calls.specs.Allocating.{IsAsked}
 use Rattle.shm_tree.specs.declared.stop.Stop.{Stop}
 use Rattle.shm_tree.specs.declared.stop.Stop.TheVariants as stop

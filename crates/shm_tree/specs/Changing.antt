@@ -1,8 +1,7 @@
 -- Calls that change something, done or refused.
 use Rattle.std.specs.Prelude.{ℕ, ◌+◌, ◌≤◌, Result, IfErr}
 use Rattle.shm_plain.specs.Pools.{Pool}
-use Rattle.shm_tree.specs.declared.stop.Stop.{Stop}
-use Rattle.shm_tree.specs.Causes.{StopCause}
+use Rattle.shm_tree.specs.{declared.stop.Stop.Stop, Causes.StopCause}
 use Rattle.shm_tree.specs.Working.{DiedIn, IfAlive, IfRefused, IsSameLatch, IsWorking, Reaches, Went}
 
 -- A call that changes something leaves of the pool p and x word steps the pool q and y: it took at most c of them, and what was in reach is so still; where it was refused L holds of both pools, and it had a cause; or it stopped, since no word step was left

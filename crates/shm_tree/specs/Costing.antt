@@ -2,18 +2,13 @@
 use Rattle.std.specs.Prelude.{ℕ, ◌+◌, ◌*◌, List}
 use Rattle.shm_words.specs.declared.geometry.Geometry.{Geometry}
 use Rattle.shm_plain.specs.Pools.{Pool, memo_of}
-use Rattle.shm_tree.specs.declared.line.TreeLine.{TreeLine}
-use Rattle.shm_tree.specs.declared.line.TreeLine.TheVariants as lines
-use Rattle.shm_tree.specs.declared.line.TreeTurn.{TreeTurn}
-use Rattle.shm_tree.specs.declared.line.TreeTurn.TheVariants as turns
-use Rattle.shm_tree.specs.declared.registers.Registers.{Registers}
+use Rattle.shm_tree.specs.declared.{line.{TreeLine.TreeLine, TreeTurn.TreeTurn}, registers.Registers.Registers}
 use Rattle.shm_tree.specs.Bounds.{drop_steps, insert_steps, remove_steps, share_steps}
-use Rattle.shm_tree.specs.Forests.{HasVersions, IsOwn, version}
-use Rattle.shm_tree.specs.Keeping.{HasMade}
-use Rattle.shm_tree.specs.Living.{AreFewNew, AreLivesTrees, KeepsLives}
-use Rattle.shm_tree.specs.Spending.{HasSpent}
-use Rattle.shm_tree.specs.Trees.{Tree, height}
+use Rattle.shm_tree.specs.{Forests.{HasVersions, IsOwn, version}, Keeping.HasMade}
+use Rattle.shm_tree.specs.{Living.{AreFewNew, AreLivesTrees, KeepsLives}, Spending.HasSpent, Trees.{Tree, height}}
 use Rattle.shm_tree.specs.Working.{IsSpent}
+use Rattle.shm_tree.specs.declared.line.TreeLine.TheVariants as lines
+use Rattle.shm_tree.specs.declared.line.TreeTurn.TheVariants as turns
 
 -- the client came from p to q by itself, of x word steps y are left: at most n blocks were made, and at most c word steps went beside those for blocks that were torn down
 pub record Spends (n c : ℕ) (p q : Pool) (x y : ℕ) : Type 0 where

@@ -1,14 +1,10 @@
 -- A line that isn't finished for want of word steps: what shows that one more was to be made.
 use Rattle.std.specs.Prelude.{◌≡◌, ◌≢◌, ℕ, ◌<◌, ◌⊎◌, true, List, Result, IfErr}
-use Rattle.shm_tree.specs.declared.line.TreeLine.{TreeLine}
+use Rattle.shm_tree.specs.declared.{line.TreeLine.TreeLine, registers.Registers.Registers, stop.Stop.Stop}
+use Rattle.shm_tree.specs.{Building.named_by, Forests.{HasVersions, IsFree, IsUnspent, MayBeDone, Stopped, version}}
+use Rattle.shm_tree.specs.{Trees.{Tree, Empty}, Working.{AreSameRoots, IsUnderWay}}
 use Rattle.shm_tree.specs.declared.line.TreeLine.TheVariants as lines
-use Rattle.shm_tree.specs.declared.registers.Registers.{Registers}
-use Rattle.shm_tree.specs.declared.stop.Stop.{Stop}
 use Rattle.shm_tree.specs.declared.stop.Stop.TheVariants as stop
-use Rattle.shm_tree.specs.Building.{named_by}
-use Rattle.shm_tree.specs.Forests.{HasVersions, IsFree, IsUnspent, MayBeDone, Stopped, version}
-use Rattle.shm_tree.specs.Trees.{Tree, Empty}
-use Rattle.shm_tree.specs.Working.{AreSameRoots, IsUnderWay}
 
 -- a root in which no register's tree is names a block
 pub record HasSpare (g : Registers) : Type 0 where

@@ -1,16 +1,9 @@
 -- The closing of a forest's pool: its one client leaves, or it is dead and is recovered.
 use Rattle.std.specs.Prelude.{◌≡◌, ◌^◌, ◌≤◌, ◌⊎◌, Bool, true, false, List, Result}
-use Rattle.shm_graph.specs.declared.memo.Kind.TheVariants.{Recoverer}
-use Rattle.shm_graph.specs.Agents.{entered, steps_made}
-use Rattle.shm_graph.specs.Events.{Event}
-use Rattle.shm_plain.specs.Calls.{Did}
-use Rattle.shm_plain.specs.Pools.{Pool, after_fall, memo_of}
-use Rattle.shm_count.specs.declared.answer.EraSpent.{EraSpent}
-use Rattle.shm_count.specs.Roots.{member}
-use Rattle.shm_recover.specs.Leave.Control.{leaving}
-use Rattle.shm_recover.specs.Leave.{LeaveLeaves}
-use Rattle.shm_recover.specs.Recover.Control.{recovering}
-use Rattle.shm_recover.specs.Recover.{RecoverLeaves}
+use Rattle.shm_graph.specs.{declared.memo.Kind.TheVariants.Recoverer, Agents.{entered, steps_made}, Events.Event}
+use Rattle.shm_plain.specs.{Calls.Did, Pools.{Pool, after_fall, memo_of}}
+use Rattle.shm_count.specs.{declared.answer.EraSpent.EraSpent, Roots.member}
+use Rattle.shm_recover.specs.{Leave.{Control.leaving, LeaveLeaves}, Recover.{Control.recovering, RecoverLeaves}}
 use Rattle.shm_tree.specs.Working.{IsSpent}
 
 -- its client has made few word steps, and began with era 1

@@ -1,9 +1,6 @@
 -- References of blocks that go to blocks of lower rank.
 use Rattle.std.specs.Prelude.{◌≡◌, ◌≢◌, ℕ, ◌<◌, ◌≤◌}
-use Rattle.shm_graph.specs.declared.spot.Spot.{Spot}
-use Rattle.shm_graph.specs.declared.spot.Spot.TheVariants.{Body, Home}
-use Rattle.shm_graph.specs.Runs.{memos_of}
-use Rattle.shm_graph.specs.Spots.{see}
+use Rattle.shm_graph.specs.{declared.spot.Spot.{Spot, TheVariants.{Body, Home}}, Runs.memos_of, Spots.see}
 use Rattle.shm_graph.specs.Views.{targets, view}
 use Rattle.shm_plain.specs.Pools.{Pool}
 

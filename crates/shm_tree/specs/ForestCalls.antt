@@ -1,21 +1,12 @@
 -- What the calls of a forest leave.
 use Rattle.std.specs.Prelude.{◌≡◌, ◌≢◌, ℕ, ◌<◌, ◌++◌, false, List, [], replicate, Ok}
-use Rattle.shm_graph.specs.declared.run.Move.{Move}
-use Rattle.shm_graph.specs.Agents.{steps_made}
-use Rattle.shm_plain.specs.Calls.{Did}
-use Rattle.shm_plain.specs.Closings.{IsClosedRun}
-use Rattle.shm_plain.specs.Pools.{IsRun, Pool, first_pool, memo_of}
-use Rattle.shm_tree.specs.declared.line.TreeLine.{TreeLine}
-use Rattle.shm_tree.specs.declared.line.TreeTurn.{TreeTurn}
+use Rattle.shm_graph.specs.{declared.run.Move.Move, Agents.steps_made}
+use Rattle.shm_plain.specs.{Calls.Did, Closings.IsClosedRun, Pools.{IsRun, Pool, first_pool, memo_of}}
+use Rattle.shm_tree.specs.declared.line.{TreeLine.TreeLine, TreeTurn.TreeTurn}
+use Rattle.shm_tree.specs.{Costing.{FewLine, IfEnded, IfStopped, SpendsLine}, CutShort.{IsCutShort, IsWordless}}
+use Rattle.shm_tree.specs.{Ending.HasEnded, Forests.{DoesTurn, Forested, HasVersions, IsCaused, IsUnspent, is_died}}
+use Rattle.shm_tree.specs.{Keeping.{AreSameLives, is_live}, Living.AreLivesTrees, Trees.{Empty, Tree}, Working.Went}
 use Rattle.shm_tree.specs.declared.line.TreeTurn.TheVariants as turns
-use Rattle.shm_tree.specs.Costing.{FewLine, IfEnded, IfStopped, SpendsLine}
-use Rattle.shm_tree.specs.CutShort.{IsCutShort, IsWordless}
-use Rattle.shm_tree.specs.Ending.{HasEnded}
-use Rattle.shm_tree.specs.Forests.{DoesTurn, Forested, HasVersions, IsCaused, IsUnspent, is_died}
-use Rattle.shm_tree.specs.Keeping.{AreSameLives, is_live}
-use Rattle.shm_tree.specs.Living.{AreLivesTrees}
-use Rattle.shm_tree.specs.Trees.{Empty, Tree}
-use Rattle.shm_tree.specs.Working.{Went}
 
 -- A forest that was made with so many segments: turns led to its pool, which is of one client, for single calls, with first eras 1; the client joined, by one word step, and did nothing else; its registers are empty, and no block is live
 pub record IsFirstForest (segments : ℕ) (f : Forested) : Type 0 where

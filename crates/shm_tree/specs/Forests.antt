@@ -2,27 +2,18 @@
 use Rattle.std.specs.Prelude.{◌≡◌, ◌≢◌, ℕ, ◌<◌, ◌≤◌, ◌⊎◌, Bool, true, false, List, length, slice_index, slice_index_or, slice_set, nat_lt, if◌then◌else◌, Option, None, Some, Result, Ok, Err, IfErr}
 use Rattle.std.specs.Option.{is_some}
 use Rattle.shm_words.specs.Layout.{GeometryFits}
-use Rattle.shm_graph.specs.Agents.{acts}
-use Rattle.shm_graph.specs.Events.{Event}
-use Rattle.shm_plain.specs.Calls.{Did}
-use Rattle.shm_plain.specs.Pools.{IsRun, Pool, memo_of}
+use Rattle.shm_graph.specs.{Agents.acts, Events.Event}
+use Rattle.shm_plain.specs.{Calls.Did, Pools.{IsRun, Pool, memo_of}}
 use Rattle.shm_count.specs.declared.answer.Made.{Made}
-use Rattle.shm_tree.specs.declared.line.TreeAnswer.{TreeAnswer}
-use Rattle.shm_tree.specs.declared.line.TreeAnswer.TheVariants as answers
-use Rattle.shm_tree.specs.declared.line.TreeLine.{TreeLine}
-use Rattle.shm_tree.specs.declared.line.TreeLine.TheVariants as lines
-use Rattle.shm_tree.specs.declared.line.TreeTurn.{TreeTurn}
-use Rattle.shm_tree.specs.declared.line.TreeTurn.TheVariants as turns
-use Rattle.shm_tree.specs.declared.registers.Registers.{Registers}
-use Rattle.shm_tree.specs.declared.remove.Removed.{Removed}
-use Rattle.shm_tree.specs.declared.stop.Stop.{Stop}
-use Rattle.shm_tree.specs.declared.stop.Stop.TheVariants as stop
-use Rattle.shm_tree.specs.Building.{named_by}
-use Rattle.shm_tree.specs.Causes.{StopCause}
-use Rattle.shm_tree.specs.Falling.{AreFalling}
-use Rattle.shm_tree.specs.Standing.{IsTree, Stands, weight}
+use Rattle.shm_tree.specs.declared.line.{TreeAnswer.TreeAnswer, TreeLine.TreeLine, TreeTurn.TreeTurn}
+use Rattle.shm_tree.specs.declared.{registers.Registers.Registers, remove.Removed.Removed, stop.Stop.Stop}
+use Rattle.shm_tree.specs.{Building.named_by, Causes.StopCause, Falling.AreFalling, Standing.{IsTree, Stands, weight}}
 use Rattle.shm_tree.specs.Trees.{Tree, Empty, found, inserted, removed}
 use Rattle.shm_tree.specs.Working.{AreSameRoots, IfAlive, IfRefused, IsOver, IsRooted, IsSameLatch, IsSpent, IsWorking, Went}
+use Rattle.shm_tree.specs.declared.line.TreeAnswer.TheVariants as answers
+use Rattle.shm_tree.specs.declared.line.TreeLine.TheVariants as lines
+use Rattle.shm_tree.specs.declared.line.TreeTurn.TheVariants as turns
+use Rattle.shm_tree.specs.declared.stop.Stop.TheVariants as stop
 
 -- ---- registers and their versions
 

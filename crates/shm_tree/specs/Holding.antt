@@ -2,9 +2,7 @@
 use Rattle.std.specs.Prelude.{ℕ}
 use Rattle.shm_graph.specs.References.{one_if, sum_below}
 use Rattle.shm_plain.specs.Pools.{Pool}
-use Rattle.shm_tree.specs.Keeping.{is_live}
-use Rattle.shm_tree.specs.Standing.{Stands}
-use Rattle.shm_tree.specs.Trees.{Tree, IsSearch}
+use Rattle.shm_tree.specs.{Keeping.is_live, Standing.Stands, Trees.{Tree, IsSearch}}
 
 -- a search tree stands at this block, or it is none
 abbrev pub HasSearch : Pool → ℕ → Type 0

@@ -1,13 +1,9 @@
 -- What comes of a tree once a number is set at a key, level by level from the key's place up.
 use Rattle.std.specs.Prelude.{◌≡◌, ◌≢◌, ℕ, ◌+◌, ◌<◌, ◌≤◌, ◌==◌, ◌||◌, Bool, false, not}
-use Rattle.shm_graph.specs.declared.spot.Spot.TheVariants.{Body}
-use Rattle.shm_graph.specs.References.{one_if}
+use Rattle.shm_graph.specs.{declared.spot.Spot.TheVariants.Body, References.one_if}
 use Rattle.shm_plain.specs.Pools.{Pool}
-use Rattle.shm_tree.specs.Building.{named_by}
-use Rattle.shm_tree.specs.Standing.{IsTree, Stands, weight, word_of}
-use Rattle.shm_tree.specs.Trees.{Tree, Empty, Node, inserted}
-use Rattle.shm_tree.specs.Sharing.{IsCount}
-use Rattle.shm_tree.specs.Ways.{IsEnd}
+use Rattle.shm_tree.specs.{Building.named_by, Standing.{IsTree, Stands, weight, word_of}}
+use Rattle.shm_tree.specs.{Trees.{Tree, Empty, Node, inserted}, Sharing.IsCount, Ways.IsEnd}
 
 -- the trees on the two sides of a node, empty ones where there is none
 abbrev pub left_of : Tree → Tree

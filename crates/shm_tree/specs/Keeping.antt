@@ -1,19 +1,11 @@
 -- What calls keep of nodes and trees, and what they make of them.
-use Rattle.std.specs.Prelude.{◌≡◌, ◌≢◌, ℕ, ◌<◌, ◌≤◌, ◌⊎◌, Bool, true, false, List, length}
-use Rattle.std.specs.List.{Contains, filter}
+use Rattle.std.specs.{Prelude.{◌≡◌, ◌≢◌, ℕ, ◌<◌, ◌≤◌, ◌⊎◌, Bool, true, false, List, length}, List.{Contains, filter}}
 use Rattle.shm_words.specs.Headers.{header_of}
-use Rattle.shm_graph.specs.declared.spot.Spot.TheVariants.{Body, Head}
-use Rattle.shm_graph.specs.Events.{Event, Alloc}
-use Rattle.shm_plain.specs.Calls.{Did}
-use Rattle.shm_plain.specs.Pools.{Pool, memo_of}
-use Rattle.shm_count.specs.declared.answer.Made.{Made}
-use Rattle.shm_count.specs.Roots.{root_word}
-use Rattle.shm_tree.specs.declared.node.Content.{Content}
-use Rattle.shm_tree.specs.declared.node.Pair.{Pair}
-use Rattle.shm_tree.specs.declared.node.Side.{Side}
-use Rattle.shm_tree.specs.declared.node.Side.TheVariants.{Left, Right}
-use Rattle.shm_tree.specs.Standing.{IsNode, Stands, word_of}
-use Rattle.shm_tree.specs.Trees.{Tree, Empty, Node}
+use Rattle.shm_graph.specs.{declared.spot.Spot.TheVariants.{Body, Head}, Events.{Event, Alloc}}
+use Rattle.shm_plain.specs.{Calls.Did, Pools.{Pool, memo_of}}
+use Rattle.shm_count.specs.{declared.answer.Made.Made, Roots.root_word}
+use Rattle.shm_tree.specs.declared.node.{Content.Content, Pair.Pair, Side.{Side, TheVariants.{Left, Right}}}
+use Rattle.shm_tree.specs.{Standing.{IsNode, Stands, word_of}, Trees.{Tree, Empty, Node}}
 use Rattle.shm_tree.specs.Working.{AreSameRoots, IsRooted}
 
 -- ---- sides

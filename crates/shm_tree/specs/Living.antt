@@ -1,13 +1,8 @@
 -- Live blocks that are all nodes of trees that roots name, and how many came to be live.
-use Rattle.std.specs.Prelude.{◌≡◌, ℕ, ◌<◌, ◌≤◌, ◌⊎◌, true, false, List, length}
-use Rattle.std.specs.List.{Contains}
+use Rattle.std.specs.{Prelude.{◌≡◌, ℕ, ◌<◌, ◌≤◌, ◌⊎◌, true, false, List, length}, List.Contains}
 use Rattle.shm_plain.specs.Pools.{Pool, memo_of}
-use Rattle.shm_tree.specs.Building.{named_by}
-use Rattle.shm_tree.specs.Inserting.{is_part}
-use Rattle.shm_tree.specs.Keeping.{HasTree, is_live}
-use Rattle.shm_tree.specs.Standing.{Stands}
-use Rattle.shm_tree.specs.Trees.{Tree}
-use Rattle.shm_tree.specs.Working.{IsSpent}
+use Rattle.shm_tree.specs.{Building.named_by, Inserting.is_part, Keeping.{HasTree, is_live}, Standing.Stands}
+use Rattle.shm_tree.specs.{Trees.Tree, Working.IsSpent}
 
 -- a tree stands wherever a root names a block
 abbrev pub AreRootsTrees : Pool → Type 0

@@ -1,14 +1,9 @@
 -- A node that is made again, with another tree on the side of a key.
 use Rattle.std.specs.Prelude.{◌≡◌, ℕ, ◌+◌, ◌<◌, ◌≤◌, nat_lt, if◌then◌else◌, Option, None, Some}
 use Rattle.shm_plain.specs.Pools.{Pool}
-use Rattle.shm_tree.specs.declared.node.Content.{Content}
-use Rattle.shm_tree.specs.declared.node.Side.{Side}
-use Rattle.shm_tree.specs.declared.node.Side.TheVariants.{Left, Right}
-use Rattle.shm_tree.specs.Building.{joined_by}
-use Rattle.shm_tree.specs.Keeping.{HasMade, child_of, other_side}
-use Rattle.shm_tree.specs.Sharing.{CountsTop, IsCount}
-use Rattle.shm_tree.specs.Standing.{Stands, weight}
-use Rattle.shm_tree.specs.Trees.{Tree, Empty, Node, AreNear, height}
+use Rattle.shm_tree.specs.{declared.node.{Content.Content, Side.{Side, TheVariants.{Left, Right}}}, Building.joined_by}
+use Rattle.shm_tree.specs.{Keeping.{HasMade, child_of, other_side}, Sharing.{CountsTop, IsCount}}
+use Rattle.shm_tree.specs.{Standing.{Stands, weight}, Trees.{Tree, Empty, Node, AreNear, height}}
 
 -- the side of a node with the key k on which the key x stands
 abbrev pub side_of : (x k : ℕ) → Side

@@ -1,10 +1,8 @@
 -- The latch that is given back behind a call.
 use Rattle.std.specs.Prelude.{◌≡◌, ℕ, ◌+◌, ◌⊎◌, None, Result, IfErr}
 use Rattle.shm_plain.specs.Pools.{Pool, memo_of}
-use Rattle.shm_tree.specs.declared.stop.Stop.{Stop}
+use Rattle.shm_tree.specs.{declared.stop.Stop.Stop, Keeping.IsStill, Working.{IfAlive, IsUnderWay, IsWorking, Went}}
 use Rattle.shm_tree.specs.declared.stop.Stop.TheVariants as stop
-use Rattle.shm_tree.specs.Keeping.{IsStill}
-use Rattle.shm_tree.specs.Working.{IfAlive, IsUnderWay, IsWorking, Went}
 
 -- it was given back, in three word steps, and nothing else was done
 pub record IsGivenBack (p q : Pool) (x y : ℕ) : Type 0 where

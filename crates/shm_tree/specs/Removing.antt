@@ -2,16 +2,10 @@
 use Rattle.std.specs.Prelude.{◌≡◌, ◌≢◌, ℕ, ◌*◌, nat_lt, if◌then◌else◌, Option, None, Some}
 use Rattle.shm_plain.specs.Pools.{Pool}
 use Rattle.shm_count.specs.declared.answer.Made.{Made}
-use Rattle.shm_tree.specs.declared.node.Content.{Content}
-use Rattle.shm_tree.specs.declared.node.Side.{Side}
-use Rattle.shm_tree.specs.declared.node.Side.TheVariants.{Left, Right}
-use Rattle.shm_tree.specs.declared.remove.Removed.{Removed}
-use Rattle.shm_tree.specs.Building.{IsBuilt, IsCut, block_of}
-use Rattle.shm_tree.specs.Inserting.{left_of, right_of}
-use Rattle.shm_tree.specs.Keeping.{IsStill}
-use Rattle.shm_tree.specs.Standing.{Stands}
-use Rattle.shm_tree.specs.Trees.{Tree, Empty, Node, found, height, removed, without_least}
-use Rattle.shm_tree.specs.Ways.{down}
+use Rattle.shm_tree.specs.declared.node.{Content.Content, Side.{Side, TheVariants.{Left, Right}}}
+use Rattle.shm_tree.specs.{declared.remove.Removed.Removed, Building.{IsBuilt, IsCut, block_of}}
+use Rattle.shm_tree.specs.{Inserting.{left_of, right_of}, Keeping.IsStill, Standing.Stands}
+use Rattle.shm_tree.specs.{Trees.{Tree, Empty, Node, found, height, removed, without_least}, Ways.down}
 use Rattle.shm_tree.specs.Working.{AreSameRoots}
 
 -- ---- trees

@@ -2,8 +2,7 @@
 use Rattle.std.specs.Prelude.{◌≡◌, ℕ, ◌^◌, ◌<◌, ◌≤◌, List, [], ◌++◌, length, Option, Some, None, codes, IfSome}
 use Rattle.std.specs.List.{AllByRecursion, flat_map}
 use Rattle.shm_script.specs.Text.{ended, spaced}
-use Rattle.shm_tree.specs.declared.line.TreeLine.{TreeLine}
-use Rattle.shm_tree.specs.declared.line.TreeLine.TheVariants.{Set, Del, Get, Copy, Clear}
+use Rattle.shm_tree.specs.declared.line.TreeLine.{TreeLine, TheVariants.{Set, Del, Get, Copy, Clear}}
 use Rattle.shm_tree.specs.Scripts.{Scripted}
 
 abbrev pub line_spelled : TreeLine → List ℕ

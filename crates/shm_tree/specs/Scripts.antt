@@ -1,20 +1,14 @@
 -- Scripts that are read line by line: where a line may stand, the ranges of its numbers, and the first fault.
 use Rattle.std.specs.Prelude.{ℕ, ◌+◌, ◌^◌, Bool, true, false, not, List, [], ◌∷◌, ◌++◌, length, Option, Some, None, Result, Ok, Err, nat_lt, ◌==◌, if◌then◌else◌}
 use Rattle.std.specs.List.{slice_split}
-use Rattle.shm_script.specs.declared.fault.TraceKind.{TraceKind}
-use Rattle.shm_script.specs.declared.fault.TraceKind.TheVariants.{Syntax, Range}
-use Rattle.shm_script.specs.declared.fault.TraceFault.{TraceFault}
-use Rattle.shm_script.specs.Faults.{below, between, fault_at, key_of, limit_fault}
-use Rattle.shm_script.specs.Shapes.{both, given}
-use Rattle.shm_tree.specs.declared.line.TreeLine.{TreeLine}
+use Rattle.shm_script.specs.declared.fault.{TraceKind.{TraceKind, TheVariants.{Syntax, Range}}, TraceFault.TraceFault}
+use Rattle.shm_script.specs.{Faults.{below, between, fault_at, key_of, limit_fault}, Shapes.{both, given}}
+use Rattle.shm_tree.specs.declared.{line.TreeLine.TreeLine, shape.RawTree.RawTree, judge.TreePlace.TreePlace}
+use Rattle.shm_tree.specs.{declared.judge.FitTree.FitTree, Shapes.shape_of}
 use Rattle.shm_tree.specs.declared.line.TreeLine.TheVariants as lines
-use Rattle.shm_tree.specs.declared.shape.RawTree.{RawTree}
 use Rattle.shm_tree.specs.declared.shape.RawTree.TheVariants as raw
-use Rattle.shm_tree.specs.declared.judge.TreePlace.{TreePlace}
 use Rattle.shm_tree.specs.declared.judge.TreePlace.TheVariants as place
-use Rattle.shm_tree.specs.declared.judge.FitTree.{FitTree}
 use Rattle.shm_tree.specs.declared.judge.FitTree.TheVariants as fit
-use Rattle.shm_tree.specs.Shapes.{shape_of}
 
 -- a script without where it lies in memory: how many segments there are, a life where one is told, and lines
 pub record Scripted : Type 0 where

@@ -1,11 +1,8 @@
 -- The shape of a line of a script: its word and its numbers, which may have any size.
-use Rattle.std.specs.Prelude.{ℕ, List, [], ◌∷◌, Option, None, codes, ◌==◌, if◌then◌else◌}
-use Rattle.std.specs.List.{slice_split}
+use Rattle.std.specs.{Prelude.{ℕ, List, [], ◌∷◌, Option, None, codes, ◌==◌, if◌then◌else◌}, List.slice_split}
 use Rattle.std.specs.Str.{bytes_eq}
-use Rattle.shm_script.specs.Numbers.{number_of}
-use Rattle.shm_script.specs.Shapes.{both, given, one_of, two_of, three_of}
-use Rattle.shm_tree.specs.declared.shape.RawTree.{RawTree}
-use Rattle.shm_tree.specs.declared.shape.RawTree.TheVariants.{Tree, Life, Set, Del, Get, Copy, Clear}
+use Rattle.shm_script.specs.{Numbers.number_of, Shapes.{both, given, one_of, two_of, three_of}}
+use Rattle.shm_tree.specs.declared.shape.RawTree.{RawTree, TheVariants.{Tree, Life, Set, Del, Get, Copy, Clear}}
 
 -- a set: four numbers alone
 unfoldable pub set_of : List (List ℕ) → Option RawTree

@@ -2,14 +2,9 @@
 use Rattle.std.specs.Prelude.{◌≡◌, ℕ, ◌+◌, ◌<◌, ◌≤◌, false}
 use Rattle.shm_plain.specs.Pools.{Pool}
 use Rattle.shm_count.specs.declared.answer.Made.{Made}
-use Rattle.shm_tree.specs.Building.{from_far, joined_by}
-use Rattle.shm_tree.specs.declared.balance.Plan.{Plan}
-use Rattle.shm_tree.specs.declared.node.Content.{Content}
-use Rattle.shm_tree.specs.declared.node.Pair.{Pair}
-use Rattle.shm_tree.specs.declared.node.Side.{Side}
-use Rattle.shm_tree.specs.Keeping.{child_of, is_live, node_by, other_side}
-use Rattle.shm_tree.specs.Standing.{Stands, weight}
-use Rattle.shm_tree.specs.Trees.{Tree, AreNear, height}
+use Rattle.shm_tree.specs.{Building.{from_far, joined_by}, declared.{balance.Plan.Plan, node.Content.Content}}
+use Rattle.shm_tree.specs.{declared.node.{Pair.Pair, Side.Side}, Keeping.{child_of, is_live, node_by, other_side}}
+use Rattle.shm_tree.specs.{Standing.{Stands, weight}, Trees.{Tree, AreNear, height}}
 
 -- f counts a block once, or not
 abbrev pub IsCount : (ℕ → ℕ) → Type 0

@@ -1,9 +1,7 @@
 -- How many word steps calls of the client took, one after the other, and what they tore down.
 use Rattle.std.specs.Prelude.{◌≡◌, ℕ, ◌+◌, ◌≤◌, ◌⊎◌, List}
-use Rattle.shm_graph.specs.Bounds.{tear_steps}
-use Rattle.shm_graph.specs.Events.{Event}
-use Rattle.shm_plain.specs.Calls.{Did}
-use Rattle.shm_plain.specs.Pools.{Pool, memo_of}
+use Rattle.shm_graph.specs.{Bounds.tear_steps, Events.Event}
+use Rattle.shm_plain.specs.{Calls.Did, Pools.{Pool, memo_of}}
 use Rattle.shm_count.specs.Tear.Events.{frees}
 use Rattle.shm_tree.specs.Working.{IsSpent}
 

@@ -1,10 +1,7 @@
 -- Trees that stand in the words of a pool: their nodes are blocks.
 use Rattle.std.specs.Prelude.{◌≡◌, ◌≢◌, ℕ, ◌+◌, true}
-use Rattle.shm_words.specs.Headers.{header_of}
-use Rattle.shm_words.specs.Tags.{tag_plain, tag_refs}
-use Rattle.shm_graph.specs.declared.spot.Spot.{Spot}
-use Rattle.shm_graph.specs.declared.spot.Spot.TheVariants.{Body, Head, Tag}
-use Rattle.shm_graph.specs.Spots.{see}
+use Rattle.shm_words.specs.{Headers.header_of, Tags.{tag_plain, tag_refs}}
+use Rattle.shm_graph.specs.{declared.spot.Spot.{Spot, TheVariants.{Body, Head, Tag}}, Spots.see}
 use Rattle.shm_plain.specs.Pools.{Pool}
 use Rattle.shm_tree.specs.Trees.{Tree, Empty, Node, height, IsBalanced, IsSearch}
 

@@ -1,14 +1,9 @@
 -- What a drop of a root tears down.
-use Rattle.std.specs.Prelude.{◌≡◌, ℕ, ◌+◌, ◌≤◌, ◌⊎◌, false, List, length}
-use Rattle.std.specs.List.{All, Contains}
+use Rattle.std.specs.{Prelude.{◌≡◌, ℕ, ◌+◌, ◌≤◌, ◌⊎◌, false, List, length}, List.{All, Contains}}
 use Rattle.shm_graph.specs.Events.{Event}
-use Rattle.shm_plain.specs.Calls.{Did}
-use Rattle.shm_plain.specs.Pools.{Pool, memo_of}
-use Rattle.shm_count.specs.Roots.{root_word}
-use Rattle.shm_count.specs.Tear.Events.{Visit, frees}
-use Rattle.shm_tree.specs.Keeping.{is_live}
-use Rattle.shm_tree.specs.Standing.{Stands, weight}
-use Rattle.shm_tree.specs.Trees.{Tree}
+use Rattle.shm_plain.specs.{Calls.Did, Pools.{Pool, memo_of}}
+use Rattle.shm_count.specs.{Roots.root_word, Tear.Events.{Visit, frees}}
+use Rattle.shm_tree.specs.{Keeping.is_live, Standing.{Stands, weight}, Trees.Tree}
 
 -- a block isn't live, or is a zero-count block
 abbrev pub IsGone : Pool → ℕ → Type 0

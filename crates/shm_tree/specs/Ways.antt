@@ -1,8 +1,7 @@
 -- Ways down a tree to a key.
 use Rattle.std.specs.Prelude.{◌≡◌, ◌≢◌, ℕ, zero, suc, ◌<◌, nat_lt, if◌then◌else◌}
 use Rattle.shm_plain.specs.Pools.{Pool}
-use Rattle.shm_tree.specs.Standing.{Stands}
-use Rattle.shm_tree.specs.Trees.{Tree, Empty, Node}
+use Rattle.shm_tree.specs.{Standing.Stands, Trees.{Tree, Empty, Node}}
 
 -- the tree on the side of a node on which a key stands that isn't its own: on the right where it is its own
 abbrev pub toward : ℕ → Tree → Tree

@@ -1,19 +1,12 @@
 -- The one client of a forest's pool at work.
 use Rattle.std.specs.Prelude.{◌≡◌, ◌≢◌, ℕ, ◌+◌, ◌-◌, ◌^◌, ◌<◌, ◌⊎◌, true, false, List, [], slice_index, Some, Result, Ok, Err}
-use Rattle.shm_graph.specs.declared.memo.Memo.{Memo}
-use Rattle.shm_graph.specs.declared.spot.Spot.TheVariants.{Era, Home}
-use Rattle.shm_graph.specs.Agents.{acts, recovers, steps_made}
-use Rattle.shm_graph.specs.Events.{Event}
-use Rattle.shm_graph.specs.Held.{is_loose}
-use Rattle.shm_graph.specs.Reach.{is_reached}
+use Rattle.shm_graph.specs.declared.{memo.Memo.Memo, spot.Spot.TheVariants.{Era, Home}}
+use Rattle.shm_graph.specs.{Agents.{acts, recovers, steps_made}, Events.Event, Held.is_loose, Reach.is_reached}
 use Rattle.shm_graph.specs.Views.{own_word}
-use Rattle.shm_plain.specs.Calls.{Did, IsAtWork}
-use Rattle.shm_plain.specs.Pools.{IsRun, Pool, memo_of}
+use Rattle.shm_plain.specs.{Calls.{Did, IsAtWork}, Pools.{IsRun, Pool, memo_of}}
 use Rattle.shm_count.specs.Roots.{AreRootsReached, root_word}
-use Rattle.shm_tree.specs.declared.stop.Stop.{Stop}
+use Rattle.shm_tree.specs.{declared.stop.Stop.Stop, Falling.KeepsFalling, Standing.word_of}
 use Rattle.shm_tree.specs.declared.stop.Stop.TheVariants as stop
-use Rattle.shm_tree.specs.Falling.{KeepsFalling}
-use Rattle.shm_tree.specs.Standing.{word_of}
 
 -- the own era leaves no room for a step down
 abbrev pub IsSpent : Memo → Type 0

@@ -4,8 +4,7 @@ ghost use Rattle.std.specs.Prelude.{◌≡◌, ◌≢◌, ◌≤◌, Some, IfOk,
 ghost use Rattle.shm_plain.specs.Pools.{memo_of};
 ghost use Rattle.shm_tree.specs.Bounds.{balanced_steps, crowned_steps, raise_steps, raised_steps, renewed_steps, rotated_steps, turned_steps};
 ghost use Rattle.shm_tree.specs.Building.{Builds, IsAtHand, IsBuilt, IsCheap, IsHeld, IsRebuilt, StandsCrowned, StandsOf, StandsRaised, StandsTurned, StandsTurnedTwice, block_of, from_far, joined_by, rooms};
-ghost use Rattle.shm_tree.specs.Keeping.{HasNode, HasTree, child_of, other_side};
-ghost use Rattle.shm_tree.specs.Living.{KeepsLives};
+ghost use Rattle.shm_tree.specs.{Keeping.{HasNode, HasTree, child_of, other_side}, Living.KeepsLives};
 ghost use Rattle.shm_tree.specs.Raising.{IsCheapAt, IsOverAt, StandsAgain, WeighsAgain, content_or};
 ghost use Rattle.shm_tree.specs.Sharing.{IsOver, IsFresh, WeighsCrowned, WeighsFar, WeighsJoined, WeighsRaised, WeighsTurned, WeighsTurnedTwice};
 ghost use Rattle.shm_tree.specs.Working.{IfAlive, IsReached, IsWorking};

@@ -2,20 +2,15 @@
 
 ghost use Rattle.std.specs.Prelude.{◌≡◌, ◌≢◌, ℕ, ◌+◌, ◌<◌, ◌≤◌, ◌⊎◌, [], None, Some, IfErr, IfOk};
 ghost use Rattle.shm_graph.specs.declared.spot.Spot.TheVariants.{Body};
-ghost use Rattle.shm_plain.specs.Calls.{Did};
-ghost use Rattle.shm_plain.specs.Pools.{memo_of};
+ghost use Rattle.shm_plain.specs.{Calls.Did, Pools.memo_of};
 ghost use Rattle.shm_count.specs.Roots.{root_word};
-ghost use Rattle.shm_tree.specs.declared.stop.Stop.TheVariants as stop;
-ghost use Rattle.shm_tree.specs.Bounds.{drop_steps, make_steps, refer_steps, share_steps};
-ghost use Rattle.shm_tree.specs.Causes.{StopCause};
-ghost use Rattle.shm_tree.specs.Changing.{Changes};
-ghost use Rattle.shm_tree.specs.Falling.{IsUnnamed};
+ghost use Rattle.shm_tree.specs.{Bounds.{drop_steps, make_steps, refer_steps, share_steps}, Causes.StopCause};
+ghost use Rattle.shm_tree.specs.{Changing.Changes, Falling.IsUnnamed};
 ghost use Rattle.shm_tree.specs.Keeping.{HasNode, HasTree, IsDropped, IsMade, IsReferring, IsShared, IsStill, child_of};
-ghost use Rattle.shm_tree.specs.Looking.{Looks};
-ghost use Rattle.shm_tree.specs.Standing.{Stands, word_of};
-ghost use Rattle.shm_tree.specs.Tearing.{HasTorn};
+ghost use Rattle.shm_tree.specs.{Looking.Looks, Standing.{Stands, word_of}, Tearing.HasTorn};
 ghost use Rattle.shm_tree.specs.Trees.{Tree as ATree, height as height_of};
 ghost use Rattle.shm_tree.specs.Working.{AreSameRoots, DiedBegun, DiedIn, HasRoom, IfAlive, IfRefused, IsCutOff, IsEmptied, IsInCall, IsReached, IsSameLatch, IsSpent, IsWorking, Reaches, Went};
+ghost use Rattle.shm_tree.specs.declared.stop.Stop.TheVariants as stop;
 
 use crate::node::{Content, Side};
 use crate::stop::Stop;

@@ -1,14 +1,9 @@
 //! The closing of a forest's pool.
 
 ghost use Rattle.std.specs.Prelude.{◌≡◌, ℕ, ◌++◌, ◌↔◌, false, true, List, [], None, Ok, Err, IfErr, IfOk, is_ok};
-ghost use Rattle.shm_graph.specs.declared.run.Move.{Move as AMove};
-ghost use Rattle.shm_graph.specs.Agents.{acts, last_agent};
-ghost use Rattle.shm_graph.specs.Runs.{fell_by};
-ghost use Rattle.shm_plain.specs.Closings.{IsClosedRun};
-ghost use Rattle.shm_plain.specs.Pools.{IsRun, Pool as APool, memo_of};
-ghost use Rattle.shm_tree.specs.Ending.{HasEnded, HasParted, IsRevived, IsYoung};
-ghost use Rattle.shm_tree.specs.Falling.{AreFalling};
-ghost use Rattle.shm_tree.specs.Keeping.{is_live};
+ghost use Rattle.shm_graph.specs.{declared.run.Move.Move as AMove, Agents.{acts, last_agent}, Runs.fell_by};
+ghost use Rattle.shm_plain.specs.{Closings.IsClosedRun, Pools.{IsRun, Pool as APool, memo_of}};
+ghost use Rattle.shm_tree.specs.{Ending.{HasEnded, HasParted, IsRevived, IsYoung}, Falling.AreFalling, Keeping.is_live};
 ghost use Rattle.shm_tree.specs.Working.{IsSpent, IsWorking};
 
 use plain_calls::die;

@@ -2,15 +2,10 @@
 
 ghost use Rattle.std.specs.Prelude.{◌≡◌, ◌+◌, ◌*◌, ◌<◌, ◌≤◌};
 ghost use Rattle.shm_words.specs.Layout.{bodies, total_of};
-ghost use Rattle.shm_graph.specs.References.{live_count};
-ghost use Rattle.shm_graph.specs.Spots.{block_spot, classes_in, see, spot_at};
+ghost use Rattle.shm_graph.specs.{References.live_count, Spots.{block_spot, classes_in, see, spot_at}};
 ghost use Rattle.shm_plain.specs.Pools.{IsRun};
-ghost use Rattle.shm_tree.specs.Building.{named_by};
-ghost use Rattle.shm_tree.specs.Holding.{HasSearch, lives_below};
-ghost use Rattle.shm_tree.specs.Forests.{block_in};
-ghost use Rattle.shm_tree.specs.Keeping.{is_live};
-ghost use Rattle.shm_tree.specs.Standing.{Stands};
-ghost use Rattle.shm_tree.specs.Trees.{Tree as ATree, size};
+ghost use Rattle.shm_tree.specs.{Building.named_by, Holding.{HasSearch, lives_below}, Forests.block_in};
+ghost use Rattle.shm_tree.specs.{Keeping.is_live, Standing.Stands, Trees.{Tree as ATree, size}};
 
 use crate::registers::NONE;
 use shm_plain::PlainPool;

@@ -2,12 +2,9 @@
 
 ghost use Rattle.std.specs.Prelude.{◌≡◌, ◌≢◌, ℕ, ◌+◌, ◌*◌, ◌-◌, ◌^◌, ◌<◌, ◌≤◌, Some, IfOk};
 ghost use Rattle.shm_plain.specs.Pools.{memo_of};
-ghost use Rattle.shm_tree.specs.Building.{IsAtHand};
-ghost use Rattle.shm_tree.specs.Looking.{Looks};
-ghost use Rattle.shm_tree.specs.Standing.{Stands, weight};
+ghost use Rattle.shm_tree.specs.{Building.IsAtHand, Looking.Looks, Standing.{Stands, weight}};
 ghost use Rattle.shm_tree.specs.Trees.{Tree as ATree, IsSearch, found, height};
-ghost use Rattle.shm_tree.specs.Ways.{IsDeep, IsEnd, IsLast, IsPlace, down};
-ghost use Rattle.shm_tree.specs.Working.{IsReached, IsWorking};
+ghost use Rattle.shm_tree.specs.{Ways.{IsDeep, IsEnd, IsLast, IsPlace, down}, Working.{IsReached, IsWorking}};
 
 use crate::calls::{child, key, number};
 use crate::node::Side;

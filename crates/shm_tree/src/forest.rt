@@ -1,15 +1,12 @@
 //! Versions of an ordered map in one pool.
 
 ghost use Rattle.std.specs.Prelude.{◌≡◌, ◌<◌, ◌≤◌, ◌^◌, true, false, List, Err, IfErr, IfOk, is_ok};
-ghost use Rattle.shm_graph.specs.Agents.{steps_made};
-ghost use Rattle.shm_graph.specs.References.{live_count};
-ghost use Rattle.shm_graph.specs.Spots.{see};
+ghost use Rattle.shm_graph.specs.{Agents.steps_made, References.live_count, Spots.see};
 ghost use Rattle.shm_plain.specs.Pools.{Pool as APool, memo_of};
-ghost use Rattle.shm_tree.specs.Ending.{HasEnded};
-ghost use Rattle.shm_tree.specs.declared.line.TreeTurn.TheVariants as turns;
-ghost use Rattle.shm_tree.specs.ForestCalls.{IsClosedForest, IsFirstForest, RanLine};
+ghost use Rattle.shm_tree.specs.{Ending.HasEnded, ForestCalls.{IsClosedForest, IsFirstForest, RanLine}};
 ghost use Rattle.shm_tree.specs.Forests.{HasVersions, IsInRange, is_died, turn_by, version};
 ghost use Rattle.shm_tree.specs.Trees.{Tree as ATree, size};
+ghost use Rattle.shm_tree.specs.declared.line.TreeTurn.TheVariants as turns;
 
 use crate::closing::finish;
 use crate::counting::{block_in, live_blocks, size_of};

@@ -3,14 +3,10 @@
 ghost use Rattle.std.specs.Prelude.{◌≡◌, ℕ, ◌+◌, ◌≤◌, Some, IfOk};
 ghost use Rattle.shm_graph.specs.Bounds.{tear_steps};
 ghost use Rattle.shm_plain.specs.Pools.{memo_of};
-ghost use Rattle.shm_tree.specs.Bounds.{insert_steps, lowest_steps};
-ghost use Rattle.shm_tree.specs.Building.{Builds, IsAtHand, IsBuilt, rooms};
+ghost use Rattle.shm_tree.specs.{Bounds.{insert_steps, lowest_steps}, Building.{Builds, IsAtHand, IsBuilt, rooms}};
 ghost use Rattle.shm_tree.specs.Inserting.{IsRegistered, StandsLowest, WeighsLowest, left_of, outside, right_of};
-ghost use Rattle.shm_tree.specs.Looking.{Looks};
-ghost use Rattle.shm_tree.specs.Living.{AreFewNew, AreLivesTrees, KeepsLives};
-ghost use Rattle.shm_tree.specs.Sharing.{IsFresh};
-ghost use Rattle.shm_tree.specs.Standing.{Stands, weight};
-ghost use Rattle.shm_tree.specs.Trees.{Tree as ATree, height, inserted};
+ghost use Rattle.shm_tree.specs.{Looking.Looks, Living.{AreFewNew, AreLivesTrees, KeepsLives}, Sharing.IsFresh};
+ghost use Rattle.shm_tree.specs.{Standing.{Stands, weight}, Trees.{Tree as ATree, height, inserted}};
 ghost use Rattle.shm_tree.specs.Working.{IsReached, IsSpent, IsWorking};
 
 use crate::balance::raise;

@@ -2,8 +2,8 @@
 
 ghost use Rattle.std.specs.Prelude.{◌≡◌};
 ghost use Rattle.shm_script.specs.Faults.{between, key_of};
-ghost use Rattle.shm_tree.specs.declared.shape.RawTree.TheVariants as raw;
 ghost use Rattle.shm_tree.specs.Scripts.{fit_of, may_stand, register_of};
+ghost use Rattle.shm_tree.specs.declared.shape.RawTree.TheVariants as raw;
 
 use crate::line::TreeLine;
 use crate::shape::RawTree;

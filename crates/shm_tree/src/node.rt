@@ -3,13 +3,9 @@
 ghost use Rattle.std.specs.Prelude.{◌≡◌, ◌+◌, ◌<◌, Some, if◌then◌else◌, nat_lt, IfOk};
 ghost use Rattle.shm_graph.specs.declared.spot.Spot.TheVariants.{Body};
 ghost use Rattle.shm_plain.specs.Pools.{memo_of};
-ghost use Rattle.shm_tree.specs.declared.node.Side.TheVariants.{Left, Right};
-ghost use Rattle.shm_tree.specs.Bounds.{link_steps};
-ghost use Rattle.shm_tree.specs.Changing.{Changes};
+ghost use Rattle.shm_tree.specs.{declared.node.Side.TheVariants.{Left, Right}, Bounds.link_steps, Changing.Changes};
 ghost use Rattle.shm_tree.specs.Keeping.{HasGrown, HasNode, HasTree, IsLinked, child_of, other_side, side_word};
-ghost use Rattle.shm_tree.specs.Looking.{Looks};
-ghost use Rattle.shm_tree.specs.Standing.{word_of};
-ghost use Rattle.shm_tree.specs.Working.{HasRoom, IsReached, IsWorking};
+ghost use Rattle.shm_tree.specs.{Looking.Looks, Standing.word_of, Working.{HasRoom, IsReached, IsWorking}};
 
 use crate::calls::{child, height, key, make, number, refer};
 use crate::stop::Stop;

@@ -3,19 +3,15 @@
 ghost use Rattle.std.specs.Prelude.{◌≡◌, ◌≢◌, ◌+◌, ◌*◌, ◌<◌, ◌≤◌, ◌⊎◌, ℕ, List, true, false, Ok, None, Some, slice_set, IfErr, IfOk, is_ok};
 ghost use Rattle.std.specs.Option.{is_some};
 ghost use Rattle.shm_plain.specs.Pools.{memo_of};
-ghost use Rattle.shm_tree.specs.declared.line.TreeLine.TheVariants as lines;
-ghost use Rattle.shm_tree.specs.declared.stop.Stop.TheVariants as stop;
-ghost use Rattle.shm_tree.specs.Bounds.{drop_steps};
-ghost use Rattle.shm_tree.specs.Building.{named_by, rooms};
+ghost use Rattle.shm_tree.specs.{Bounds.drop_steps, Building.{named_by, rooms}};
 ghost use Rattle.shm_tree.specs.Costing.{Costs, CostsLine, EndsLine, FewSet, MakesFew, Spends, StopsLine, copied_steps, copy_steps, del_steps, planted_steps, pruned_steps, read_steps, set_steps, sweep_steps};
 ghost use Rattle.shm_tree.specs.CutShort.{DiesHalfDone, IsCutShort, IsWordless};
 ghost use Rattle.shm_tree.specs.Forests.{Calls, DoesLine, HasVersions, IsForest, IsFree, IsInRange, IsLeft, IsOwn, IsPruned, IsPut, IsReading, IsSpare, IsSwept, IsTidy, IsUnspent, KeepsNamed, KeepsRegisters, Moves, Stopped, block_in, root_at, version};
-ghost use Rattle.shm_tree.specs.Keeping.{IsStill};
-ghost use Rattle.shm_tree.specs.Looking.{Looks};
-ghost use Rattle.shm_tree.specs.Releasing.{Releases};
-ghost use Rattle.shm_tree.specs.Standing.{IsTree, Stands};
+ghost use Rattle.shm_tree.specs.{Keeping.IsStill, Looking.Looks, Releasing.Releases, Standing.{IsTree, Stands}};
 ghost use Rattle.shm_tree.specs.Trees.{Empty, Tree as ATree, found, height, inserted, removed};
 ghost use Rattle.shm_tree.specs.Working.{AreSameRoots, DiedBegun, IfAlive, IfRefused, IsInCall, IsOver, IsReached, IsRooted, IsSameLatch, IsSpent, IsUnderWay, IsWorking, Went};
+ghost use Rattle.shm_tree.specs.declared.line.TreeLine.TheVariants as lines;
+ghost use Rattle.shm_tree.specs.declared.stop.Stop.TheVariants as stop;
 
 use crate::calls::{hold, release, root_of, share};
 use crate::find::number_at;

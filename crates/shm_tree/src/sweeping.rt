@@ -2,11 +2,8 @@
 
 ghost use Rattle.std.specs.Prelude.{◌≡◌, ◌≢◌, ◌<◌, ◌≤◌, ℕ, true, Ok, length, IfErr, IfOk, is_ok};
 ghost use Rattle.shm_plain.specs.Pools.{memo_of};
-ghost use Rattle.shm_tree.specs.Bounds.{drop_steps};
-ghost use Rattle.shm_tree.specs.Building.{named_by};
-ghost use Rattle.shm_tree.specs.Costing.{Costs, Spends, sweep_steps};
-ghost use Rattle.shm_tree.specs.Forests.{Calls, IsFree, KeepsOthers, KeepsRoots};
-ghost use Rattle.shm_tree.specs.Keeping.{IsStill};
+ghost use Rattle.shm_tree.specs.{Bounds.drop_steps, Building.named_by, Costing.{Costs, Spends, sweep_steps}};
+ghost use Rattle.shm_tree.specs.{Forests.{Calls, IsFree, KeepsOthers, KeepsRoots}, Keeping.IsStill};
 ghost use Rattle.shm_tree.specs.Working.{DiedBegun, IfRefused, IsSpent, IsWorking};
 
 use crate::calls::drop_root;

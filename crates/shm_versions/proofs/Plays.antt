@@ -1,18 +1,14 @@
 -- Lines that are run one after the other: one more of them, what they make of versions, and how many word steps they take.
 use Rattle.std.proofs.Common.{◌≡◌, ℕ, zero, suc, ◌+◌, ◌<◌, ◌≤◌, ◌^◌, Bool, true, false, List, [], ◌∷◌, ◌++◌, length, get_or, take, drop, refl, sym, subst, ap, ◌∙◌, arith}
-use Rattle.std.proofs.Math.Seq.{drop-cons}
-use Rattle.std.proofs.lemmas.List.{take-append-drop, take_more}
+use Rattle.std.proofs.{Math.Seq.drop-cons, lemmas.List.{take-append-drop, take_more}}
 use Rattle.std.specs.List.{AllByRecursion}
 use Rattle.shm_graph.specs.Agents.{steps_made}
 use Rattle.shm_plain.specs.Pools.{memo_of}
-use Rattle.shm_tree.specs.declared.line.TreeAnswer.{TreeAnswer}
-use Rattle.shm_tree.specs.declared.line.TreeLine.{TreeLine}
+use Rattle.shm_tree.specs.declared.line.{TreeAnswer.TreeAnswer, TreeLine.TreeLine}
+use Rattle.shm_tree.specs.ForestCalls.{IsFirstForest, RanLine}
+use Rattle.shm_tree.specs.{Forests.{Forested, HasVersions, IsInRange, versions_by}, ScriptTexts.LineFits, Trees.Tree}
 use Rattle.shm_tree.specs.declared.line.TreeLine.TheVariants as lines
 use Rattle.shm_tree.specs.declared.line.TreeTurn.TheVariants as turns
-use Rattle.shm_tree.specs.ForestCalls.{IsFirstForest, RanLine}
-use Rattle.shm_tree.specs.Forests.{Forested, HasVersions, IsInRange, versions_by}
-use Rattle.shm_tree.specs.ScriptTexts.{LineFits}
-use Rattle.shm_tree.specs.Trees.{Tree}
 use Rattle.shm_versions.specs.TreeRuns.{AreAnswered, IsPlayed, Lines, versions_of}
 
 pub lines_more : (ls : List TreeLine) (bs : List TreeAnswer) (f g h : Forested) (x y z : ℕ) (l : TreeLine) (b : TreeAnswer) → Lines ls bs f x g y → RanLine l g h y z (turns.Done b) → Lines (ls ++ l ∷ []) (bs ++ b ∷ []) f x h z

@@ -1,16 +1,12 @@
 -- The own era leaves room all along a run of a script: its client makes few word steps.
 use Rattle.std.proofs.Common.{ℕ, ◌+◌, ◌<◌, ◌≤◌, ◌^◌, Bool, true, false, List, [], ◌∷◌, sym, subst, ap, arith}
 use Rattle.std.specs.List.{AllByRecursion}
-use Rattle.shm_graph.specs.declared.run.Start.{Start}
-use Rattle.shm_graph.specs.Agents.{steps_made}
+use Rattle.shm_graph.specs.{declared.run.Start.Start, Agents.steps_made}
 use Rattle.shm_plain.specs.Pools.{IsRun, memo_of}
-use Rattle.shm_tree.specs.declared.line.TreeAnswer.{TreeAnswer}
+use Rattle.shm_tree.specs.declared.line.{TreeAnswer.TreeAnswer, TreeLine.TreeLine, TreeTurn.TreeTurn}
+use Rattle.shm_tree.specs.{ForestCalls.{IsFirstForest, RanLine}, Forests.{Forested, IsUnspent}}
 use Rattle.shm_tree.specs.declared.line.TreeAnswer.TheVariants as answers
-use Rattle.shm_tree.specs.declared.line.TreeLine.{TreeLine}
-use Rattle.shm_tree.specs.declared.line.TreeTurn.{TreeTurn}
 use Rattle.shm_tree.specs.declared.line.TreeTurn.TheVariants as turns
-use Rattle.shm_tree.specs.ForestCalls.{IsFirstForest, RanLine}
-use Rattle.shm_tree.specs.Forests.{Forested, IsUnspent}
 use Rattle.shm_tree.proofs.Unspent.{IsOfOne, few_never, few_unspent}
 use Rattle.shm_versions.specs.TreeRuns.{HasRoom, IsEnding, IsPlayed, Lines}
 use Rattle.shm_versions.proofs.Plays.{lines_spent}

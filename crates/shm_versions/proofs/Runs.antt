@@ -1,18 +1,11 @@
 -- What a run of a script leaves, of the parts that the run is made of.
 use Rattle.std.proofs.Common.{◌≡◌, ℕ, ◌^◌, ◌≤◌, Bool, List, sym, subst, arith}
-use Rattle.std.specs.Prelude.{Option, None, Some, IfSome, unwrap_or}
-use Rattle.std.specs.Option.{is_some}
-use Rattle.shm_tree.specs.declared.line.TreeLine.{TreeLine}
-use Rattle.shm_tree.specs.ForestCalls.{IsClosedForest, IsFirstForest}
-use Rattle.shm_tree.specs.Forests.{Forested, HasVersions}
-use Rattle.shm_tree.specs.Scripts.{Scripted}
-use Rattle.shm_tree.specs.ScriptTexts.{IsScript}
-use Rattle.shm_tree.specs.Trees.{Tree}
-use Rattle.shm_versions.specs.declared.treed.Holding.{Holding}
-use Rattle.shm_versions.specs.declared.treed.Treed.{Treed}
+use Rattle.std.specs.{Prelude.{Option, None, Some, IfSome, unwrap_or}, Option.is_some}
+use Rattle.shm_tree.specs.{declared.line.TreeLine.TreeLine, ForestCalls.{IsClosedForest, IsFirstForest}}
+use Rattle.shm_tree.specs.{Forests.{Forested, HasVersions}, Scripts.Scripted, ScriptTexts.IsScript, Trees.Tree}
+use Rattle.shm_versions.specs.declared.treed.{Holding.Holding, Treed.Treed}
 use Rattle.shm_versions.specs.TreeRuns.{Holds, IsEnding, IsPlayed, IsTreeRun, first_versions, life_of}
-use Rattle.shm_versions.proofs.Plays.{lines_versions}
-use Rattle.shm_versions.proofs.Rooms.{played_room, played_unspent}
+use Rattle.shm_versions.proofs.{Plays.lines_versions, Rooms.{played_room, played_unspent}}
 
 life_low : (o : Option ℕ) → IfSome o (λ n. (1 ≤ n) × (n ≤ 2 ^ 40)) → unwrap_or o (2 ^ 40) ≤ 2 ^ 40
 life_low None w = omega arith

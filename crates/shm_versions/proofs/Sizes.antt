@@ -1,7 +1,6 @@
 -- Sizes of versions that were asked for one by one.
 use Rattle.std.proofs.Common.{◌≡◌, ℕ, zero, suc, ◌<◌, List, [], ◌∷◌, length, get_or, map, refl, ap, ◌∙◌, arith}
-use Rattle.shm_tree.specs.Forests.{version}
-use Rattle.shm_tree.specs.Trees.{Tree, size}
+use Rattle.shm_tree.specs.{Forests.version, Trees.{Tree, size}}
 
 pub same_sizes : (ns : List ℕ) (ts : List Tree) → length ns ≡ length ts → ((k : ℕ) → k < length ts → get_or ns k 0 ≡ size (version ts k)) → ns ≡ map size ts
 same_sizes [] [] e h = refl

@@ -1,8 +1,7 @@
 -- Lines with their answers, where one of the two lists is at its end.
 use Rattle.std.proofs.Common.{◌≡◌, ℕ, ◌⊎◌, inl, inr, List, [], ◌∷◌, ◌++◌, length, refl, sym, ap, ◌∙◌, arith}
 use Rattle.std.proofs.lemmas.List.{append-nil}
-use Rattle.shm_tree.specs.declared.line.TreeAnswer.{TreeAnswer}
-use Rattle.shm_tree.specs.declared.line.TreeLine.{TreeLine}
+use Rattle.shm_tree.specs.declared.line.{TreeAnswer.TreeAnswer, TreeLine.TreeLine}
 use Rattle.shm_versions.specs.RunTexts.{answered_lines}
 
 none_left : (ls : List TreeLine) (bs : List TreeAnswer) → (length ls ≡ 0) ⊎ (length bs ≡ 0) → answered_lines ls bs ≡ []

@@ -1,18 +1,13 @@
 -- The text of a run: lines that each end with a line feed, words parted by one blank, numbers in decimal.
 use Rattle.std.specs.Prelude.{ℕ, ◌+◌, ◌==◌, if◌then◌else◌, List, [], ◌∷◌, ◌++◌, length, Option, Some, None, codes}
 use Rattle.std.specs.Fmt.{decimal}
-use Rattle.shm_graph.specs.Blocks.{classes}
-use Rattle.shm_graph.specs.References.{live_count, references, references_in_all}
-use Rattle.shm_graph.specs.Spots.{see}
+use Rattle.shm_graph.specs.{Blocks.classes, References.{live_count, references, references_in_all}, Spots.see}
 use Rattle.shm_plain.specs.Pools.{Pool}
 use Rattle.shm_script.specs.Text.{ended, spaced}
-use Rattle.shm_tree.specs.declared.line.TreeAnswer.{TreeAnswer}
-use Rattle.shm_tree.specs.declared.line.TreeAnswer.TheVariants as answers
-use Rattle.shm_tree.specs.declared.line.TreeLine.{TreeLine}
-use Rattle.shm_tree.specs.Scripts.{Scripted}
+use Rattle.shm_tree.specs.{declared.line.{TreeAnswer.TreeAnswer, TreeLine.TreeLine}, Scripts.Scripted}
 use Rattle.shm_tree.specs.ScriptTexts.{line_spelled}
-use Rattle.shm_versions.specs.declared.treed.Holding.{Holding}
-use Rattle.shm_versions.specs.declared.treed.Treed.{Treed}
+use Rattle.shm_tree.specs.declared.line.TreeAnswer.TheVariants as answers
+use Rattle.shm_versions.specs.declared.treed.{Holding.Holding, Treed.Treed}
 
 -- an answer; of a refusal its kind alone
 abbrev pub answer_spelled : TreeAnswer → List ℕ

@@ -1,19 +1,14 @@
 -- Runs of scripts: a forest is made, lines are run one after the other until one isn't finished, and the pool is closed.
 use Rattle.std.specs.Prelude.{◌≡◌, ℕ, ◌^◌, Bool, true, false, List, [], ◌∷◌, ◌++◌, map, replicate, unwrap_or, IfSome}
-use Rattle.std.specs.List.{AllByRecursion}
-use Rattle.std.specs.Option.{is_some}
-use Rattle.shm_graph.specs.References.{live_count}
-use Rattle.shm_graph.specs.Spots.{see}
-use Rattle.shm_tree.specs.declared.line.TreeAnswer.{TreeAnswer}
-use Rattle.shm_tree.specs.declared.line.TreeAnswer.TheVariants as answers
-use Rattle.shm_tree.specs.declared.line.TreeLine.{TreeLine}
-use Rattle.shm_tree.specs.declared.line.TreeTurn.TheVariants as turns
+use Rattle.std.specs.{List.AllByRecursion, Option.is_some}
+use Rattle.shm_graph.specs.{References.live_count, Spots.see}
+use Rattle.shm_tree.specs.declared.line.{TreeAnswer.TreeAnswer, TreeLine.TreeLine}
 use Rattle.shm_tree.specs.ForestCalls.{IsClosedForest, IsFirstForest, RanLine}
-use Rattle.shm_tree.specs.Forests.{Forested, HasVersions, IsAnswered, IsUnspent, versions_by}
-use Rattle.shm_tree.specs.Scripts.{Scripted}
+use Rattle.shm_tree.specs.{Forests.{Forested, HasVersions, IsAnswered, IsUnspent, versions_by}, Scripts.Scripted}
 use Rattle.shm_tree.specs.Trees.{Empty, Tree, size}
-use Rattle.shm_versions.specs.declared.treed.Holding.{Holding}
-use Rattle.shm_versions.specs.declared.treed.Treed.{Treed}
+use Rattle.shm_tree.specs.declared.line.TreeAnswer.TheVariants as answers
+use Rattle.shm_tree.specs.declared.line.TreeTurn.TheVariants as turns
+use Rattle.shm_versions.specs.declared.treed.{Holding.Holding, Treed.Treed}
 
 -- how many word steps all lines of a script may make: its life, or 2^40
 abbrev pub life_of : Scripted → ℕ

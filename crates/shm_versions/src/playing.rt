@@ -1,13 +1,10 @@
 //! Scripts that are run on a forest.
 
-ghost use Rattle.std.specs.Prelude.{◌≡◌, ◌^◌, ◌≤◌, false, not, List, [], IfOk, IfSome};
-ghost use Rattle.std.specs.Option.{is_some};
+ghost use Rattle.std.specs.{Prelude.{◌≡◌, ◌^◌, ◌≤◌, false, not, List, [], IfOk, IfSome}, Option.is_some};
 ghost use Rattle.std.specs.List.{AllByRecursion};
 ghost use Rattle.shm_graph.specs.Agents.{steps_made};
 ghost use Rattle.shm_plain.specs.Pools.{memo_of};
-ghost use Rattle.shm_tree.specs.ForestCalls.{IsClosedForest};
-ghost use Rattle.shm_tree.specs.Forests.{HasVersions};
-ghost use Rattle.shm_tree.specs.ScriptTexts.{IsScript, LineFits};
+ghost use Rattle.shm_tree.specs.{ForestCalls.IsClosedForest, Forests.HasVersions, ScriptTexts.{IsScript, LineFits}};
 ghost use Rattle.shm_tree.specs.Trees.{Tree as ATree};
 ghost use Rattle.shm_versions.specs.TreeRuns.{Holds, IsPlayed, IsTreeRun, life_of};
 

@@ -1,11 +1,8 @@
 -- machines that run another one by states of their own, each of which stands for one of that one's: their laws follow from its laws
 use Rattle.std.proofs.Common.{◌≡◌, ℕ, false, sym, refl, subst}
 use Rattle.std.specs.Prelude.{Option, Some, None, [], ◌∷◌, ◌++◌}
-use Rattle.shm_graph.specs.Asks.{pair}
-use Rattle.shm_graph.specs.Events.{Event}
-use Rattle.shm_graph.specs.Laws.{Back, Control, Keeps, Laws, Outcome, Steady, Then}
-use Rattle.shm_graph.specs.Mapped.{AtTheEnd, OnTheWay}
-use Rattle.shm_graph.specs.Tells.{Tells}
+use Rattle.shm_graph.specs.{Asks.pair, Events.Event, Laws.{Back, Control, Keeps, Laws, Outcome, Steady, Then}}
+use Rattle.shm_graph.specs.{Mapped.{AtTheEnd, OnTheWay}, Tells.Tells}
 use Rattle.shm_calls.specs.Either.{after_step}
 
 -- it shows what k shows of the state that v tells, and goes on by `after`

@@ -1,9 +1,7 @@
 //! What holds of a machine that is a view of another one.
 
 ghost use Rattle.std.specs.Prelude.{ℕ};
-ghost use Rattle.shm_graph.specs.Events.{Event as AnEvent};
-ghost use Rattle.shm_graph.specs.Laws.{Laws};
-ghost use Rattle.shm_graph.specs.Tells.{Tells};
+ghost use Rattle.shm_graph.specs.{Events.Event as AnEvent, Laws.Laws, Tells.Tells};
 ghost use Rattle.shm_views.specs.Views.{IsView, ViewedFits, ViewedGives, viewed};
 
 use shm_graph::Machine;

@@ -1,6 +1,5 @@
 -- the classes of blocks
-use Rattle.std.proofs.Common.{ℕ, ◌+◌, ◌≤◌, arith}
-use Rattle.std.proofs.lemmas.Bool.Decides.{nat_tests}
+use Rattle.std.proofs.{Common.{ℕ, ◌+◌, ◌≤◌, arith}, lemmas.Bool.Decides.nat_tests}
 use Rattle.shm_words.specs.Classes.{IsClass, class_for}
 
 pub class_is : (refs plain : ℕ) → IsClass (class_for refs plain)

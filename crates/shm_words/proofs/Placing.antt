@@ -1,7 +1,6 @@
 -- places and addresses are inverse, and every address is small
 use Rattle.std.proofs.Common.{◌≡◌, ℕ, ◌+◌, ◌-◌, ◌*◌, ◌/◌, ◌%◌, ◌<◌, ◌≤◌, sym, ap, ◌∙◌, arith, true, false}
-use Rattle.std.proofs.lemmas.Nat.{mul-add-lt, mul-le, div_below, mod_below}
-use Rattle.std.proofs.lemmas.Bool.Decides.{nat_tests}
+use Rattle.std.proofs.lemmas.{Nat.{mul-add-lt, mul-le, div_below, mod_below}, Bool.Decides.nat_tests}
 use Rattle.shm_words.specs.declared.place.Place.{Place}
 use Rattle.shm_words.specs.declared.place.Place.TheVariants.{Spare, Status, Redo, RedoMore, Hold, Latch, Home, Era, Root, Tail, Head, Slot, Segment, Page, Body}
 use Rattle.shm_words.specs.declared.geometry.Geometry.{Geometry}

@@ -1,9 +1,7 @@
 -- the regions of a pool: what place_at answers in each of them
-use Rattle.std.proofs.Common.{◌≡◌, ℕ, ◌+◌, ◌-◌, ◌*◌, ◌<◌, arith}
-use Rattle.std.proofs.lemmas.Nat.{div-mul-add, mod-mul-add, mul-add-lt}
+use Rattle.std.proofs.{Common.{◌≡◌, ℕ, ◌+◌, ◌-◌, ◌*◌, ◌<◌, arith}, lemmas.Nat.{div-mul-add, mod-mul-add, mul-add-lt}}
 use Rattle.std.proofs.lemmas.Bool.Decides.{nat_tests}
-use Rattle.shm_words.specs.declared.place.Place.TheVariants.{Era, Root, Page, Body}
-use Rattle.shm_words.specs.declared.geometry.Geometry.{Geometry}
+use Rattle.shm_words.specs.declared.{place.Place.TheVariants.{Era, Root, Page, Body}, geometry.Geometry.Geometry}
 use Rattle.shm_words.specs.Layout.{place_at, eras, roots, queues, pages, bodies, queue_place}
 
 pub era_at : (g : Geometry) (i j : ℕ) → i < g.clients → j < g.clients → place_at g (eras g + i * g.clients + j) ≡ Era i j

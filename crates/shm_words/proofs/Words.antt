@@ -1,15 +1,11 @@
 -- headers, tags and redo words are inverse to what they are unpacked to
 use Rattle.std.proofs.Common.{◌≡◌, ◌≢◌, ℕ, ◌^◌, ◌%◌, ◌<◌, ◌≤◌, Bool, true, false, refl, arith, rules}
+use Rattle.std.proofs.lemmas.{Grind.common_steps, Bool.Decides.nat_tests}
 use Rattle.std.specs.Prelude.{Some}
-use Rattle.std.proofs.lemmas.Grind.{common_steps}
-use Rattle.std.proofs.lemmas.Bool.Decides.{nat_tests}
-use Rattle.shm_words.specs.declared.header.Header.{Header}
-use Rattle.shm_words.specs.declared.tag.Tag.{Tag}
-use Rattle.shm_words.specs.declared.redo.Redo.{Redo}
-use Rattle.shm_words.specs.Layout.{place_limit}
+use Rattle.shm_words.specs.declared.{header.Header.Header, tag.Tag.Tag, redo.Redo.Redo}
+use Rattle.shm_words.specs.{declared.redo.Redo.TheVariants.{Idle, Up, Down, Change}, Layout.place_limit}
 use Rattle.shm_words.specs.Headers.{header_word, header_of, HeaderFits}
 use Rattle.shm_words.specs.Tags.{tag_word, tag_of, tag_refs, tag_plain, tag_author, tag_link, tag_limit, tag_shape, TagFits}
-use Rattle.shm_words.specs.declared.redo.Redo.TheVariants.{Idle, Up, Down, Change}
 use Rattle.shm_words.specs.Redos.{redo_first, redo_second, redo_of, RedoFits, fitted, kind_of, odd_of, slot_of, before_of, after_of}
 
 -- ---- headers

@@ -1,8 +1,6 @@
 -- the words of a redo record, in format 2 (`true`) and in format 1
 use Rattle.std.specs.Prelude.{ℕ, ◌+◌, ◌*◌, ◌/◌, ◌%◌, ◌^◌, ◌<◌, Bool, true, false, not, ◌&&◌, ◌==◌, nat_lt, if◌then◌else◌, Option, Some, None}
-use Rattle.shm_words.specs.declared.redo.Redo.{Redo}
-use Rattle.shm_words.specs.declared.redo.Redo.TheVariants.{Idle, Up, Down, Change}
-use Rattle.shm_words.specs.Layout.{place_limit}
+use Rattle.shm_words.specs.{declared.redo.Redo.{Redo, TheVariants.{Idle, Up, Down, Change}}, Layout.place_limit}
 
 abbrev pub odd_bit : Bool → ℕ
 odd_bit true = 2 ^ 60

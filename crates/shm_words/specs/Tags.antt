@@ -1,7 +1,6 @@
 -- the tag word of a block, in format 2 (`true`) and in format 1
 use Rattle.std.specs.Prelude.{ℕ, ◌+◌, ◌*◌, ◌/◌, ◌%◌, ◌^◌, ◌<◌, ◌≤◌, Bool, true, false, ◌&&◌, nat_lt, nat_le, if◌then◌else◌, Option, Some, None}
-use Rattle.shm_words.specs.declared.tag.Tag.{Tag}
-use Rattle.shm_words.specs.Layout.{place_limit}
+use Rattle.shm_words.specs.{declared.tag.Tag.Tag, Layout.place_limit}
 
 -- The word of a tag. Format 1: bits 30 to 34 refs, bits 26 to 29 plain, bits 20 to 25 author, bits 0 to 19 link. Format 2: bits 34 to 38, 30 to 33, 24 to 29, 0 to 23
 unfoldable pub tag_word : Bool → Tag → ℕ

@@ -1,8 +1,7 @@
 //! The laws of a pool's layout.
 
 ghost use Rattle.std.specs.Prelude.{◌≡◌, ℕ, ◌<◌, ◌≤◌, true, false};
-ghost use Rattle.shm_words.specs.declared.place.Place.{Place as APlace};
-ghost use Rattle.shm_words.specs.declared.geometry.Geometry.{Geometry as AGeometry};
+ghost use Rattle.shm_words.specs.declared.{place.Place.Place as APlace, geometry.Geometry.Geometry as AGeometry};
 ghost use Rattle.shm_words.specs.Layout.{GeometryFits, address, is_in, place_at, place_limit, total_of};
 
 /// The addresses of every pool are below this number: redo records and tags of format 2 have 24 bits for one. Those of format 1 have 20,

@@ -1,8 +1,7 @@
 //! The redo record of an identity: one word in format 1, two in format 2.
 
 ghost use Rattle.std.specs.Prelude.{◌≡◌, ◌≢◌, ℕ, ◌<◌, ◌^◌, Bool, true, false};
-ghost use Rattle.shm_words.specs.Layout.{place_limit};
-ghost use Rattle.shm_words.specs.declared.redo.Redo.{Redo as ARedo};
+ghost use Rattle.shm_words.specs.{Layout.place_limit, declared.redo.Redo.Redo as ARedo};
 ghost use Rattle.shm_words.specs.Redos.{redo_first, redo_second, redo_of, RedoFits, fields};
 
 /// The two words of a redo record in format 2.

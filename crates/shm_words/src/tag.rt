@@ -1,8 +1,7 @@
 //! The tag word of a block.
 
 ghost use Rattle.std.specs.Prelude.{◌≡◌, ◌≢◌, ℕ, ◌<◌, ◌^◌, Bool, true, false};
-ghost use Rattle.shm_words.specs.declared.tag.Tag.{Tag as ATag};
-ghost use Rattle.shm_words.specs.Tags.{tag_word, tag_of, TagFits};
+ghost use Rattle.shm_words.specs.{declared.tag.Tag.Tag as ATag, Tags.{tag_word, tag_of, TagFits}};
 
 /// What the tag word of a block says of the block's contents.
 #[derive(Clone, Copy, Debug, PartialEq, Eq, Drop)]

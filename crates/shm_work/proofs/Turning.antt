@@ -1,15 +1,10 @@
 -- a turn of a pool in a vector by what it accounts for
 use Rattle.std.proofs.Common.{◌≡◌, ℕ, ◌<◌, inl, inr, Bool, true, false, cond, List, length, refl, sym, ap, ◌∙◌, subst}
 use Rattle.std.proofs.lemmas.List.{get_or-set_same, length-set}
-use Rattle.shm_graph.specs.declared.memo.Step.{Step}
-use Rattle.shm_graph.specs.declared.run.Account.{Account}
-use Rattle.shm_graph.specs.declared.memo.Agent.{Agent}
-use Rattle.shm_graph.specs.declared.memo.Kind.TheVariants.{Client, Recoverer}
-use Rattle.shm_graph.specs.declared.memo.Memo.{Memo}
-use Rattle.shm_graph.specs.Agents.{acts, last_agent}
+use Rattle.shm_graph.specs.declared.memo.{Step.Step, Agent.Agent, Kind.TheVariants.{Client, Recoverer}, Memo.Memo}
+use Rattle.shm_graph.specs.{declared.run.Account.Account, Agents.{acts, last_agent}}
 use Rattle.shm_graph.specs.Runs.{MayBegin, fell_by, account_after, account_at, account_died, account_entered, accounts_after, changed}
-use Rattle.shm_plain.specs.Pools.{MayStep, Pool, after_fall, memo_of, readied, turned}
-use Rattle.shm_plain.specs.Tracks.{kind_next}
+use Rattle.shm_plain.specs.{Pools.{MayStep, Pool, after_fall, memo_of, readied, turned}, Tracks.kind_next}
 use Rattle.shm_work.specs.Working.{MayWork, ready_account}
 
 module _ (p : Pool) (c : ℕ) (long : c < length p.accounts) where

@@ -1,7 +1,6 @@
 -- a pool in a vector as a place of work
 use Rattle.std.specs.Prelude.{◌≡◌, slice_index}
-use Rattle.shm_graph.specs.declared.memo.Step.{Step}
-use Rattle.shm_graph.specs.Asks.{at_of, seen_of}
+use Rattle.shm_graph.specs.{declared.memo.Step.Step, Asks.{at_of, seen_of}}
 use Rattle.shm_plain.specs.Pools.{Pool, readied, turned}
 
 -- q is p after the word step t, before which an agent has begun where none acted; what t found is the word that stands there

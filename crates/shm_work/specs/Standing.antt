@@ -1,13 +1,9 @@
 -- an account of a pool in a vector is one of a state that holds
 use Rattle.std.proofs.Common.{◌≡◌, ℕ, ◌+◌, ◌<◌, false, List, [], ◌∷◌, refl, sym, ap, ◌∙◌, subst, arith}
 use Rattle.shm_words.specs.declared.geometry.Geometry.{Geometry}
-use Rattle.shm_graph.specs.declared.run.Account.{Account}
-use Rattle.shm_graph.specs.declared.run.Move.{Move}
-use Rattle.shm_graph.specs.declared.run.Move.TheVariants.{Word, Dies, Begins}
-use Rattle.shm_graph.specs.declared.run.Start.{Start}
+use Rattle.shm_graph.specs.declared.run.{Account.Account, Move.{Move, TheVariants.{Word, Dies, Begins}}, Start.Start}
 use Rattle.shm_graph.specs.Runs.{Leads, State, Stood, account_at, account_after, account_died, account_entered, first_account, first_state, moved}
-use Rattle.shm_graph.proofs.Runs.Lists.{account_part}
-use Rattle.shm_graph.proofs.States.FirstHeld.{at-accounts_from}
+use Rattle.shm_graph.proofs.{Runs.Lists.account_part, States.FirstHeld.at-accounts_from}
 use Rattle.shm_plain.specs.Pools.{IsRun, Pool}
 
 abbrev who : Account → ℕ

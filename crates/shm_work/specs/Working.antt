@@ -1,14 +1,8 @@
 -- a word step at a place, by what is accounted for of the identity
 use Rattle.std.specs.Prelude.{◌⊎◌, true, [], ◌≡◌, ℕ, ◌<◌, false, if◌then◌else◌}
-use Rattle.shm_graph.specs.declared.ask.Turn.{Turn}
-use Rattle.shm_graph.specs.declared.memo.Memo.{Memo}
-use Rattle.shm_graph.specs.declared.run.Account.{Account}
-use Rattle.shm_graph.specs.declared.run.Start.{Start}
-use Rattle.shm_graph.specs.Agents.{acts, last_agent}
-use Rattle.shm_graph.specs.Laws.{Control, step_of, turn_of}
-use Rattle.shm_graph.specs.declared.memo.Status.TheVariants.{New}
-use Rattle.shm_graph.specs.Runs.{fell_by, account_after, account_entered}
-use Rattle.shm_graph.specs.Whole.{Learns}
+use Rattle.shm_graph.specs.declared.{ask.Turn.Turn, memo.{Memo.Memo, Status.TheVariants.New}, run.Account.Account}
+use Rattle.shm_graph.specs.{declared.run.Start.Start, Agents.{acts, last_agent}, Laws.{Control, step_of, turn_of}}
+use Rattle.shm_graph.specs.{Runs.{fell_by, account_after, account_entered}, Whole.Learns}
 use Rattle.shm_plain.specs.Tracks.{kind_next}
 
 -- the account of which an agent acts: where none did, one has begun

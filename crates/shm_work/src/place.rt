@@ -1,14 +1,9 @@
 //! Where the agents of identities work.
 
 ghost use Rattle.std.specs.Prelude.{◌≡◌, ℕ, ◌+◌, ◌<◌, ◌↔◌, true};
-ghost use Rattle.shm_graph.specs.declared.memo.Memo.{Memo as AMemo};
-ghost use Rattle.shm_graph.specs.declared.memo.Step.{Step as AStep};
-ghost use Rattle.shm_graph.specs.declared.run.Account.{Account as AnAccount};
-ghost use Rattle.shm_graph.specs.declared.run.Start.{Start as AStart};
-ghost use Rattle.shm_graph.specs.Agents.{acts};
-ghost use Rattle.shm_graph.specs.Laws.{is_died, step_of};
-ghost use Rattle.shm_graph.specs.Runs.{Stood, account_died};
-ghost use Rattle.shm_graph.specs.Whole.{fits_now, gives_now};
+ghost use Rattle.shm_graph.specs.declared.memo.{Memo.Memo as AMemo, Step.Step as AStep};
+ghost use Rattle.shm_graph.specs.{declared.run.{Account.Account as AnAccount, Start.Start as AStart}, Agents.acts};
+ghost use Rattle.shm_graph.specs.{Laws.{is_died, step_of}, Runs.{Stood, account_died}, Whole.{fits_now, gives_now}};
 ghost use Rattle.shm_work.specs.Working.{IsWorkOf, MayWork, Worked, ready_account};
 
 use shm_graph::{Life, Machine, Turn};

@@ -1,38 +1,21 @@
 -- identities that may run each command: how they come to be so, and stay so
 use Rattle.std.proofs.Common.{◌≡◌, ◌≢◌, ℕ, zero, suc, ◌^◌, ◌<◌, inl, inr, Bool, true, false, sym, ap, ◌∙◌, subst, arith, refl}
-use Rattle.std.specs.Prelude.{slice_index}
 use Rattle.std.proofs.lemmas.Bool.{and_from, cases_eq, eq-eqb, lt-ltb}
-use Rattle.shm_words.specs.declared.geometry.Geometry.{Geometry}
+use Rattle.std.specs.Prelude.{slice_index}
+use Rattle.shm_words.specs.{declared.geometry.Geometry.Geometry, Layout.{GeometryFits, address, total_of}}
 use Rattle.shm_words.specs.declared.place.Place.TheVariants as place
-use Rattle.shm_words.specs.Layout.{GeometryFits, address, total_of}
-use Rattle.shm_graph.specs.declared.memo.Kind.TheVariants.{Client}
-use Rattle.shm_graph.specs.declared.memo.Memo.{Memo}
-use Rattle.shm_graph.specs.declared.run.Start.{Start}
-use Rattle.shm_graph.specs.declared.spot.Spot.TheVariants.{Era}
-use Rattle.shm_graph.specs.Agents.{acts, entered, recovers}
-use Rattle.shm_graph.specs.Asks.{Trail}
-use Rattle.shm_graph.specs.Held.{is_loose}
-use Rattle.shm_graph.specs.Idle.{IsIdle}
-use Rattle.shm_graph.specs.Runs.{first_memo}
-use Rattle.shm_graph.specs.Spots.{IsAt, classes_in, spot_address}
+use Rattle.shm_graph.specs.declared.{memo.{Kind.TheVariants.Client, Memo.Memo}, run.Start.Start}
+use Rattle.shm_graph.specs.{declared.spot.Spot.TheVariants.Era, Agents.{acts, entered, recovers}, Asks.Trail}
+use Rattle.shm_graph.specs.{Held.is_loose, Idle.IsIdle, Runs.first_memo, Spots.{IsAt, classes_in, spot_address}}
 use Rattle.shm_graph.specs.Views.{own_word}
-use Rattle.shm_graph.proofs.Spots.Fixed.{fixed_is_at}
-use Rattle.shm_graph.proofs.Spots.Seeing.{see_there}
-use Rattle.shm_graph.proofs.Spots.Spotting.{at_below}
+use Rattle.shm_graph.proofs.Spots.{Fixed.fixed_is_at, Seeing.see_there, Spotting.at_below}
 use Rattle.shm_graph.proofs.States.FirstHeld.{same_everywhere}
-use Rattle.shm_plain.specs.Calls.{IsAtWork, Ran}
-use Rattle.shm_plain.specs.Pools.{Pool, IsRun, memo_of}
-use Rattle.shm_count.specs.Roots.{member}
-use Rattle.shm_recover.specs.Join.{JoinGives, join_fresh}
-use Rattle.shm_recover.specs.Leave.{MayLeave}
-use Rattle.shm_recover.specs.Leave.Gone.{idle_may_leave}
-use Rattle.shm_script.specs.declared.line.Line.{Line}
+use Rattle.shm_plain.specs.{Calls.{IsAtWork, Ran}, Pools.{Pool, IsRun, memo_of}}
+use Rattle.shm_count.specs.{Roots.member, Waiting.LeavesQueues}
+use Rattle.shm_recover.specs.{Join.{JoinGives, join_fresh}, Leave.{MayLeave, Gone.idle_may_leave}}
+use Rattle.shm_script.specs.{declared.line.Line.Line, Ranges.LineFits}
 use Rattle.shm_script.specs.declared.line.Line.TheVariants as line
-use Rattle.shm_script.specs.Ranges.{LineFits}
-use Rattle.shm_table.specs.Commands.{MayCommand}
-use Rattle.shm_table.specs.Locate.{MayLocate}
-use Rattle.shm_table.specs.Staying.{Ended}
-use Rattle.shm_count.specs.Waiting.{LeavesQueues}
+use Rattle.shm_table.specs.{Commands.MayCommand, Locate.MayLocate, Staying.Ended}
 use Rattle.table_calls.specs.Running.{AreOpen, IsOpen, LeavesOpen, MayRun}
 
 -- ---- how they come to be so

@@ -1,37 +1,19 @@
 -- what every command leaves alone, whatever it answers
 use Rattle.std.proofs.Common.{◌≡◌, ℕ, ap, ◌∙◌, ◌⊎◌, inl, inr, None, List}
 use Rattle.std.specs.Prelude.{slice_index}
-use Rattle.shm_graph.specs.declared.ask.Me.{Me}
-use Rattle.shm_graph.specs.declared.memo.Memo.{Memo}
-use Rattle.shm_graph.specs.declared.spot.Spot.TheVariants.{Root}
-use Rattle.shm_graph.specs.Asks.{Trail}
-use Rattle.shm_graph.specs.Events.{Event}
-use Rattle.shm_graph.specs.Held.{is_loose}
-use Rattle.shm_graph.specs.Idle.{IsIdle}
-use Rattle.shm_graph.specs.Views.{own_word}
-use Rattle.shm_queue.specs.Take.{TakeEmpty}
-use Rattle.shm_script.specs.declared.line.Line.{Line}
-use Rattle.shm_script.specs.declared.line.Line.TheVariants as line
-use Rattle.shm_script.specs.declared.log.Answer.{Answer}
-use Rattle.shm_script.specs.declared.log.Answer.TheVariants as answer
-use Rattle.shm_table.specs.declared.answer.PutFault.{PutFault}
-use Rattle.shm_table.specs.declared.answer.PutFault.TheVariants as fault
-use Rattle.shm_table.specs.Commands.{CommandCause}
-use Rattle.shm_table.specs.CopyKey.Control.{copying}
-use Rattle.shm_table.specs.CopyKey.{CopyLeaves}
-use Rattle.shm_table.specs.Del.Control.{deleting}
-use Rattle.shm_table.specs.Del.{DelLeaves}
-use Rattle.shm_table.specs.Get.Control.{getting}
-use Rattle.shm_table.specs.Get.{GetLeaves, Visited}
-use Rattle.shm_table.specs.Put.Control.{putting}
-use Rattle.shm_table.specs.Put.{PutLeaves}
-use Rattle.shm_table.specs.PutRoot.{IsEraSpent}
-use Rattle.shm_table.specs.RecvKey.Control.{receiving_key}
-use Rattle.shm_table.specs.RecvKey.{ItemTaken, RecvLeaves}
-use Rattle.shm_table.specs.SendKey.Control.{sending_key}
-use Rattle.shm_table.specs.SendKey.{IsSent, SendKeyLeaves}
-use Rattle.shm_table.specs.Staying.{Cleared, Ended, Keeps}
+use Rattle.shm_graph.specs.{declared.{ask.Me.Me, memo.Memo.Memo, spot.Spot.TheVariants.Root}, Asks.Trail, Events.Event}
+use Rattle.shm_graph.specs.{Held.is_loose, Idle.IsIdle, Views.own_word}
 use Rattle.shm_graph.proofs.Idles.{idle_core}
+use Rattle.shm_queue.specs.Take.{TakeEmpty}
+use Rattle.shm_script.specs.declared.{line.Line.Line, log.Answer.Answer}
+use Rattle.shm_script.specs.declared.line.Line.TheVariants as line
+use Rattle.shm_script.specs.declared.log.Answer.TheVariants as answer
+use Rattle.shm_table.specs.{declared.answer.PutFault.PutFault, Commands.CommandCause, CopyKey.Control.copying}
+use Rattle.shm_table.specs.{CopyKey.CopyLeaves, Del.{Control.deleting, DelLeaves}, Get.Control.getting}
+use Rattle.shm_table.specs.{Get.{GetLeaves, Visited}, Put.{Control.putting, PutLeaves}, PutRoot.IsEraSpent}
+use Rattle.shm_table.specs.{RecvKey.{Control.receiving_key, ItemTaken, RecvLeaves}, SendKey.Control.sending_key}
+use Rattle.shm_table.specs.{SendKey.{IsSent, SendKeyLeaves}, Staying.{Cleared, Ended, Keeps}}
+use Rattle.shm_table.specs.declared.answer.PutFault.TheVariants as fault
 use Rattle.table_calls.specs.Running.{LeavesOpen, RunLeaves}
 
 -- the identity is between two calls again, no latch is held, and what waits is as it was; so are roots and zero-count blocks, unless the own era was spent

@@ -1,26 +1,13 @@
 -- what every command does to the own map, by its answer
 use Rattle.std.proofs.Common.{ℕ, ap, List}
-use Rattle.shm_graph.specs.declared.ask.Me.{Me}
-use Rattle.shm_graph.specs.declared.memo.Memo.{Memo}
-use Rattle.shm_graph.specs.Asks.{Trail}
-use Rattle.shm_graph.specs.Events.{Event}
-use Rattle.shm_script.specs.declared.line.Line.{Line}
+use Rattle.shm_graph.specs.{declared.{ask.Me.Me, memo.Memo.Memo}, Asks.Trail, Events.Event}
+use Rattle.shm_script.specs.declared.{line.Line.Line, log.Answer.Answer}
 use Rattle.shm_script.specs.declared.line.Line.TheVariants as line
-use Rattle.shm_script.specs.declared.log.Answer.{Answer}
 use Rattle.shm_script.specs.declared.log.Answer.TheVariants as answer
 use Rattle.shm_steps.specs.Reparting.{map_in}
-use Rattle.shm_table.specs.CopyKey.Control.{copying}
-use Rattle.shm_table.specs.CopyKey.{CopyLeaves}
-use Rattle.shm_table.specs.Del.Control.{deleting}
-use Rattle.shm_table.specs.Del.{DelLeaves}
-use Rattle.shm_table.specs.Get.Control.{getting}
-use Rattle.shm_table.specs.Get.{GetLeaves}
-use Rattle.shm_table.specs.Put.Control.{putting}
-use Rattle.shm_table.specs.Put.{PutLeaves}
-use Rattle.shm_table.specs.RecvKey.Control.{receiving_key}
-use Rattle.shm_table.specs.RecvKey.{RecvLeaves}
-use Rattle.shm_table.specs.SendKey.Control.{sending_key}
-use Rattle.shm_table.specs.SendKey.{SendKeyLeaves}
+use Rattle.shm_table.specs.{CopyKey.{Control.copying, CopyLeaves}, Del.{Control.deleting, DelLeaves}}
+use Rattle.shm_table.specs.{Get.{Control.getting, GetLeaves}, Put.{Control.putting, PutLeaves}}
+use Rattle.shm_table.specs.{RecvKey.{Control.receiving_key, RecvLeaves}, SendKey.{Control.sending_key, SendKeyLeaves}}
 use Rattle.table_calls.specs.Running.{MapSo, RunLeaves}
 
 module _ (me : Me) (r0 r : Memo) (tr : Trail) (es : List Event) where

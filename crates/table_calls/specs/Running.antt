@@ -1,34 +1,16 @@
 -- commands on a table as calls: when the one of a line may begin, and what it leaves
 use Rattle.std.specs.Prelude.{◌≡◌, ℕ, ◌^◌, ◌<◌, ◌⊎◌, false, None, [], List, slice_index}
-use Rattle.shm_words.specs.declared.geometry.Geometry.{Geometry}
-use Rattle.shm_words.specs.Layout.{GeometryFits}
-use Rattle.shm_graph.specs.declared.ask.Me.{Me}
-use Rattle.shm_graph.specs.declared.memo.Memo.{Memo}
-use Rattle.shm_graph.specs.Agents.{recovers}
-use Rattle.shm_graph.specs.Asks.{Trail}
-use Rattle.shm_graph.specs.Events.{Event}
+use Rattle.shm_words.specs.{declared.geometry.Geometry.Geometry, Layout.GeometryFits}
+use Rattle.shm_graph.specs.{declared.{ask.Me.Me, memo.Memo.Memo}, Agents.recovers, Asks.Trail, Events.Event}
 use Rattle.shm_graph.specs.Held.{is_loose}
-use Rattle.shm_plain.specs.Calls.{IsAtWork}
-use Rattle.shm_plain.specs.Pools.{Pool, memo_of}
-use Rattle.shm_script.specs.declared.line.Line.{Line}
+use Rattle.shm_plain.specs.{Calls.IsAtWork, Pools.{Pool, memo_of}}
+use Rattle.shm_script.specs.declared.{line.Line.Line, log.Answer.Answer}
 use Rattle.shm_script.specs.declared.line.Line.TheVariants as line
-use Rattle.shm_script.specs.declared.log.Answer.{Answer}
 use Rattle.shm_script.specs.declared.log.Answer.TheVariants as answer
-use Rattle.shm_table.specs.Commands.{MayCommand}
-use Rattle.shm_table.specs.CopyKey.Control.{copying}
-use Rattle.shm_table.specs.CopyKey.{CopyLeaves, MayCopy}
-use Rattle.shm_table.specs.Del.Control.{deleting}
-use Rattle.shm_table.specs.Del.{DelLeaves, MayDel}
-use Rattle.shm_table.specs.Get.Control.{getting}
-use Rattle.shm_table.specs.Get.{GetLeaves}
-use Rattle.shm_table.specs.Locate.{MayLocate}
-use Rattle.shm_table.specs.Put.Control.{putting}
-use Rattle.shm_table.specs.Put.{PutLeaves}
-use Rattle.shm_table.specs.RecvKey.Control.{receiving_key}
-use Rattle.shm_table.specs.RecvKey.{MayRecv, RecvLeaves}
-use Rattle.shm_table.specs.SendKey.Control.{sending_key}
-use Rattle.shm_table.specs.SendKey.{MaySendKey, SendKeyLeaves}
-use Rattle.shm_table.specs.Staying.{MapCut, MapSet, SameMap}
+use Rattle.shm_table.specs.{Commands.MayCommand, CopyKey.{Control.copying, CopyLeaves, MayCopy}, Del.Control.deleting}
+use Rattle.shm_table.specs.{Del.{DelLeaves, MayDel}, Get.{Control.getting, GetLeaves}, Locate.MayLocate}
+use Rattle.shm_table.specs.{Put.{Control.putting, PutLeaves}, RecvKey.{Control.receiving_key, MayRecv, RecvLeaves}}
+use Rattle.shm_table.specs.{SendKey.{Control.sending_key, MaySendKey, SendKeyLeaves}, Staying.{MapCut, MapSet, SameMap}}
 
 -- ---- a command
 

@@ -1,14 +1,10 @@
 //! Commands on a table as calls on a pool.
 
-ghost use Rattle.std.specs.Prelude.{◌≡◌, ◌≢◌, ℕ, true, List, IfSome};
-ghost use Rattle.std.specs.Option.{is_some};
-ghost use Rattle.shm_graph.specs.Agents.{recovers};
-ghost use Rattle.shm_graph.specs.Events.{Event};
-ghost use Rattle.shm_plain.specs.Calls.{Did, IsAtWork, Ran};
-ghost use Rattle.shm_plain.specs.Pools.{memo_of};
+ghost use Rattle.std.specs.{Prelude.{◌≡◌, ◌≢◌, ℕ, true, List, IfSome}, Option.is_some};
+ghost use Rattle.shm_graph.specs.{Agents.recovers, Events.Event};
+ghost use Rattle.shm_plain.specs.{Calls.{Did, IsAtWork, Ran}, Pools.memo_of};
 ghost use Rattle.shm_count.specs.Roots.{member};
-ghost use Rattle.shm_table.specs.Command.{CommandGives, command_of};
-ghost use Rattle.shm_table.specs.Staying.{Ended};
+ghost use Rattle.shm_table.specs.{Command.{CommandGives, command_of}, Staying.Ended};
 ghost use Rattle.table_calls.specs.Running.{LeavesOpen, MapSo, MayRun, RunLeaves};
 
 use shm_graph::Life;

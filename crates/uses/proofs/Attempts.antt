@@ -2,46 +2,24 @@
 use Rattle.std.proofs.Common.{◌≡◌, ◌≢◌, ℕ, ◌<◌, Bool, false, true, cond, Option, Some, None, refl, sym, ap, ◌∙◌, subst, inl, inr}
 use Rattle.std.proofs.lemmas.List.{get_or-set_other}
 use Rattle.shm_words.specs.Layout.{GeometryFits}
-use Rattle.shm_graph.specs.declared.ask.Me.{Me}
-use Rattle.shm_graph.specs.declared.memo.Memo.{Memo}
-use Rattle.shm_graph.specs.declared.run.Account.{Account}
-use Rattle.shm_graph.specs.declared.run.Start.{Start}
-use Rattle.shm_graph.specs.Agents.{acts}
-use Rattle.shm_graph.specs.Asks.{Trail, call_before}
-use Rattle.shm_graph.specs.Idle.{IsIdle}
-use Rattle.shm_graph.specs.Laws.{Laws}
-use Rattle.shm_graph.specs.Runs.{account_died, changed, memos_of}
-use Rattle.shm_graph.specs.Tells.{after_all}
-use Rattle.shm_graph.specs.Whole.{fits_now}
+use Rattle.shm_graph.specs.{declared.{ask.Me.Me, memo.Memo.Memo, run.{Account.Account, Start.Start}}, Agents.acts}
+use Rattle.shm_graph.specs.{Asks.{Trail, call_before}, Idle.IsIdle, Laws.Laws, Runs.{account_died, changed, memos_of}}
+use Rattle.shm_graph.specs.{Tells.after_all, Whole.fits_now}
 use Rattle.shm_steps.specs.Reparting.{map_in}
-use Rattle.shm_plain.specs.Calls.{IsAtWork, Ran}
-use Rattle.shm_plain.specs.Pools.{IsOf, Pool, after_fall, memo_of, readied}
-use Rattle.shm_plain.proofs.Calling.{Went, may_acting, ready_still, went_first}
+use Rattle.shm_plain.specs.{Calls.{IsAtWork, Ran}, Pools.{IsOf, Pool, after_fall, memo_of, readied}}
+use Rattle.shm_plain.proofs.{Calling.{Went, may_acting, ready_still, went_first}, Called.fits_first}
 use Rattle.shm_count.specs.Roots.{member}
-use Rattle.shm_script.specs.declared.line.Line.{Line}
+use Rattle.shm_script.specs.declared.{line.Line.Line, log.Answer.Answer}
 use Rattle.shm_script.specs.declared.line.Line.TheVariants as line
-use Rattle.shm_script.specs.declared.log.Answer.{Answer}
 use Rattle.shm_script.specs.declared.log.Answer.TheVariants as answer
 use Rattle.shm_table.specs.Command.{CommandCall, CommandFits, CommandGives, command_control, command_effect, command_of}
-use Rattle.shm_table.specs.Command.Laws.{command_laws}
-use Rattle.shm_table.specs.Command.Maps.{MapSoFar}
-use Rattle.shm_table.specs.CopyKey.Laws.{copy_laws}
-use Rattle.shm_table.specs.Del.Laws.{del_laws}
-use Rattle.shm_table.specs.Enter.Laws.{enter_laws}
-use Rattle.shm_table.specs.FetchHead.Laws.{fetch_head_laws}
-use Rattle.shm_table.specs.Fetch.Laws.{fetch_laws}
-use Rattle.shm_table.specs.Get.Laws.{get_laws}
-use Rattle.shm_table.specs.Locate.Laws.{locate_laws}
-use Rattle.shm_table.specs.OpenTable.Laws.{open_laws}
-use Rattle.shm_table.specs.Put.Laws.{put_laws}
-use Rattle.shm_table.specs.PutRoot.Laws.{put_root_laws}
-use Rattle.shm_table.specs.RecvKey.Laws.{recv_laws}
-use Rattle.shm_table.specs.Replace.Laws.{replace_laws}
-use Rattle.shm_table.specs.SendKey.Laws.{send_key_laws}
-use Rattle.shm_table.specs.TakeHead.Laws.{take_head_laws}
+use Rattle.shm_table.specs.{Command.{Laws.command_laws, Maps.MapSoFar}, CopyKey.Laws.copy_laws, Del.Laws.del_laws}
+use Rattle.shm_table.specs.{Enter.Laws.enter_laws, FetchHead.Laws.fetch_head_laws, Fetch.Laws.fetch_laws}
+use Rattle.shm_table.specs.{Get.Laws.get_laws, Locate.Laws.locate_laws, OpenTable.Laws.open_laws, Put.Laws.put_laws}
+use Rattle.shm_table.specs.{PutRoot.Laws.put_root_laws, RecvKey.Laws.recv_laws, Replace.Laws.replace_laws}
+use Rattle.shm_table.specs.{SendKey.Laws.send_key_laws, TakeHead.Laws.take_head_laws}
 use Rattle.table_calls.specs.Running.{MapSo, MayRun}
 use Rattle.table_calls.proofs.RunBegins.{run_begins, run_fresh}
-use Rattle.shm_plain.proofs.Called.{fits_first}
 
 -- what is owed of a command
 pub laws : Laws command_control CommandFits CommandGives

@@ -1,22 +1,14 @@
 -- the image of a clean pool, audited as it was written
 use Rattle.std.proofs.Common.{◌≡◌, ℕ, ◌^◌, ◌<◌, ◌↔◌, sym, ap, ◌∙◌, subst, arith, inl, inr, List, length}
-use Rattle.std.specs.Prelude.{None, Option, slice_index}
-use Rattle.std.specs.Option.{option_or}
-use Rattle.std.proofs.lemmas.Bool.{cases_lt}
-use Rattle.std.proofs.lemmas.List.{get_or_past}
-use Rattle.shm_words.specs.declared.geometry.Geometry.{Geometry}
-use Rattle.shm_words.specs.Layout.{total_of}
-use Rattle.shm_graph.specs.declared.spot.Spot.{Spot}
-use Rattle.shm_graph.specs.Clean.{IsClean}
-use Rattle.shm_graph.specs.Spots.{classes_in, see, spot_at}
+use Rattle.std.proofs.lemmas.{Bool.cases_lt, List.get_or_past}
+use Rattle.std.specs.{Prelude.{None, Option, slice_index}, Option.option_or}
+use Rattle.shm_words.specs.{declared.geometry.Geometry.Geometry, Layout.total_of}
+use Rattle.shm_graph.specs.{declared.spot.Spot.Spot, Clean.IsClean, Spots.{classes_in, see, spot_at}}
 use Rattle.shm_graph.proofs.Spots.Seeing.{see-spot}
-use Rattle.shm_audit.specs.declared.fault.ImageFault.{ImageFault}
-use Rattle.shm_audit.specs.declared.stop.AuditStop.{AuditStop}
-use Rattle.shm_audit.specs.declared.stop.AuditStop.TheVariants.{Fault, Memory}
-use Rattle.shm_audit.specs.declared.verdict.Verdict.{Verdict}
+use Rattle.shm_audit.specs.declared.{fault.ImageFault.ImageFault, stop.AuditStop.AuditStop}
+use Rattle.shm_audit.specs.declared.{stop.AuditStop.TheVariants.{Fault, Memory}, verdict.Verdict.Verdict}
 use Rattle.shm_audit.specs.Faults.{frame_fault_of, image_fault_of, words_fault_of}
-use Rattle.shm_audit.specs.Images.{geometry_in, image_of, words_in}
-use Rattle.shm_audit.specs.Stops.{StopsBy}
+use Rattle.shm_audit.specs.{Images.{geometry_in, image_of, words_in}, Stops.StopsBy}
 use Rattle.shm_audit.specs.Verdicts.{IsCleanVerdict, verdict_of}
 use Rattle.uses.specs.Images.{IsForMemory}
 

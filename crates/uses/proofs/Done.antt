@@ -1,9 +1,6 @@
 -- answers that a caller passes on with a reason of its own: what holds where the call was done holds where the caller was
-use Rattle.std.proofs.Common.{◌≡◌, Option, None, Some, Result, Ok, Err, refl}
-use Rattle.std.specs.Prelude.{IfOk}
-use Rattle.std.specs.Option.{is_some}
-use Rattle.std.specs.Result.{is_ok}
-use Rattle.std.proofs.lemmas.Bool.{true≢false}
+use Rattle.std.proofs.{Common.{◌≡◌, Option, None, Some, Result, Ok, Err, refl}, lemmas.Bool.true≢false}
+use Rattle.std.specs.{Prelude.IfOk, Option.is_some, Result.is_ok}
 
 -- a refusal got another name
 pub renamed : {T E D Q : Type 0} (a : Result T E) (r : Result T D) → is_ok r ≡ is_ok a → ((t : T) → a ≡ Ok t → Q) → IfOk r (λ u. Q)

@@ -1,25 +1,15 @@
 -- a block that a root names: what is known of its words stays known, and own words are those of the pool
 use Rattle.std.proofs.Common.{◌≡◌, ◌≢◌, ℕ, ◌<◌, Bool, true, [], refl, sym, ap, ◌∙◌, subst, append-nil, eqb}
-use Rattle.std.specs.Prelude.{None, Some}
-use Rattle.std.specs.List.{Contains, list_any}
-use Rattle.std.proofs.lemmas.Bool.{and_from, eq-eqb, or_left, or_right}
-use Rattle.std.proofs.lemmas.List.Elements.{All-contains}
-use Rattle.shm_graph.specs.declared.memo.Memo.{Memo}
-use Rattle.shm_graph.specs.declared.memo.Op.TheVariants.{Nothing}
-use Rattle.shm_graph.specs.declared.memo.Stored.{Stored}
-use Rattle.shm_graph.specs.declared.spot.Spot.{Spot}
-use Rattle.shm_graph.specs.declared.spot.Spot.TheVariants.{Body}
-use Rattle.shm_graph.specs.Runs.{memos_of}
-use Rattle.shm_graph.specs.Spots.{see}
-use Rattle.shm_graph.specs.Views.{owner_is, own_word, view}
-use Rattle.shm_graph.proofs.Memos.KnownChange.{KnownHolds}
-use Rattle.shm_graph.specs.Core.{core}
+use Rattle.std.proofs.lemmas.{Bool.{and_from, eq-eqb, or_left, or_right}, List.Elements.All-contains}
+use Rattle.std.specs.{Prelude.{None, Some}, List.{Contains, list_any}}
+use Rattle.shm_graph.specs.declared.{memo.{Memo.Memo, Op.TheVariants.Nothing, Stored.Stored}, spot.Spot.Spot}
+use Rattle.shm_graph.specs.{declared.spot.Spot.TheVariants.Body, Runs.memos_of, Spots.see}
+use Rattle.shm_graph.specs.{Views.{owner_is, own_word, view}, Core.core}
 use Rattle.shm_graph.specs.Reach.{binds_unlatched, is_dying, is_latch_of, is_named, is_reached, named_blocks, unlatched}
+use Rattle.shm_graph.proofs.Memos.KnownChange.{KnownHolds}
 use Rattle.shm_laws.proofs.Keep.{Contains-filter}
 use Rattle.shm_plain.specs.Pools.{IsRun, Pool, memo_of}
-use Rattle.shm_count.specs.Retaining.{named_reached}
-use Rattle.shm_count.specs.Roots.{root_word}
-use Rattle.shm_count.specs.Tear.Memos.{Knows}
+use Rattle.shm_count.specs.{Retaining.named_reached, Roots.root_word, Tear.Memos.Knows}
 use Rattle.shm_count.proofs.RootSpots.{roots_reached}
 use Rattle.shm_ref.specs.Hold.{wants}
 use Rattle.uses.specs.Blocks.{word_of}

@@ -1,13 +1,8 @@
 -- pairs of blocks: how their roots, their reference and their home come to be so
 use Rattle.std.proofs.Common.{◌≡◌, ◌≢◌, ℕ, sym, ap, ◌∙◌, List}
 use Rattle.std.specs.Prelude.{slice_index}
-use Rattle.shm_graph.specs.declared.ask.Me.{Me}
-use Rattle.shm_graph.specs.declared.memo.Memo.{Memo}
-use Rattle.shm_graph.specs.Asks.{Trail}
-use Rattle.shm_graph.specs.Events.{Event}
-use Rattle.shm_graph.specs.Held.{is_loose}
-use Rattle.shm_count.specs.declared.answer.Made.{Made}
-use Rattle.shm_count.specs.Roots.{root_word}
+use Rattle.shm_graph.specs.{declared.{ask.Me.Me, memo.Memo.Memo}, Asks.Trail, Events.Event, Held.is_loose}
+use Rattle.shm_count.specs.{declared.answer.Made.Made, Roots.root_word}
 use Rattle.shm_ref.specs.SetHome.{HomeFilled}
 use Rattle.uses.specs.Blocks.{AreRooted, IsMade}
 use Rattle.uses.proofs.Frees.{Rests}

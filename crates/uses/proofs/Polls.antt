@@ -1,16 +1,12 @@
 -- clients that are polled and given up, and recoveries that are polled
 use Rattle.std.proofs.Common.{◌≡◌, ℕ, ◌+◌, ◌<◌, ◌≤◌, Option, Some, None, false, refl, ap, ◌∙◌, subst, arith}
 use Rattle.std.specs.Prelude.{IfErr, IfOk, Result, Ok, Err, MatchOption}
-use Rattle.shm_graph.specs.declared.ask.Life.{Life}
-use Rattle.shm_graph.specs.declared.memo.Status.TheVariants.{Gone}
+use Rattle.shm_graph.specs.declared.{ask.Life.Life, memo.Status.TheVariants.Gone}
 use Rattle.shm_agents.specs.TurnsLeft.{turns_given}
-use Rattle.shm_pool.specs.declared.token.Stopped.{Stopped}
-use Rattle.shm_pool.specs.Rescues.{Rescuing}
-use Rattle.shm_pool.specs.Tokens.{Its, Token, token_first}
+use Rattle.shm_pool.specs.{declared.token.Stopped.Stopped, Rescues.Rescuing, Tokens.{Its, Token, token_first}}
 use Rattle.shm_script.specs.Values.{Scripted}
 use Rattle.shm_team.specs.declared.done.Finish.{Finish}
-use Rattle.shm_async.specs.Finished.{HasFinished}
-use Rattle.shm_async.specs.Polled.{AtPost, Course, HasTurned, IsNew, IsPolled, WentOn}
+use Rattle.shm_async.specs.{Finished.HasFinished, Polled.{AtPost, Course, HasTurned, IsNew, IsPolled, WentOn}}
 use Rattle.shm_async.specs.Rescued.{HasPolled, HasRescued, HasStepped, IsOver, IsStarted, MayRescue, Rescue, answered_by, rescuing_first as started}
 use Rattle.uses.specs.Polling.{IsGone}
 

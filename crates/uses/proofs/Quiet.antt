@@ -1,23 +1,12 @@
 -- clients of a pool that threads share: how they come to have nothing that waits, and stay so
 use Rattle.std.proofs.Common.{◌≡◌, ℕ, Bool, true, false, List, [], ◌∷◌, ◌++◌, refl, ap, ◌∙◌, subst}
 use Rattle.std.specs.Prelude.{slice_index}
-use Rattle.shm_graph.specs.declared.ask.Me.{Me}
-use Rattle.shm_graph.specs.declared.memo.Kind.TheVariants.{Client}
-use Rattle.shm_graph.specs.declared.memo.Memo.{Memo}
-use Rattle.shm_graph.specs.declared.run.Start.{Start}
-use Rattle.shm_graph.specs.Agents.{entered}
-use Rattle.shm_graph.specs.Asks.{Trail}
-use Rattle.shm_graph.specs.Events.{Event}
-use Rattle.shm_graph.specs.Held.{is_loose}
-use Rattle.shm_graph.specs.Laws.{Control}
-use Rattle.shm_graph.specs.Runs.{first_memo}
+use Rattle.shm_graph.specs.declared.{ask.Me.Me, memo.{Kind.TheVariants.Client, Memo.Memo}, run.Start.Start}
+use Rattle.shm_graph.specs.{Agents.entered, Asks.Trail, Events.Event, Held.is_loose, Laws.Control, Runs.first_memo}
 use Rattle.shm_graph.proofs.States.FirstHeld.{same_everywhere}
 use Rattle.shm_count.specs.Waiting.{LeavesQueues}
 use Rattle.shm_recover.specs.Join.{JoinGives, join_fresh}
-use Rattle.shm_pool.specs.Called.{Rests}
-use Rattle.shm_pool.specs.declared.reply.Reply.TheVariants.{Done}
-use Rattle.shm_pool.specs.Doing.{HasDone}
-use Rattle.shm_pool.specs.Tokens.{Acting, Token}
+use Rattle.shm_pool.specs.{Called.Rests, declared.reply.Reply.TheVariants.Done, Doing.HasDone, Tokens.{Acting, Token}}
 use Rattle.uses.specs.Sharing.{IsQuiet}
 
 -- where it joins for the first time

@@ -1,15 +1,9 @@
 -- two blocks of a client, of which the first one refers to the second
 use Rattle.std.specs.Prelude.{◌≡◌, ◌≢◌, ℕ, ◌<◌, false, None, Some}
-use Rattle.shm_graph.specs.declared.memo.Memo.{Memo}
-use Rattle.shm_graph.specs.declared.spot.Spot.{Spot}
-use Rattle.shm_graph.specs.declared.spot.Spot.TheVariants.{Body, Home, Root}
-use Rattle.shm_graph.specs.Agents.{recovers}
-use Rattle.shm_graph.specs.Spots.{see}
-use Rattle.shm_plain.specs.Calls.{IsAtWork}
-use Rattle.shm_plain.specs.Pools.{IsRun, Pool, memo_of}
-use Rattle.shm_count.specs.declared.answer.Made.{Made}
-use Rattle.shm_count.specs.Roots.{root_word}
-use Rattle.shm_count.specs.Tear.Memos.{Knows}
+use Rattle.shm_graph.specs.declared.{memo.Memo.Memo, spot.Spot.{Spot, TheVariants.{Body, Home, Root}}}
+use Rattle.shm_graph.specs.{Agents.recovers, Spots.see}
+use Rattle.shm_plain.specs.{Calls.IsAtWork, Pools.{IsRun, Pool, memo_of}}
+use Rattle.shm_count.specs.{declared.answer.Made.Made, Roots.root_word, Tear.Memos.Knows}
 use Rattle.plain_calls.specs.Clear.{IsClear}
 use Rattle.uses.specs.declared.memory.Pair.{Pair}
 

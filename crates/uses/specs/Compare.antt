@@ -2,24 +2,14 @@
 pub mod Laws
 use Rattle.std.specs.Prelude.{◌≡◌, ℕ, ◌<◌, Bool, true, false, ◌==◌, Option, None, Some, List, [], ◌∷◌}
 use Rattle.shm_words.specs.Layout.{GeometryFits}
-use Rattle.shm_graph.specs.declared.ask.Me.{Me}
-use Rattle.shm_graph.specs.declared.memo.Memo.{Memo}
-use Rattle.shm_graph.specs.Asks.{Trail, pair}
-use Rattle.shm_graph.specs.Core.{core}
-use Rattle.shm_graph.specs.Events.{Event}
+use Rattle.shm_graph.specs.{declared.{ask.Me.Me, memo.Memo.Memo}, Asks.{Trail, pair}, Core.core, Events.Event}
 use Rattle.shm_graph.specs.Laws.{Control}
-use Rattle.shm_calls.specs.declared.calls.Calls.{Calls}
-use Rattle.shm_calls.specs.declared.word.Word.{Word}
-use Rattle.shm_calls.specs.CallsControl.{calls_control, calls_of}
-use Rattle.shm_calls.specs.CallsPart.{calls_part}
-use Rattle.shm_calls.specs.Plans.{Planned}
-use Rattle.shm_calls.specs.Words.{word_control}
+use Rattle.shm_calls.specs.{declared.{calls.Calls.Calls, word.Word.Word}, CallsControl.{calls_control, calls_of}}
+use Rattle.shm_calls.specs.{CallsPart.calls_part, Plans.Planned, Words.word_control, Steering.Steered}
 use Rattle.shm_count.specs.Roots.{root_word}
-use Rattle.shm_ref.specs.declared.root_of.NamingState.{NamingState}
-use Rattle.shm_ref.specs.Lefts.{MayDrop}
-use Rattle.shm_ref.specs.RootOf.{naming, naming_ask, naming_plan}
-use Rattle.uses.specs.declared.machine.ComparePoint.{ComparePoint}
-use Rattle.uses.specs.declared.machine.ComparePoint.TheVariants.{First, Second}
+use Rattle.shm_ref.specs.{declared.root_of.NamingState.NamingState, Lefts.MayDrop}
+use Rattle.shm_ref.specs.RootOf.{naming, naming_ask, naming_plan, naming_steered}
+use Rattle.uses.specs.declared.machine.ComparePoint.{ComparePoint, TheVariants.{First, Second}}
 use Rattle.uses.specs.declared.machine.CompareState.{CompareState}
 
 -- ---- the control
@@ -30,7 +20,7 @@ CompareCall = Calls NamingState Word ℕ ℕ
 
 -- their control
 abbrev pub root_of : Control CompareCall ℕ
-root_of = calls_control word_control naming_plan
+root_of = calls_control word_control naming_steered
 
 -- before its first call
 abbrev pub comparing : Me → ℕ → ℕ → CompareState
@@ -42,7 +32,7 @@ root_at m First = m.first
 root_at m Second = m.second
 
 abbrev pub compare_call : CompareState → ComparePoint → CompareCall
-compare_call m y = calls_of naming_plan (naming m.me (root_at m y))
+compare_call m y = calls_of naming_steered (naming m.me (root_at m y))
 
 abbrev pub compare_after : CompareState → ComparePoint → ℕ → CompareState
 compare_after m First b = record m { found = b; point = Second }
@@ -98,8 +88,8 @@ pub record Compared (m : CompareState) (r0 r : Memo) (tr : Trail) (es : List Eve
 
 -- ---- the plan
 
-abbrev pub compare_plan : Planned CompareState CompareCall ℕ Bool
-compare_plan =
+abbrev pub compare_steered : Steered CompareState CompareCall ℕ Bool
+compare_steered =
     record {
       me = λ m. m.me;
       line = λ m. [];
@@ -108,6 +98,12 @@ compare_plan =
       call = λ m. compare_call m m.point;
       after = λ m. compare_after m m.point;
       turns = λ m. compare_turns m m.point;
+    }
+
+abbrev pub compare_plan : Planned CompareState CompareCall ℕ Bool
+compare_plan =
+    record {
+      steered = compare_steered;
       part = λ m. calls_part word_control naming_plan;
       knows = λ m. CompareKnows m m.point;
       leaves = Compared;

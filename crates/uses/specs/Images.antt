@@ -1,12 +1,8 @@
 -- audits of images that were just written
 use Rattle.std.specs.Prelude.{◌≡◌, ℕ, ◌^◌, ◌<◌, List, length}
-use Rattle.shm_words.specs.declared.geometry.Geometry.{Geometry}
-use Rattle.shm_words.specs.Layout.{GeometryFits, total_of}
-use Rattle.shm_graph.specs.declared.spot.Spot.{Spot}
-use Rattle.shm_graph.specs.Clean.{IsClean}
-use Rattle.shm_graph.specs.Spots.{see}
-use Rattle.shm_audit.specs.declared.stop.AuditStop.{AuditStop}
-use Rattle.shm_audit.specs.declared.stop.AuditStop.TheVariants.{Memory, Fault}
+use Rattle.shm_words.specs.{declared.geometry.Geometry.Geometry, Layout.{GeometryFits, total_of}}
+use Rattle.shm_graph.specs.{declared.spot.Spot.Spot, Clean.IsClean, Spots.see}
+use Rattle.shm_audit.specs.declared.stop.AuditStop.{AuditStop, TheVariants.{Memory, Fault}}
 
 -- an audit gave no verdict since memory was wanting, and for nothing else
 abbrev pub IsForMemory : AuditStop → Type 0

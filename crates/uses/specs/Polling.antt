@@ -1,15 +1,12 @@
 -- clients that are polled and given up, and what becomes of their identities
 use Rattle.std.specs.Prelude.{◌≡◌, ℕ, ◌^◌, ◌<◌, ◌⊎◌, true}
 use Rattle.shm_words.specs.declared.geometry.Geometry.{Geometry}
-use Rattle.shm_graph.specs.declared.memo.Status.TheVariants.{Gone}
-use Rattle.shm_graph.specs.declared.run.Account.{Account}
-use Rattle.shm_script.specs.Logged.{Logged}
-use Rattle.shm_script.specs.Values.{Scripted}
+use Rattle.shm_graph.specs.declared.{memo.Status.TheVariants.Gone, run.Account.Account}
+use Rattle.shm_script.specs.{Logged.Logged, Values.Scripted}
 use Rattle.shm_agents.specs.TurnsLeft.{turns_given}
 use Rattle.shm_pool.specs.Tokens.{End, Its, Token, token_first}
 use Rattle.shm_team.specs.declared.done.Finish.{Finish}
-use Rattle.shm_async.specs.Cancelled.{HasCancelled}
-use Rattle.shm_async.specs.Finished.{HasFinished}
+use Rattle.shm_async.specs.{Cancelled.HasCancelled, Finished.HasFinished}
 
 -- a token as a pool for tables was made with it, whose eras have room
 pub record IsFirstOf (p : Its) (t : Token) : Type 0 where

@@ -1,8 +1,7 @@
 -- clients of a pool that threads share, and tokens as it was made with them
 use Rattle.std.specs.Prelude.{◌≡◌, ℕ, true, false, slice_index}
 use Rattle.shm_graph.specs.Held.{is_loose}
-use Rattle.shm_pool.specs.Called.{Rests}
-use Rattle.shm_pool.specs.Tokens.{Acting, Its, Token, token_first}
+use Rattle.shm_pool.specs.{Called.Rests, Tokens.{Acting, Its, Token, token_first}}
 
 -- a token as a pool for single calls was made with it
 abbrev pub IsFirst : Its → Token → Type 0

@@ -1,17 +1,12 @@
 //! A machine of one's own: whether two roots of an identity name one block.
 
-ghost use Rattle.std.specs.Prelude.{◌≡◌, ◌==◌, ◌<◌, false, true, [], IfErr, IfOk, IfSome};
-ghost use Rattle.std.specs.Option.{is_some};
+ghost use Rattle.std.specs.{Prelude.{◌≡◌, ◌==◌, ◌<◌, false, true, [], IfErr, IfOk, IfSome}, Option.is_some};
 ghost use Rattle.shm_words.specs.Layout.{GeometryFits};
-ghost use Rattle.shm_graph.specs.Agents.{recovers};
-ghost use Rattle.shm_graph.specs.Core.{core};
-ghost use Rattle.shm_graph.specs.Reach.{is_reached};
-ghost use Rattle.shm_plain.specs.Calls.{Did, IsAtWork, Ran};
-ghost use Rattle.shm_plain.specs.Pools.{IsRun, memo_of};
+ghost use Rattle.shm_graph.specs.{Agents.recovers, Core.core, Reach.is_reached};
+ghost use Rattle.shm_plain.specs.{Calls.{Did, IsAtWork, Ran}, Pools.{IsRun, memo_of}};
 ghost use Rattle.shm_count.specs.Roots.{root_word};
+ghost use Rattle.uses.specs.Compare.{CompareMay, comparing, compare_plan, Laws.{compare_laws, compare_task}};
 ghost use Rattle.uses.specs.declared.stop.Stop.TheVariants as stop;
-ghost use Rattle.uses.specs.Compare.{CompareMay, comparing, compare_plan};
-ghost use Rattle.uses.specs.Compare.Laws.{compare_laws, compare_task};
 
 use crate::stop::Stop;
 use plain_calls::{allocate, joined};

@@ -3,10 +3,9 @@
 ghost use Rattle.std.specs.Prelude.{◌≡◌, ◌≢◌, ◌<◌, false, IfOk, IfErr};
 ghost use Rattle.shm_words.specs.Layout.{GeometryFits};
 ghost use Rattle.shm_graph.specs.declared.memo.Status.TheVariants.{Gone};
-ghost use Rattle.shm_plain.specs.Closings.{IsClosedRun};
-ghost use Rattle.shm_plain.specs.Pools.{memo_of};
-ghost use Rattle.uses.specs.declared.stop.Stop.TheVariants as stop;
+ghost use Rattle.shm_plain.specs.{Closings.IsClosedRun, Pools.memo_of};
 ghost use Rattle.uses.specs.Blocks.{AreRooted, AreSameRoots, HasRun, IsFree, IsHolding, IsMade, IsPair, Refers};
+ghost use Rattle.uses.specs.declared.stop.Stop.TheVariants as stop;
 
 use crate::stop::Stop;
 use plain_calls::{allocate, joined};

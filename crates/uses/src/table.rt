@@ -2,11 +2,8 @@
 
 ghost use Rattle.std.specs.Prelude.{◌≡◌, ◌≢◌, ℕ, true, IfOk, IfErr, IfSome};
 ghost use Rattle.shm_words.specs.Layout.{GeometryFits};
-ghost use Rattle.shm_graph.specs.declared.memo.Memo.{Memo as AMemo};
-ghost use Rattle.shm_graph.specs.declared.memo.Status.TheVariants.{Gone};
-ghost use Rattle.shm_graph.specs.Agents.{acts};
-ghost use Rattle.shm_plain.specs.Calls.{IsAtWork};
-ghost use Rattle.shm_plain.specs.Pools.{IsRun, memo_of};
+ghost use Rattle.shm_graph.specs.{declared.memo.{Memo.Memo as AMemo, Status.TheVariants.Gone}, Agents.acts};
+ghost use Rattle.shm_plain.specs.{Calls.IsAtWork, Pools.{IsRun, memo_of}};
 ghost use Rattle.shm_count.specs.Roots.{member};
 ghost use Rattle.shm_script.specs.declared.line.Line.TheVariants as line;
 ghost use Rattle.shm_table.specs.Command.Maps.{MapSoFar};

@@ -2,8 +2,7 @@
 
 ghost use Rattle.std.specs.Prelude.{◌≡◌, ◌≢◌, ◌<◌, [], IfOk, IfSome};
 ghost use Rattle.shm_words.specs.Layout.{GeometryFits};
-ghost use Rattle.shm_pool.specs.Called.{HasRoot, Rests};
-ghost use Rattle.shm_pool.specs.Tokens.{first_tokens, token_first};
+ghost use Rattle.shm_pool.specs.{Called.{HasRoot, Rests}, Tokens.{first_tokens, token_first}};
 ghost use Rattle.uses.specs.Sharing.{IsFirst, IsQuiet, Stays};
 
 use shm_alloc::alloc_keeps;

@@ -1,9 +1,7 @@
 //! Words that are packed, and the least class of a block.
 
 ghost use Rattle.std.specs.Prelude.{IfSome};
-ghost use Rattle.shm_words.specs.Headers.{HeaderFits};
-ghost use Rattle.shm_words.specs.Tags.{TagFits};
-ghost use Rattle.shm_words.specs.Redos.{RedoFits};
+ghost use Rattle.shm_words.specs.{Headers.HeaderFits, Tags.TagFits, Redos.RedoFits};
 
 use crate::numbers::{address, below};
 use crate::pools::pool;

@@ -1,26 +1,14 @@
 -- an allocation as a part of larger machines
 use Rattle.std.proofs.Common.{◌≡◌, Bool, true, refl, sym, ap, ◌∙◌, List}
 use Rattle.std.specs.Prelude.{Result}
-use Rattle.shm_graph.specs.declared.memo.Memo.{Memo}
-use Rattle.shm_graph.specs.Asks.{Trail}
-use Rattle.shm_graph.specs.Events.{Event}
-use Rattle.shm_graph.specs.Tells.{happens_along}
-use Rattle.shm_calls.specs.Grown.{Grows}
-use Rattle.shm_calls.specs.MadeStays.{making_laws, making_part}
-use Rattle.shm_calls.specs.Parts.{Part, PartLaws}
-use Rattle.shm_calls.specs.Placed.{placed}
+use Rattle.shm_graph.specs.{declared.memo.Memo.Memo, Asks.Trail, Events.Event, Tells.happens_along}
+use Rattle.shm_calls.specs.{Grown.Grows, MadeStays.{making_laws, making_part}, Parts.{Part, PartLaws}, Placed.placed}
 use Rattle.shm_count.specs.declared.answer.Made.{Made}
-use Rattle.shm_alloc.specs.declared.alloc.AllocFault.{AllocFault}
-use Rattle.shm_alloc.specs.declared.point.AllocPoint.{AllocPoint}
-use Rattle.shm_alloc.specs.declared.point.AllocPoint.TheVariants.{Era}
-use Rattle.shm_alloc.specs.declared.point.AllocState.{AllocState}
-use Rattle.shm_alloc.specs.Alloc.Control.{AllocInRange, alloc_control}
+use Rattle.shm_alloc.specs.declared.{alloc.AllocFault.AllocFault, point.AllocPoint.{AllocPoint, TheVariants.Era}}
+use Rattle.shm_alloc.specs.{declared.point.AllocState.AllocState, Alloc.Control.{AllocInRange, alloc_control}}
 use Rattle.shm_alloc.specs.Alloc.Events.{alloc_event, alloc_start, own_events}
-use Rattle.shm_alloc.specs.Alloc.{AllocFits, AllocGives, AnswerHolds, CanAlloc}
-use Rattle.shm_alloc.specs.Alloc.Going.{begins}
-use Rattle.shm_alloc.specs.Alloc.Laws.{alloc_laws}
-use Rattle.shm_alloc.specs.Alloc.Tells.{alloc_tells}
-use Rattle.shm_alloc.specs.Alloc.Asks.{alloc_trail}
+use Rattle.shm_alloc.specs.Alloc.{AllocFits, AllocGives, AnswerHolds, CanAlloc, Going.begins, Laws.alloc_laws}
+use Rattle.shm_alloc.specs.Alloc.{Tells.alloc_tells, Asks.alloc_trail}
 
 -- it is made, and may begin
 pub record IsAlloc (m : AllocState) (r : Memo) : Type 0 where

@@ -1,17 +1,13 @@
 -- what an allocation asks, and what it answers
 use Rattle.std.specs.Prelude.{ℕ, zero, suc, ◌+◌, ◌-◌, ◌*◌, ◌/◌, ◌^◌, ◌==◌, nat_lt, Result, Ok, Err, slice_index}
+use Rattle.shm_words.specs.{Layout.address, Redos.{first_word, second_word}}
 use Rattle.shm_words.specs.declared.place.Place.TheVariants as place
-use Rattle.shm_words.specs.Layout.{address}
-use Rattle.shm_words.specs.Redos.{first_word, second_word}
-use Rattle.shm_graph.specs.declared.ask.Ask.TheVariants.{Load, Store, Exchange}
-use Rattle.shm_graph.specs.declared.ask.Me.{Me}
-use Rattle.shm_graph.specs.Asks.{Trail}
+use Rattle.shm_graph.specs.{declared.ask.{Ask.TheVariants.{Load, Store, Exchange}, Me.Me}, Asks.Trail}
 use Rattle.shm_graph.specs.Trails.{Answers, Asked, Chosen}
 use Rattle.shm_count.specs.declared.answer.Made.{Made}
-use Rattle.shm_alloc.specs.declared.alloc.AllocFault.{AllocFault}
-use Rattle.shm_alloc.specs.declared.alloc.AllocFault.TheVariants.{EraSpent, RootsFull, Full}
+use Rattle.shm_alloc.specs.declared.alloc.AllocFault.{AllocFault, TheVariants.{EraSpent, RootsFull, Full}}
 use Rattle.shm_alloc.specs.declared.request.Request.{Request}
-use Rattle.shm_alloc.specs.Alloc.Control.{class_asked, tag_asked, header_made, redo_asked}
+use Rattle.shm_alloc.specs.Alloc.Control.{class_asked, tag_asked, header_made, redo_asked, segment_at, page_at, index_at}
 
 -- the trails of an allocation, each with its answer
 abbrev pub AllocTrails : Type 1
@@ -57,14 +53,14 @@ module _ (me : Me) (q : Request) where
   abbrev pub block_trail : ℕ → ℕ → ℕ → AllocTrails
   block_trail e k b = Asked (Store (b + 1) (tag_asked me.geometry.wide q me.who)) (λ _. reference_trail q.refs 0 e k b)
 
-  -- ---- a free block is looked for; `rest` follows where there is none, by how many headers were read
+  -- ---- a free block is looked for; `rest` follows where there is none, by how many headers were read. Segments, pages and blocks are counted from the hint on
 
-  -- n headers of the page at `at` from block i on
+  -- n headers of the page at `at` from the one that is number i on
   abbrev pub header_trail : ℕ → ℕ → ℕ → ℕ → ℕ → ℕ → (ℕ → AllocTrails) → AllocTrails
   header_trail zero i at e k used rest = rest used
   header_trail (suc n) i at e k used rest =
-      Asked (Load (at + class_asked q * i)) (λ x.
-      Chosen (x == 0) (block_trail e k (at + class_asked q * i)) (header_trail n (i + 1) at e k (used + 1) rest))
+      Asked (Load (at + class_asked q * index_at q i)) (λ x.
+      Chosen (x == 0) (block_trail e k (at + class_asked q * index_at q i)) (header_trail n (i + 1) at e k (used + 1) rest))
 
   -- all headers of a page
   abbrev pub headers_trail : ℕ → ℕ → ℕ → ℕ → ℕ → (ℕ → AllocTrails) → AllocTrails
@@ -74,23 +70,23 @@ module _ (me : Me) (q : Request) where
   abbrev pub class_trail : ℕ → ℕ → ℕ → ℕ → ℕ → (ℕ → AllocTrails) → AllocTrails
   class_trail s p e k used rest = Asked (Store (address me.geometry (place.Page s p)) (class_asked q)) (λ _. headers_trail s p e k used rest)
 
-  -- n pages of an own segment from page p on
+  -- n pages of the own segment s from the one that is number p on
   abbrev pub page_trail : ℕ → ℕ → ℕ → ℕ → ℕ → ℕ → (ℕ → AllocTrails) → AllocTrails
   page_trail zero p s e k used rest = rest used
   page_trail (suc n) p s e k used rest =
-      Asked (Load (address me.geometry (place.Page s p))) (λ x.
-      Chosen (x == 0) (class_trail s p e k used (λ u. page_trail n (p + 1) s e k u rest))
-      (Chosen (x == class_asked q) (headers_trail s p e k used (λ u. page_trail n (p + 1) s e k u rest)) (page_trail n (p + 1) s e k used rest)))
+      Asked (Load (address me.geometry (place.Page s (page_at q p)))) (λ x.
+      Chosen (x == 0) (class_trail s (page_at q p) e k used (λ u. page_trail n (p + 1) s e k u rest))
+      (Chosen (x == class_asked q) (headers_trail s (page_at q p) e k used (λ u. page_trail n (p + 1) s e k u rest)) (page_trail n (p + 1) s e k used rest)))
 
-  -- n segments from segment s on
+  -- n segments from the one that is number s on
   abbrev pub segment_trail : ℕ → ℕ → ℕ → ℕ → ℕ → ℕ → AllocTrails
   segment_trail zero s e k taken used = Answers (Err (Full taken used))
   segment_trail (suc n) s e k taken used =
-      Asked (Load (address me.geometry (place.Segment s))) (λ x.
+      Asked (Load (address me.geometry (place.Segment (segment_at me q s)))) (λ x.
       Chosen (x == 0)
-      (Asked (Exchange (address me.geometry (place.Segment s)) 0 (me.who + 1)) (λ y.
-      Chosen (y == 0) (page_trail 16 0 s e k used (λ u. segment_trail n (s + 1) e k taken u)) (segment_trail n (s + 1) e k (taken + 1) used)))
-      (Chosen (x == me.who + 1) (page_trail 16 0 s e k used (λ u. segment_trail n (s + 1) e k taken u)) (segment_trail n (s + 1) e k (taken + 1) used)))
+      (Asked (Exchange (address me.geometry (place.Segment (segment_at me q s))) 0 (me.who + 1)) (λ y.
+      Chosen (y == 0) (page_trail 16 0 (segment_at me q s) e k used (λ u. segment_trail n (s + 1) e k taken u)) (segment_trail n (s + 1) e k (taken + 1) used)))
+      (Chosen (x == me.who + 1) (page_trail 16 0 (segment_at me q s) e k used (λ u. segment_trail n (s + 1) e k taken u)) (segment_trail n (s + 1) e k (taken + 1) used)))
 
   -- ---- the own era and the roots come first
 

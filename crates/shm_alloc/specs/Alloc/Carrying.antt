@@ -1,30 +1,17 @@
 -- what a walk along the own partition found is carried over an allocation: the block that is to be an entry, or the directory
 use Rattle.std.proofs.Common.{◌≡◌, ◌≢◌, ℕ, ◌+◌, ◌^◌, ◌<◌, refl, sym, ap, ◌∙◌, subst, arith, eqb, ◌&&◌, List, [], ◌∷◌, Ok, slice_index}
+use Rattle.std.proofs.lemmas.{Bool.cond-true, List.Elements.{Contains-append_left, Contains-append_right}}
 use Rattle.std.specs.List.{Contains}
-use Rattle.std.proofs.lemmas.Bool.{cond-true}
-use Rattle.std.proofs.lemmas.List.Elements.{Contains-append_left, Contains-append_right}
-use Rattle.shm_words.specs.Tags.{tag_refs, tag_plain, TagFits}
-use Rattle.shm_words.specs.declared.tag.Tag.{Tag as ATag}
+use Rattle.shm_words.specs.{Tags.{tag_refs, tag_plain, TagFits}, declared.tag.Tag.Tag as ATag}
 use Rattle.shm_words.proofs.Words.{place_some, tag_refs-word, tag_plain-word, tag_author-word}
-use Rattle.shm_graph.specs.declared.ask.Me.{Me}
-use Rattle.shm_graph.specs.declared.spot.Spot.{Spot}
+use Rattle.shm_graph.specs.declared.{ask.Me.Me, spot.Spot.Spot, memo.{Making.Making, Memo.Memo, Stored.Stored}}
+use Rattle.shm_graph.specs.{Held.is_loose, MemoAfterRead.valued, Views.own_word}
 use Rattle.shm_graph.specs.declared.spot.Spot.TheVariants as spot
-use Rattle.shm_graph.specs.declared.memo.Making.{Making}
-use Rattle.shm_graph.specs.declared.memo.Memo.{Memo}
-use Rattle.shm_graph.specs.declared.memo.Stored.{Stored}
-use Rattle.shm_graph.specs.Held.{is_loose}
-use Rattle.shm_graph.specs.MemoAfterRead.{valued}
-use Rattle.shm_graph.specs.Views.{own_word}
-use Rattle.shm_graph.proofs.StepKinds.Loads.{choice}
-use Rattle.shm_graph.proofs.Spots.Spotting.{same_spot_self}
-use Rattle.shm_steps.specs.Reparting.{sight, map_in, IsKnown, IsTagged, IsBare, IsValue}
-use Rattle.shm_steps.specs.Walking.{IsVacant, IsComing}
-use Rattle.shm_count.specs.declared.answer.Made.{Made}
-use Rattle.shm_count.specs.Carrying.{Carries, vacant_carried}
-use Rattle.shm_alloc.specs.declared.request.Request.{Request}
-use Rattle.shm_alloc.specs.Alloc.Control.{tag_asked}
-use Rattle.shm_alloc.specs.Alloc.{AnswerHolds, MadeGives, IsPrepared, goal_of}
-use Rattle.shm_alloc.specs.Alloc.Steps.{ready_word}
+use Rattle.shm_graph.proofs.{StepKinds.Loads.choice, Spots.Spotting.same_spot_self}
+use Rattle.shm_steps.specs.{Reparting.{sight, map_in, IsKnown, IsTagged, IsBare, IsValue}, Walking.{IsVacant, IsComing}}
+use Rattle.shm_count.specs.{declared.answer.Made.Made, Carrying.{Carries, vacant_carried}}
+use Rattle.shm_alloc.specs.{declared.request.Request.Request, Alloc.Control.tag_asked}
+use Rattle.shm_alloc.specs.Alloc.{AnswerHolds, MadeGives, IsPrepared, goal_of, Steps.ready_word}
 
 module _ (me : Me) (q : Request) (m r : Memo) (a : Made) (holds : AnswerHolds me q m r (Ok a)) (who : me.who < 64) where
   abbrev c : ℕ

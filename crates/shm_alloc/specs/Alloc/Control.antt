@@ -1,28 +1,15 @@
 -- the control of an allocation: which word it asks for, and where it goes by the word found
-use Rattle.std.specs.Prelude.{◌≡◌, ℕ, ◌+◌, ◌-◌, ◌*◌, ◌/◌, ◌^◌, ◌<◌, ◌≤◌, Bool, true, false, ◌==◌, nat_lt, if◌then◌else◌, Option, Some, None, Result, Ok, Err, [], slice_index}
+use Rattle.std.specs.Prelude.{◌≡◌, ℕ, ◌+◌, ◌-◌, ◌*◌, ◌/◌, ◌%◌, ◌^◌, ◌<◌, ◌≤◌, Bool, true, false, ◌==◌, nat_lt, if◌then◌else◌, Option, Some, None, Result, Ok, Err, [], slice_index}
+use Rattle.shm_words.specs.{declared.redo.Redo.Redo as ARedo, Layout.{GeometryFits, address, total_of, bodies}}
+use Rattle.shm_words.specs.{Classes.class_for, Tags.tag_word, Headers.header_word, Redos.{first_word, second_word}}
 use Rattle.shm_words.specs.declared.place.Place.TheVariants as place
-use Rattle.shm_words.specs.declared.redo.Redo.{Redo as ARedo}
 use Rattle.shm_words.specs.declared.redo.Redo.TheVariants as redos
-use Rattle.shm_words.specs.Layout.{GeometryFits, address, total_of, bodies}
-use Rattle.shm_words.specs.Classes.{class_for}
-use Rattle.shm_words.specs.Tags.{tag_word}
-use Rattle.shm_words.specs.Headers.{header_word}
-use Rattle.shm_words.specs.Redos.{first_word, second_word}
 use Rattle.shm_count.specs.declared.answer.Made.{Made}
-use Rattle.shm_graph.specs.declared.ask.Ask.{Ask}
-use Rattle.shm_graph.specs.declared.ask.Ask.TheVariants.{Load, Store, Exchange}
-use Rattle.shm_graph.specs.declared.ask.Me.{Me}
-use Rattle.shm_graph.specs.Laws.{Control}
-use Rattle.shm_alloc.specs.declared.alloc.AllocFault.{AllocFault}
-use Rattle.shm_alloc.specs.declared.alloc.AllocFault.TheVariants.{EraSpent, RootsFull, Full}
-use Rattle.shm_alloc.specs.declared.request.Request.{Request}
-use Rattle.shm_alloc.specs.declared.point.Goal.{Goal}
-use Rattle.shm_alloc.specs.declared.point.Search.{Search}
-use Rattle.shm_alloc.specs.declared.point.AllocPoint.{AllocPoint}
+use Rattle.shm_graph.specs.{declared.ask.{Ask.{Ask, TheVariants.{Load, Store, Exchange}}, Me.Me}, Laws.Control}
+use Rattle.shm_alloc.specs.declared.alloc.AllocFault.{AllocFault, TheVariants.{EraSpent, RootsFull, Full}}
+use Rattle.shm_alloc.specs.declared.{request.Request.Request, point.{Goal.Goal, Search.Search, AllocPoint.AllocPoint}}
 use Rattle.shm_alloc.specs.declared.point.AllocPoint.TheVariants.{Era, Root, Segment, Claim, Page, Class, Header, Tag, Reference, Plain, More, Redo, Commit, Slot, Close, Over}
-use Rattle.shm_alloc.specs.declared.point.AllocState.{AllocState}
-use Rattle.shm_alloc.specs.declared.point.AllocNext.{AllocNext}
-use Rattle.shm_alloc.specs.declared.point.AllocNext.TheVariants.{Point, Answer}
+use Rattle.shm_alloc.specs.declared.point.{AllocState.AllocState, AllocNext.{AllocNext, TheVariants.{Point, Answer}}}
 
 -- ---- what is asked for
 
@@ -38,9 +25,23 @@ tag_asked wide q c = tag_word wide (record { refs = q.refs; plain = q.count; aut
 abbrev pub header_made : ℕ → ℕ → ℕ
 header_made c e = header_word (record { live = true; client = c; count = 1; era = e })
 
--- block i of a page
+-- which of n is number j, where they are counted from number d on, and behind the last one from the first on
+unfoldable pub turned : ℕ → ℕ → ℕ → ℕ
+turned n d j = if d == 0 then j else (j + d) % n
+
+-- the segment, the page and the block of a page that a search goes to as number j, by its hint
+abbrev pub segment_at : Me → Request → ℕ → ℕ
+segment_at me q j = turned me.geometry.segments q.near.segment j
+
+abbrev pub page_at : Request → ℕ → ℕ
+page_at q j = turned 16 q.near.page j
+
+abbrev pub index_at : Request → ℕ → ℕ
+index_at q j = turned (128 / class_asked q) q.near.index j
+
+-- the block that is number i of a page
 abbrev pub block_of : Me → Request → Search → ℕ → ℕ → ℕ
-block_of me q s p i = address me.geometry (place.Body s.segment p 0) + class_asked q * i
+block_of me q s p i = address me.geometry (place.Body (segment_at me q s.segment) (page_at q p) 0) + class_asked q * index_at q i
 
 -- the redo record of the new block, which root k is to name
 abbrev pub redo_asked : Me → ℕ → ℕ → ARedo
@@ -52,10 +53,10 @@ redo_asked me k b = redos.Up (address me.geometry (place.Root me.who k)) b
 abbrev pub alloc_ask_at : Me → Request → AllocPoint → Ask
 alloc_ask_at me q Era = Load (address me.geometry (place.Era me.who me.who))
 alloc_ask_at me q (Root e k) = Load (address me.geometry (place.Root me.who k))
-alloc_ask_at me q (Segment g s) = Load (address me.geometry (place.Segment s.segment))
-alloc_ask_at me q (Claim g s) = Exchange (address me.geometry (place.Segment s.segment)) 0 (me.who + 1)
-alloc_ask_at me q (Page g s p) = Load (address me.geometry (place.Page s.segment p))
-alloc_ask_at me q (Class g s p) = Store (address me.geometry (place.Page s.segment p)) (class_asked q)
+alloc_ask_at me q (Segment g s) = Load (address me.geometry (place.Segment (segment_at me q s.segment)))
+alloc_ask_at me q (Claim g s) = Exchange (address me.geometry (place.Segment (segment_at me q s.segment))) 0 (me.who + 1)
+alloc_ask_at me q (Page g s p) = Load (address me.geometry (place.Page (segment_at me q s.segment) (page_at q p)))
+alloc_ask_at me q (Class g s p) = Store (address me.geometry (place.Page (segment_at me q s.segment) (page_at q p))) (class_asked q)
 alloc_ask_at me q (Header g s p i) = Load (block_of me q s p i)
 alloc_ask_at me q (Tag g b) = Store (b + 1) (tag_asked me.geometry.wide q me.who)
 alloc_ask_at me q (Reference g b i) = Store (b + 2 + i) 0

@@ -1,12 +1,8 @@
 -- how many segments of others, and how many blocks in use, a trail shows
 use Rattle.std.specs.Prelude.{ℕ, ◌+◌, ◌==◌, if◌then◌else◌, [], ◌∷◌}
-use Rattle.shm_words.specs.declared.place.Place.{Place}
+use Rattle.shm_words.specs.{declared.place.Place.Place, Layout.place_at}
 use Rattle.shm_words.specs.declared.place.Place.TheVariants as place
-use Rattle.shm_words.specs.Layout.{place_at}
-use Rattle.shm_graph.specs.declared.ask.Ask.{Ask}
-use Rattle.shm_graph.specs.declared.ask.Ask.TheVariants.{Load, Exchange}
-use Rattle.shm_graph.specs.declared.ask.Me.{Me}
-use Rattle.shm_graph.specs.Asks.{Trail}
+use Rattle.shm_graph.specs.{declared.ask.{Ask.{Ask, TheVariants.{Load, Exchange}}, Me.Me}, Asks.Trail}
 
 -- 1 where a load of the word of a segment found another's number, neither 0 nor that of c
 abbrev pub load_taken : ℕ → Place → ℕ → ℕ

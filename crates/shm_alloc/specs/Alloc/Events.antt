@@ -1,13 +1,10 @@
 -- what an allocation does to the graph of references: the exchange of the header makes the block live in the root
 use Rattle.std.specs.Prelude.{ℕ, List, [], ◌∷◌, Result, Ok, Err}
-use Rattle.shm_graph.specs.declared.ask.Me.{Me}
-use Rattle.shm_graph.specs.Events.{Event}
+use Rattle.shm_graph.specs.{declared.ask.Me.Me, Events.Event}
 use Rattle.shm_graph.specs.Events as event
 use Rattle.shm_count.specs.declared.answer.Made.{Made}
-use Rattle.shm_alloc.specs.declared.alloc.AllocFault.{AllocFault}
-use Rattle.shm_alloc.specs.declared.point.AllocPoint.{AllocPoint}
-use Rattle.shm_alloc.specs.declared.point.AllocPoint.TheVariants.{Era, Commit, Slot, Close}
-use Rattle.shm_alloc.specs.declared.point.AllocState.{AllocState}
+use Rattle.shm_alloc.specs.declared.{alloc.AllocFault.AllocFault, point.AllocPoint.AllocPoint}
+use Rattle.shm_alloc.specs.declared.point.{AllocPoint.TheVariants.{Era, Commit, Slot, Close}, AllocState.AllocState}
 
 -- the event of a step
 abbrev pub alloc_event_at : Me → AllocPoint → ℕ → Event

@@ -1,31 +1,18 @@
 -- an allocation goes along its trails: each step is the next pair of a trail from its point
 use Rattle.std.proofs.Common.{◌≡◌, ℕ, suc, ◌+◌, ◌-◌, ◌/◌, ◌^◌, ◌<◌, ◌≤◌, refl, sym, ap, ◌∙◌, subst, arith, Bool, true, false, cond, List, [], ◌∷◌, ◌++◌, append_assoc}
-use Rattle.std.specs.List.{filter}
-use Rattle.std.specs.Prelude.{◌==◌, nat_lt, if◌then◌else◌, Result, Err}
 use Rattle.std.proofs.lemmas.Bool.{ltb-false}
-use Rattle.shm_words.specs.declared.place.Place.TheVariants as place
+use Rattle.std.specs.{List.filter, Prelude.{◌==◌, nat_lt, if◌then◌else◌, Result, Err}}
 use Rattle.shm_words.specs.Layout.{address}
-use Rattle.shm_graph.specs.declared.ask.Me.{Me}
-use Rattle.shm_graph.specs.declared.memo.Memo.{Memo}
-use Rattle.shm_graph.specs.Asks.{Trail, pair}
-use Rattle.shm_graph.specs.Trails.{Answers, Chosen}
-use Rattle.shm_graph.specs.Events.{Event}
-use Rattle.shm_graph.specs.Tells.{is_event, after_all, happens_along}
-use Rattle.shm_graph.proofs.Machines.TellsAlong.{after_all-append, happens_along-append}
-use Rattle.shm_graph.proofs.StepKinds.Loads.{choice}
-use Rattle.shm_count.specs.declared.answer.Made.{Made}
-use Rattle.shm_count.specs.Step.Going.{ends_in}
-use Rattle.shm_alloc.specs.declared.alloc.AllocFault.{AllocFault}
-use Rattle.shm_alloc.specs.declared.alloc.AllocFault.TheVariants.{EraSpent, RootsFull, Full}
-use Rattle.shm_alloc.specs.declared.request.Request.{Request}
-use Rattle.shm_alloc.specs.declared.point.Goal.{Goal}
-use Rattle.shm_alloc.specs.declared.point.Search.{Search}
-use Rattle.shm_alloc.specs.declared.point.AllocPoint.{AllocPoint}
+use Rattle.shm_words.specs.declared.place.Place.TheVariants as place
+use Rattle.shm_graph.specs.{declared.{ask.Me.Me, memo.Memo.Memo}, Asks.{Trail, pair}, Trails.{Answers, Chosen}}
+use Rattle.shm_graph.specs.{Events.Event, Tells.{is_event, after_all, happens_along}}
+use Rattle.shm_graph.proofs.{Machines.TellsAlong.{after_all-append, happens_along-append}, StepKinds.Loads.choice}
+use Rattle.shm_count.specs.{declared.answer.Made.Made, Step.Going.ends_in}
+use Rattle.shm_alloc.specs.declared.alloc.AllocFault.{AllocFault, TheVariants.{EraSpent, RootsFull, Full}}
+use Rattle.shm_alloc.specs.declared.{request.Request.Request, point.{Goal.Goal, Search.Search, AllocPoint.AllocPoint}}
 use Rattle.shm_alloc.specs.declared.point.AllocPoint.TheVariants.{Era, Root, Segment, Claim, Page, Class, Header, Tag, Reference, Plain, More, Redo, Commit, Slot, Close, Over}
-use Rattle.shm_alloc.specs.declared.point.AllocState.{AllocState}
-use Rattle.shm_alloc.specs.declared.point.AllocNext.{AllocNext}
-use Rattle.shm_alloc.specs.declared.point.AllocNext.TheVariants.{Point, Answer}
-use Rattle.shm_alloc.specs.Alloc.Control.{alloc_ask, alloc_ask_at, alloc_next, alloc_next_at, class_asked, block_of, segment_over, segment_taken, first_page, first_header, page_over, header_used, references_from, plain_from, first_point, point_of, PointFits, AllocInRange, alloc_control}
+use Rattle.shm_alloc.specs.declared.point.{AllocState.AllocState, AllocNext.{AllocNext, TheVariants.{Point, Answer}}}
+use Rattle.shm_alloc.specs.Alloc.Control.{alloc_ask, alloc_ask_at, alloc_next, alloc_next_at, class_asked, block_of, segment_at, page_at, segment_over, segment_taken, first_page, first_header, page_over, header_used, references_from, plain_from, first_point, point_of, PointFits, AllocInRange, alloc_control}
 use Rattle.shm_alloc.specs.Alloc.Events.{alloc_event, alloc_event_at, alloc_start, events_at, own_events}
 use Rattle.shm_alloc.specs.Alloc.Asks.{AllocTrails, alloc_trail, root_trail, segment_trail, page_trail, header_trail, class_trail, block_trail, reference_trail, plain_trail, first_trail, more_trail, live_trail}
 use Rattle.shm_alloc.specs.Alloc.{AllocFits, AllocGives, CanAlloc, PointHolds, AnswerHolds, AllocStays, claim_trail, point_trail, pages_after, segments_after}
@@ -75,12 +62,12 @@ module _ (me : Me) (q : Request) where
   after_page : (g : Goal) (s : Search) (p : ℕ) → IsPart (next_trail me q (page_over me g s p)) (pages_after me q g s p s.used)
   after_page g s p =
       choice (λ z. IsPart (next_trail me q z) (pages_after me q g s p s.used)) (nat_lt p 15) (Point (Page g s (p + 1))) (segment_over me g s)
-      (λ e. left (λ n. page_trail me q n (p + 1) s.segment g.era g.root s.used (segments_after me q g s)) (16 - (p + 1)) (15 - p) (omega arith))
-      (λ e tr a t. left (λ n. page_trail me q n (p + 1) s.segment g.era g.root s.used (segments_after me q g s)) 0 (15 - p) (sym (none_left 15 p (ltb-false p 15 e))) tr a (after_segment g s tr a t))
+      (λ e. left (λ n. page_trail me q n (p + 1) (segment_at me q s.segment) g.era g.root s.used (segments_after me q g s)) (16 - (p + 1)) (15 - p) (omega arith))
+      (λ e tr a t. left (λ n. page_trail me q n (p + 1) (segment_at me q s.segment) g.era g.root s.used (segments_after me q g s)) 0 (15 - p) (sym (none_left 15 p (ltb-false p 15 e))) tr a (after_segment g s tr a t))
 
   -- n headers of a page from block i on, and what follows
   abbrev headers_left : Goal → Search → ℕ → ℕ → ℕ → AllocTrails
-  headers_left g s p i n = header_trail me q n i (address me.geometry (place.Body s.segment p 0)) g.era g.root s.used (pages_after me q g s p)
+  headers_left g s p i n = header_trail me q n i (address me.geometry (place.Body (segment_at me q s.segment) (page_at q p) 0)) g.era g.root s.used (pages_after me q g s p)
 
   -- after a header that isn't free the next one follows, or the next page
   after_header : (g : Goal) (s : Search) (p i : ℕ) → IsPart (next_trail me q (header_used me q g s p i)) (headers_left g s p (i + 1) (128 / class_asked q - (i + 1)))
@@ -154,7 +141,7 @@ module _ (me : Me) (q : Request) where
 
   -- the pages of an own segment, and what follows
   abbrev own_trail : Goal → Search → AllocTrails
-  own_trail g s = page_trail me q 16 0 s.segment g.era g.root s.used (segments_after me q g s)
+  own_trail g s = page_trail me q 16 0 (segment_at me q s.segment) g.era g.root s.used (segments_after me q g s)
 
   -- what follows where the segment is another's
   abbrev taken_trail : Goal → Search → AllocTrails
@@ -162,7 +149,7 @@ module _ (me : Me) (q : Request) where
 
   -- all pages are left at the first one
   first_pages : (g : Goal) (s : Search) → IsPart (next_trail me q (first_page g s)) (own_trail g s)
-  first_pages g s = left (λ n. page_trail me q n 0 s.segment g.era g.root s.used (segments_after me q g s)) (16 - 0) 16 (omega arith)
+  first_pages g s = left (λ n. page_trail me q n 0 (segment_at me q s.segment) g.era g.root s.used (segments_after me q g s)) (16 - 0) 16 (omega arith)
 
   -- after a segment that is another's the next one follows
   after_taken : (g : Goal) (s : Search) → IsPart (next_trail me q (segment_taken me g s)) (taken_trail g s)
@@ -191,14 +178,14 @@ module _ (me : Me) (q : Request) where
   -- the class of a page
   page_goes : (g : Goal) (s : Search) (p : ℕ) → Goes (Page g s p)
   page_goes g s p n l rest a t =
-      left (λ f. page_trail me q f p s.segment g.era g.root s.used (segments_after me q g s)) (suc (15 - p)) (16 - p) (let below = l.2 in omega arith) (pair (alloc_ask_at me q (Page g s p)) n ∷ rest) a (
+      left (λ f. page_trail me q f p (segment_at me q s.segment) g.era g.root s.used (segments_after me q g s)) (suc (15 - p)) (16 - p) (let below = l.2 in omega arith) (pair (alloc_ask_at me q (Page g s p)) n ∷ rest) a (
         n,
         (
           rest,
           (
             refl,
             chosen me q (n == 0) (Point (Class g s p)) (if n == class_asked q then first_header g s p else page_over me g s p)
-                (class_trail me q s.segment p g.era g.root s.used (pages_after me q g s p)) (Chosen (n == class_asked q) (headers_left g s p 0 (128 / class_asked q)) (pages_after me q g s p s.used)) (λ d tr b u. u)
+                (class_trail me q (segment_at me q s.segment) (page_at q p) g.era g.root s.used (pages_after me q g s p)) (Chosen (n == class_asked q) (headers_left g s p 0 (128 / class_asked q)) (pages_after me q g s p s.used)) (λ d tr b u. u)
                 (λ d. chosen me q (n == class_asked q) (first_header g s p) (page_over me g s p) (headers_left g s p 0 (128 / class_asked q)) (pages_after me q g s p s.used) (λ d2. all_headers g s p) (λ d2. after_page g s p)) rest a t,
           ),
         ),

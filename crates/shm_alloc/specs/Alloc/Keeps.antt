@@ -1,23 +1,13 @@
 -- each step of an allocation keeps the invariant, and its memo fits again or holds what is answered
-use Rattle.std.proofs.Common.{true, ◌≡◌, ◌≢◌, ℕ, refl, false, [], ◌∷◌, ◌++◌}
-use Rattle.std.proofs.lemmas.Bool.{true≢false}
-use Rattle.shm_graph.specs.declared.ask.Me.{Me}
-use Rattle.shm_graph.specs.declared.spot.Spot.{Spot}
-use Rattle.shm_graph.specs.declared.memo.Memo.{Memo}
-use Rattle.shm_graph.specs.Spots.{spot_at}
-use Rattle.shm_graph.specs.Blocks.{classes}
-use Rattle.shm_graph.specs.Asks.{Trail, at_of, pair, seen_of}
-use Rattle.shm_graph.specs.Laws.{Keeps, Then, Frame, Stands, KeptAt, Outcome}
+use Rattle.std.proofs.{Common.{true, ◌≡◌, ◌≢◌, ℕ, refl, false, [], ◌∷◌, ◌++◌}, lemmas.Bool.true≢false}
+use Rattle.shm_graph.specs.{declared.{ask.Me.Me, spot.Spot.Spot, memo.Memo.Memo}, Spots.spot_at, Blocks.classes}
+use Rattle.shm_graph.specs.{Asks.{Trail, at_of, pair, seen_of}, Laws.{Keeps, Then, Frame, Stands, KeptAt, Outcome}}
 use Rattle.shm_graph.proofs.StepKinds.KindKeeping.{not_fresh}
-use Rattle.shm_alloc.specs.declared.request.Request.{Request}
-use Rattle.shm_alloc.specs.declared.point.AllocPoint.{AllocPoint}
+use Rattle.shm_alloc.specs.declared.{request.Request.Request, point.AllocPoint.AllocPoint}
 use Rattle.shm_alloc.specs.declared.point.AllocPoint.TheVariants.{Era, Root, Segment, Claim, Page, Class, Header, Tag, Reference, Plain, More, Redo, Commit, Slot, Close, Over}
-use Rattle.shm_alloc.specs.declared.point.AllocState.{AllocState}
-use Rattle.shm_alloc.specs.declared.point.AllocNext.{AllocNext}
-use Rattle.shm_alloc.specs.declared.point.AllocNext.TheVariants.{Point, Answer}
+use Rattle.shm_alloc.specs.declared.point.{AllocState.AllocState, AllocNext.{AllocNext, TheVariants.{Point, Answer}}}
 use Rattle.shm_alloc.specs.Alloc.Control.{alloc_ask, alloc_ask_at, alloc_next, alloc_next_at, point_of, answer_of, is_over, alloc_control, RequestFits, PointFits}
-use Rattle.shm_alloc.specs.Alloc.{CanAlloc, PointHolds, NextHolds, AllocFits, AllocGives}
-use Rattle.shm_alloc.specs.Alloc.Ranges.{knows_after}
+use Rattle.shm_alloc.specs.Alloc.{CanAlloc, PointHolds, NextHolds, AllocFits, AllocGives, Ranges.knows_after}
 use Rattle.shm_alloc.specs.Alloc.Going.{fits_goes, gives_ends}
 use Rattle.shm_alloc.specs.Alloc.SearchSegments.{era_step, root_step, segment_step, claim_step}
 use Rattle.shm_alloc.specs.Alloc.SearchPages.{page_step, class_step, header_step}

@@ -1,27 +1,17 @@
 -- the laws of an allocation
 use Rattle.std.proofs.Common.{◌≡◌, ◌≢◌, ℕ, ◌+◌, ◌-◌, ◌^◌, ◌/◌, ◌<◌, ◌≤◌, ◌==◌, nat_lt, if◌then◌else◌, Bool, true, false, refl, arith, lt-ltb}
-use Rattle.std.proofs.lemmas.Bool.{true≢false, and_from}
-use Rattle.std.proofs.lemmas.Bool.Decides.{nat_tests}
-use Rattle.shm_words.specs.declared.geometry.Geometry.{Geometry}
-use Rattle.shm_words.specs.declared.place.Place.{Place}
-use Rattle.shm_words.specs.declared.place.Place.TheVariants as place
+use Rattle.std.proofs.lemmas.Bool.{true≢false, and_from, Decides.nat_tests}
+use Rattle.shm_words.specs.declared.{geometry.Geometry.Geometry, place.Place.Place}
 use Rattle.shm_words.specs.Layout.{GeometryFits, address, is_in, total_of, bodies}
-use Rattle.shm_words.proofs.Classing.{class_room}
-use Rattle.shm_words.proofs.Placing.{address_below}
-use Rattle.shm_graph.specs.declared.ask.Me.{Me}
-use Rattle.shm_graph.specs.Asks.{at_of}
-use Rattle.shm_graph.specs.Laws.{Laws, Steady, Inside, Back, is_some}
-use Rattle.shm_alloc.specs.declared.request.Request.{Request}
-use Rattle.shm_alloc.specs.declared.point.Goal.{Goal}
-use Rattle.shm_alloc.specs.declared.point.Search.{Search}
-use Rattle.shm_alloc.specs.declared.point.AllocPoint.{AllocPoint}
+use Rattle.shm_words.specs.declared.place.Place.TheVariants as place
+use Rattle.shm_words.proofs.{Classing.class_room, Placing.address_below}
+use Rattle.shm_graph.specs.{declared.ask.Me.Me, Asks.at_of, Laws.{Laws, Steady, Inside, Back, is_some}}
+use Rattle.shm_alloc.specs.declared.{request.Request.Request, point.{Goal.Goal, Search.Search, AllocPoint.AllocPoint}}
 use Rattle.shm_alloc.specs.declared.point.AllocPoint.TheVariants.{Era, Root, Segment, Claim, Page, Class, Header, Tag, Reference, Plain, More, Redo, Commit, Slot, Close, Over}
-use Rattle.shm_alloc.specs.declared.point.AllocNext.{AllocNext}
-use Rattle.shm_alloc.specs.declared.point.AllocNext.TheVariants.{Point, Answer}
-use Rattle.shm_alloc.specs.Alloc.Control.{class_asked, segment_over, page_over, first_point, plain_from, references_from, alloc_ask_at, alloc_next_at, alloc_next, point_of, answer_of, is_first, is_over, alloc_control, RequestFits, PointFits}
-use Rattle.shm_alloc.specs.Alloc.{AllocFits, AllocGives}
-use Rattle.shm_alloc.specs.BlockPlaces.{block_of_within}
-use Rattle.shm_alloc.specs.Alloc.Keeps.{alloc_keeps}
+use Rattle.shm_alloc.specs.declared.point.AllocNext.{AllocNext, TheVariants.{Point, Answer}}
+use Rattle.shm_alloc.specs.Turning.{segment_below, page_below}
+use Rattle.shm_alloc.specs.Alloc.Control.{class_asked, segment_at, page_at, segment_over, page_over, first_point, plain_from, references_from, alloc_ask_at, alloc_next_at, alloc_next, point_of, answer_of, is_first, is_over, alloc_control, RequestFits, PointFits}
+use Rattle.shm_alloc.specs.{Alloc.{AllocFits, AllocGives, Keeps.alloc_keeps}, BlockPlaces.block_of_within}
 
 -- ---- steady
 
@@ -123,15 +113,27 @@ place_inside g (place.Body s p k) f i n = (omega arith, address_below g (place.B
 word_inside : (me : Me) (q : Request) (b i : ℕ) → RequestFits q → b + class_asked q ≤ total_of me.geometry → bodies me.geometry ≤ b → i < 2 + q.refs + q.count → (0 < b + i) × (b + i < total_of me.geometry)
 word_inside me q b i f t l k = let r = class_room q.refs q.count f.refs f.count in (omega arith, omega arith)
 
+-- the word of a segment that is searched
+segment_inside : (me : Me) (q : Request) (j : ℕ) → GeometryFits me.geometry → j < me.geometry.segments
+    → (0 < address me.geometry (place.Segment (segment_at me q j))) × (address me.geometry (place.Segment (segment_at me q j)) < total_of me.geometry)
+segment_inside me q j f l = place_inside me.geometry (place.Segment (segment_at me q j)) f (lt-ltb (segment_at me q j) me.geometry.segments (segment_below me q j l)) (λ z. cc)
+
+-- the word of a page of it
+page_inside : (me : Me) (q : Request) (j p : ℕ) → GeometryFits me.geometry → j < me.geometry.segments → p < 16
+    → (0 < address me.geometry (place.Page (segment_at me q j) (page_at q p))) × (address me.geometry (place.Page (segment_at me q j) (page_at q p)) < total_of me.geometry)
+page_inside me q j p f l m =
+    place_inside me.geometry (place.Page (segment_at me q j) (page_at q p)) f
+    (and_from _ _ (lt-ltb (segment_at me q j) me.geometry.segments (segment_below me q j l)) (lt-ltb (page_at q p) 16 (page_below q p m))) (λ z. cc)
+
 -- what is asked for at a point is in the pool
 ask_inside : (me : Me) (q : Request) (p : AllocPoint) → GeometryFits me.geometry → me.who < me.geometry.clients → RequestFits q → PointFits me q p → is_over p ≡ false
     → (0 < at_of (alloc_ask_at me q p)) × (at_of (alloc_ask_at me q p) < total_of me.geometry)
 ask_inside me q Era f l r h e = place_inside me.geometry (place.Era me.who me.who) f (grind (arith, nat_tests)) (λ z. cc)
 ask_inside me q (Root d k) f l r h e = let z = h.1 in place_inside me.geometry (place.Root me.who k) f (grind (arith, nat_tests)) (λ z. cc)
-ask_inside me q (Segment g s) f l r h e = let z = h.1.segment in place_inside me.geometry (place.Segment s.segment) f (grind (arith, nat_tests)) (λ z. cc)
-ask_inside me q (Claim g s) f l r h e = let z = h.1.segment in place_inside me.geometry (place.Segment s.segment) f (grind (arith, nat_tests)) (λ z. cc)
-ask_inside me q (Page g s p) f l r h e = let y = h.1.segment in let z = h.2 in place_inside me.geometry (place.Page s.segment p) f (grind (arith, nat_tests)) (λ z. cc)
-ask_inside me q (Class g s p) f l r h e = let y = h.1.segment in let z = h.2 in place_inside me.geometry (place.Page s.segment p) f (grind (arith, nat_tests)) (λ z. cc)
+ask_inside me q (Segment g s) f l r h e = segment_inside me q s.segment f h.1.segment
+ask_inside me q (Claim g s) f l r h e = segment_inside me q s.segment f h.1.segment
+ask_inside me q (Page g s p) f l r h e = page_inside me q s.segment p f h.1.segment h.2
+ask_inside me q (Class g s p) f l r h e = page_inside me q s.segment p f h.1.segment h.2
 ask_inside me q (Header g s p i) f l r h e =
     let b = block_of_within me q s p i h.1.segment h.2 h.3 in
     let k = class_room q.refs q.count r.refs r.count in

@@ -1,57 +1,32 @@
 -- a block becomes live: what the store of the redo record, the exchange of the header and the stores of the root and the own era keep
 use Rattle.std.proofs.Common.{◌≡◌, ℕ, ◌+◌, ◌^◌, ◌<◌, ◌≤◌, refl, sym, ap, ◌∙◌, subst, arith, Bool, true, false, ◌&&◌, eqb, List, [], ◌∷◌, ◌++◌, Some, None, inl, inr, cond}
-use Rattle.std.specs.List.{All, Contains}
 use Rattle.std.proofs.lemmas.Bool.{and_from, cases_Bool, cond-true, cond-false, eq-eqb, lt-ltb, true≢false}
-use Rattle.std.proofs.lemmas.List.Elements.{All-contains, All-head, All-tail}
-use Rattle.std.proofs.lemmas.Map.Made.{Contains-tail}
-use Rattle.shm_words.specs.declared.place.Place.TheVariants as place
-use Rattle.shm_words.specs.declared.redo.Redo.{Redo as ARedo}
-use Rattle.shm_words.specs.Classes.{class_for}
-use Rattle.shm_words.specs.Headers.{HeaderFits}
+use Rattle.std.proofs.lemmas.{List.Elements.{All-contains, All-head, All-tail}, Map.Made.Contains-tail}
+use Rattle.std.specs.List.{All, Contains}
+use Rattle.shm_words.specs.{declared.redo.Redo.Redo as ARedo, Classes.class_for, Headers.HeaderFits}
 use Rattle.shm_words.specs.Layout.{address, total_of}
 use Rattle.shm_words.specs.Redos.{first_word, second_word, redo_first, redo_second, fitted}
 use Rattle.shm_words.specs.Tags.{TagFits, tag_refs, tag_plain}
+use Rattle.shm_words.specs.declared.place.Place.TheVariants as place
 use Rattle.shm_words.proofs.Placing.{total_small}
 use Rattle.shm_words.proofs.Words.{fitted_same, header_of-word, header_word_small, tag_word_small, tag_refs-word, tag_plain-word, tag_author-word, tag_link-word}
-use Rattle.shm_graph.specs.declared.ask.Ask.{Ask}
-use Rattle.shm_graph.specs.declared.ask.Ask.TheVariants.{Store, Exchange}
-use Rattle.shm_graph.specs.declared.ask.Me.{Me}
-use Rattle.shm_graph.specs.declared.spot.Spot.{Spot}
-use Rattle.shm_graph.specs.declared.spot.Spot.TheVariants as spot
-use Rattle.shm_graph.specs.declared.memo.First.TheVariants.{Begun, Committed}
-use Rattle.shm_graph.specs.declared.memo.Making.{Making}
-use Rattle.shm_graph.specs.declared.memo.Memo.{Memo}
-use Rattle.shm_graph.specs.declared.memo.Op.{Op}
-use Rattle.shm_graph.specs.declared.memo.Op.TheVariants as op
-use Rattle.shm_graph.specs.declared.memo.Stored.{Stored}
-use Rattle.shm_graph.specs.Spots.{spot_at, spot_address, same_spot, IsAt}
-use Rattle.shm_graph.specs.Blocks.{classes, IsBlock}
-use Rattle.shm_graph.specs.Views.{own_word}
-use Rattle.shm_graph.specs.Held.{InBlock}
-use Rattle.shm_graph.specs.Asks.{Trail}
-use Rattle.shm_graph.specs.Chains.{or_zero}
-use Rattle.shm_graph.specs.Changes.{memo_on}
-use Rattle.shm_graph.specs.MemoAfterExchange.{words_made, values_with, committed, allocated}
-use Rattle.shm_graph.specs.Idle.{hold_word}
-use Rattle.shm_graph.specs.Ops.{slot_of}
-use Rattle.shm_graph.specs.Reach.{is_at, known_at}
-use Rattle.shm_graph.specs.MemoAfterRead.{valued}
+use Rattle.shm_graph.specs.declared.{ask.{Ask.{Ask, TheVariants.{Store, Exchange}}, Me.Me}, spot.Spot.Spot}
+use Rattle.shm_graph.specs.declared.memo.{First.TheVariants.{Begun, Committed}, Making.Making, Memo.Memo, Op.Op}
+use Rattle.shm_graph.specs.{declared.memo.Stored.Stored, Spots.{spot_at, spot_address, same_spot, IsAt}}
+use Rattle.shm_graph.specs.{Blocks.{classes, IsBlock}, Views.own_word, Held.InBlock, Asks.Trail, Chains.or_zero}
+use Rattle.shm_graph.specs.{Changes.memo_on, MemoAfterExchange.{words_made, values_with, committed, allocated}}
+use Rattle.shm_graph.specs.{Idle.hold_word, Ops.slot_of, Reach.{is_at, known_at}, MemoAfterRead.valued}
 use Rattle.shm_graph.specs.MemoAfterStore.{is_block_made, with_own, op_written, op_closed, is_lowering, without_looks, era_stored}
 use Rattle.shm_graph.specs.Laws.{Frame, framed, KeptAt}
-use Rattle.shm_graph.proofs.Spots.SpotPlaces.{spot-place}
-use Rattle.shm_graph.proofs.Spots.Spotting.{same_spot_self, same_spot_is}
-use Rattle.shm_laws.specs.Slotting.{Writes}
-use Rattle.shm_laws.specs.OwnWords.{Closes}
-use Rattle.shm_steps.specs.OwnWords.{MayAdd, MayBegin, IsReady, op_begun}
-use Rattle.shm_steps.specs.Preparing.{MayAlloc}
-use Rattle.shm_steps.proofs.Allocated.{allocates}
-use Rattle.shm_steps.proofs.OwnStoresEra.{era_closed}
+use Rattle.shm_graph.specs.declared.spot.Spot.TheVariants as spot
+use Rattle.shm_graph.specs.declared.memo.Op.TheVariants as op
+use Rattle.shm_graph.proofs.Spots.{SpotPlaces.spot-place, Spotting.{same_spot_self, same_spot_is}}
+use Rattle.shm_laws.specs.{Slotting.Writes, OwnWords.Closes}
+use Rattle.shm_steps.specs.{OwnWords.{MayAdd, MayBegin, IsReady, op_begun}, Preparing.MayAlloc}
+use Rattle.shm_steps.proofs.{Allocated.allocates, OwnStoresEra.era_closed}
 use Rattle.shm_steps.proofs.OwnStoresRedo.{redo_stored as begin_stored, more_stored as second_stored, root_begins_up, root_at, up_begun}
-use Rattle.shm_steps.proofs.Prepared.{MakingHolds, making_holds}
-use Rattle.shm_steps.proofs.SlotStores.{root_stored}
-use Rattle.shm_steps.proofs.KeptAfter.{kept_going}
-use Rattle.shm_alloc.specs.declared.request.Request.{Request}
-use Rattle.shm_alloc.specs.declared.point.Goal.{Goal}
+use Rattle.shm_steps.proofs.{Prepared.{MakingHolds, making_holds}, SlotStores.root_stored, KeptAfter.kept_going}
+use Rattle.shm_alloc.specs.declared.{request.Request.Request, point.Goal.Goal}
 use Rattle.shm_alloc.specs.declared.point.AllocPoint.TheVariants.{More, Redo, Commit, Slot, Close}
 use Rattle.shm_alloc.specs.Alloc.Control.{class_asked, tag_asked, header_made, redo_asked, alloc_next_at, GoalFits}
 use Rattle.shm_alloc.specs.Alloc.{AllocStays, CanAlloc, GoalHas, IsPrepared, Prepares, PointHolds, NextHolds, more_stored, readied, redo_stored}

@@ -1,42 +1,23 @@
 -- the making of a block: what the stores of its words keep
 use Rattle.std.proofs.Common.{◌≡◌, ◌≢◌, ℕ, ◌+◌, ◌^◌, ◌<◌, ◌≤◌, refl, sym, ap, ◌∙◌, subst, arith, Bool, true, false, not, ◌&&◌, List, [], ◌∷◌, Option, Some, inl, inr}
-use Rattle.std.specs.Prelude.{nat_lt, slice_index, if◌then◌else◌}
-use Rattle.std.specs.List.{Contains, filter}
-use Rattle.std.proofs.lemmas.Bool.{cases_eq, cond-false}
-use Rattle.std.proofs.lemmas.Bool.Decides.{nat_tests}
+use Rattle.std.proofs.lemmas.Bool.{cases_eq, cond-false, Decides.nat_tests}
 use Rattle.std.proofs.lemmas.List.Elements.{All-contains, Contains-append_right}
+use Rattle.std.specs.{Prelude.{nat_lt, slice_index, if◌then◌else◌}, List.{Contains, filter}}
 use Rattle.shm_words.specs.Tags.{TagFits}
-use Rattle.shm_words.proofs.Classing.{class_room}
-use Rattle.shm_words.proofs.Words.{live_not_zero, place_some, tag_word_below}
-use Rattle.shm_graph.specs.declared.ask.Ask.{Ask}
-use Rattle.shm_graph.specs.declared.ask.Ask.TheVariants.{Store}
-use Rattle.shm_graph.specs.declared.ask.Me.{Me}
-use Rattle.shm_graph.specs.declared.spot.Spot.{Spot}
+use Rattle.shm_words.proofs.{Classing.class_room, Words.{live_not_zero, place_some, tag_word_below}}
+use Rattle.shm_graph.specs.declared.{ask.{Ask.{Ask, TheVariants.Store}, Me.Me}, spot.Spot.Spot, memo.Making.Making}
+use Rattle.shm_graph.specs.declared.memo.{Memo.Memo, Op.Op, Stored.Stored}
+use Rattle.shm_graph.specs.{Spots.{same_spot, spot_at, class_at, segment_of}, Blocks.{classes, IsBlock}, Views.view}
+use Rattle.shm_graph.specs.{Held.{HeldAt, ZeroAt}, Asks.Trail, Changes.{called, with_call, with_end}}
+use Rattle.shm_graph.specs.{Ops.{is_op, slot_of}, Reach.{is_dying, learnt, not_at}}
+use Rattle.shm_graph.specs.{MemoAfterStore.{class_told, making_with}, Laws.{Frame, framed, Stands, KeptAt}}
 use Rattle.shm_graph.specs.declared.spot.Spot.TheVariants as spot
-use Rattle.shm_graph.specs.declared.memo.Making.{Making}
-use Rattle.shm_graph.specs.declared.memo.Memo.{Memo}
-use Rattle.shm_graph.specs.declared.memo.Op.{Op}
 use Rattle.shm_graph.specs.declared.memo.Op.TheVariants as op
-use Rattle.shm_graph.specs.declared.memo.Stored.{Stored}
-use Rattle.shm_graph.specs.Spots.{same_spot, spot_at, class_at, segment_of}
-use Rattle.shm_graph.specs.Blocks.{classes, IsBlock}
-use Rattle.shm_graph.specs.Views.{view}
-use Rattle.shm_graph.specs.Held.{HeldAt, ZeroAt}
-use Rattle.shm_graph.specs.Asks.{Trail}
-use Rattle.shm_graph.specs.Changes.{called, with_call, with_end}
-use Rattle.shm_graph.specs.Ops.{is_op, slot_of}
-use Rattle.shm_graph.specs.Reach.{is_dying, learnt, not_at}
-use Rattle.shm_graph.specs.MemoAfterStore.{class_told, making_with}
-use Rattle.shm_graph.specs.Laws.{Frame, framed, Stands, KeptAt}
-use Rattle.shm_graph.proofs.StepKinds.Loads.{choice}
-use Rattle.shm_graph.proofs.Spots.Spotting.{block_within, tag_spot, body_spot, same_spot_not}
+use Rattle.shm_graph.proofs.{StepKinds.Loads.choice, Spots.Spotting.{block_within, tag_spot, body_spot, same_spot_not}}
 use Rattle.shm_laws.proofs.Keep.{Contains-filter}
-use Rattle.shm_steps.proofs.BlockTold.{dying_false}
-use Rattle.shm_steps.proofs.Prepared.{MakingHolds, making_holds, tag_prepares, body_prepares}
+use Rattle.shm_steps.proofs.{BlockTold.dying_false, Prepared.{MakingHolds, making_holds, tag_prepares, body_prepares}}
 use Rattle.shm_steps.proofs.KeptAfter.{kept_going}
-use Rattle.shm_alloc.specs.declared.request.Request.{Request}
-use Rattle.shm_alloc.specs.declared.point.Goal.{Goal}
-use Rattle.shm_alloc.specs.declared.point.AllocPoint.{AllocPoint}
+use Rattle.shm_alloc.specs.declared.{request.Request.Request, point.{Goal.Goal, AllocPoint.AllocPoint}}
 use Rattle.shm_alloc.specs.declared.point.AllocPoint.TheVariants.{Tag, Reference, Plain, More, Redo}
 use Rattle.shm_alloc.specs.Alloc.Control.{class_asked, tag_asked, alloc_next_at, first_point, plain_from, references_from, RequestFits}
 use Rattle.shm_alloc.specs.Alloc.Steps.{PointKeeps, is_here, goal_on, ready_not}

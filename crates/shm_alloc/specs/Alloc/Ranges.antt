@@ -5,14 +5,9 @@ use Rattle.shm_words.specs.Layout.{GeometryFits, total_of, bodies}
 use Rattle.shm_words.proofs.Classing.{class_is}
 use Rattle.shm_graph.specs.declared.ask.Me.{Me}
 use Rattle.shm_graph.proofs.StepKinds.Loads.{choice}
-use Rattle.shm_alloc.specs.declared.request.Request.{Request}
-use Rattle.shm_alloc.specs.declared.point.Goal.{Goal}
-use Rattle.shm_alloc.specs.declared.point.Search.{Search}
-use Rattle.shm_alloc.specs.declared.point.AllocPoint.{AllocPoint}
+use Rattle.shm_alloc.specs.declared.{request.Request.Request, point.{Goal.Goal, Search.Search, AllocPoint.AllocPoint}}
 use Rattle.shm_alloc.specs.declared.point.AllocPoint.TheVariants.{Era, Root, Segment, Claim, Page, Class, Header, Tag, Reference, Plain, More, Redo, Commit, Slot, Close, Over}
-use Rattle.shm_alloc.specs.declared.point.AllocState.{AllocState}
-use Rattle.shm_alloc.specs.declared.point.AllocNext.{AllocNext}
-use Rattle.shm_alloc.specs.declared.point.AllocNext.TheVariants.{Point, Answer}
+use Rattle.shm_alloc.specs.declared.point.{AllocState.AllocState, AllocNext.{AllocNext, TheVariants.{Point, Answer}}}
 use Rattle.shm_alloc.specs.Alloc.Control.{point_of, class_asked, first_page, first_header, segment_over, segment_taken, page_over, era_next, root_next, segment_next, claim_next, page_next, header_next, first_point, plain_from, references_from, alloc_next_at, alloc_next, GoalFits, SearchFits, PointFits, AllocInRange}
 use Rattle.shm_alloc.specs.BlockPlaces.{block_of_within, blocks_most, blocks_least}
 

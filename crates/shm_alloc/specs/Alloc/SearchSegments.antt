@@ -1,40 +1,26 @@
 -- the steps of the search that read the own era, the roots and the words of segments
 use Rattle.std.proofs.Common.{◌≡◌, ◌≢◌, ℕ, ◌+◌, ◌-◌, ◌^◌, ◌<◌, refl, sym, ap, ◌∙◌, subst, arith, Bool, true, false, not, ◌&&◌, cond, eqb, ltb, inl, inr, ◌∷◌, []}
-use Rattle.std.specs.Prelude.{Err}
-use Rattle.std.specs.List.{Contains}
 use Rattle.std.proofs.lemmas.Bool.{cases_eq, eq-eqb, ne_eqb, eqb-true, eqb-false, ltb-true, ltb-false, lt-ltb, and_from}
-use Rattle.shm_words.specs.declared.place.Place.TheVariants as place
+use Rattle.std.specs.{Prelude.Err, List.Contains}
 use Rattle.shm_words.specs.Layout.{address}
-use Rattle.shm_graph.specs.declared.ask.Ask.TheVariants.{Load, Exchange}
-use Rattle.shm_graph.specs.declared.ask.Me.{Me}
-use Rattle.shm_graph.specs.declared.spot.Spot.{Spot}
-use Rattle.shm_graph.specs.declared.spot.Spot.TheVariants as spot
-use Rattle.shm_graph.specs.declared.memo.Fact.TheVariants.{Counter}
-use Rattle.shm_graph.specs.declared.memo.Memo.{Memo}
-use Rattle.shm_graph.specs.declared.memo.Step.{Step}
-use Rattle.shm_graph.specs.Spots.{spot_at}
-use Rattle.shm_graph.specs.Blocks.{classes}
-use Rattle.shm_graph.specs.Asks.{Trail}
-use Rattle.shm_graph.specs.Views.{own_word, owner_is}
+use Rattle.shm_words.specs.declared.place.Place.TheVariants as place
+use Rattle.shm_graph.specs.declared.{ask.{Ask.TheVariants.{Load, Exchange}, Me.Me}, spot.Spot.Spot}
+use Rattle.shm_graph.specs.{declared.memo.{Fact.TheVariants.Counter, Memo.Memo, Step.Step}, Spots.spot_at}
+use Rattle.shm_graph.specs.{Blocks.classes, Asks.Trail, Views.{own_word, owner_is}}
 use Rattle.shm_graph.specs.Changes.{called, test_before, with_call, with_end, memo_on}
-use Rattle.shm_graph.specs.MemoAfterRead.{read_on, row_read}
-use Rattle.shm_graph.specs.MemoAfterExchange.{exchanged_on}
+use Rattle.shm_graph.specs.{MemoAfterRead.{read_on, row_read}, MemoAfterExchange.exchanged_on}
 use Rattle.shm_graph.specs.Laws.{Frame, framed, Stands}
-use Rattle.shm_graph.proofs.Spots.SpotPlaces.{spot-place}
-use Rattle.shm_graph.proofs.StepKinds.Loads.{choice}
-use Rattle.shm_graph.proofs.StepKinds.LoadKeeping.{load_kept, lost_kept}
-use Rattle.shm_steps.proofs.PageSteps.{claimed}
-use Rattle.shm_steps.proofs.KeptAfter.{kept_with}
-use Rattle.shm_alloc.specs.declared.alloc.AllocFault.TheVariants.{EraSpent, RootsFull}
-use Rattle.shm_alloc.specs.declared.request.Request.{Request}
-use Rattle.shm_alloc.specs.declared.point.Goal.{Goal}
-use Rattle.shm_alloc.specs.declared.point.Search.{Search}
-use Rattle.shm_alloc.specs.declared.point.AllocPoint.TheVariants.{Era, Root, Segment, Claim}
+use Rattle.shm_graph.specs.declared.spot.Spot.TheVariants as spot
+use Rattle.shm_graph.proofs.{Spots.SpotPlaces.spot-place, StepKinds.{Loads.choice, LoadKeeping.{load_kept, lost_kept}}}
+use Rattle.shm_steps.proofs.{PageSteps.claimed, KeptAfter.kept_with}
+use Rattle.shm_alloc.specs.declared.{alloc.AllocFault.TheVariants.{EraSpent, RootsFull}, request.Request.Request}
+use Rattle.shm_alloc.specs.declared.point.{Goal.Goal, Search.Search, AllocPoint.TheVariants.{Era, Root, Segment, Claim}}
 use Rattle.shm_alloc.specs.declared.point.AllocNext.TheVariants.{Point, Answer}
-use Rattle.shm_alloc.specs.Alloc.Control.{RequestFits, PointFits, alloc_next_at, first_page, segment_taken}
+use Rattle.shm_alloc.specs.Alloc.Control.{RequestFits, PointFits, alloc_next_at, first_page, segment_taken, segment_at}
 use Rattle.shm_alloc.specs.Alloc.{GoalHas, CanAlloc, PointHolds, NextHolds}
 use Rattle.shm_alloc.specs.Alloc.Steps.{KeepsAt, PointKeeps, is_here, goal_on}
 use Rattle.shm_alloc.specs.Alloc.SearchSteps.{searched, Looks, Remains, remains, called_owned, called_searched, looks_on, owned_on, refused, segment_done, own_same}
+use Rattle.shm_alloc.specs.Turning.{segment_below}
 use Rattle.shm_laws.proofs.Keep.{newest}
 
 -- an own word that is read is the one that the memo has
@@ -114,7 +100,7 @@ root_step me q r0 w r f tr e k st going can request fit h =
 -- ---- segments
 
 -- by the owner that was read: the segment is nobody's, an own one or another's
-segment_found : (me : Me) (q : Request) (r0 r : Memo) (g : Goal) (s : Search) (n : ℕ) → CanAlloc me r0 → Looks r0 r → GoalHas me.who r g → (n ≡ me.who + 1 → Contains r.owned s.segment) → NextHolds me q r0 r (alloc_next_at me q (Segment g s) n)
+segment_found : (me : Me) (q : Request) (r0 r : Memo) (g : Goal) (s : Search) (n : ℕ) → CanAlloc me r0 → Looks r0 r → GoalHas me.who r g → (n ≡ me.who + 1 → Contains r.owned (segment_at me q s.segment)) → NextHolds me q r0 r (alloc_next_at me q (Segment g s) n)
 segment_found me q r0 r g s n can h goal mine =
     choice (NextHolds me q r0 r) (eqb n 0) (Point (Claim g s)) (cond (eqb n (me.who + 1)) (first_page g s) (segment_taken me g s))
     (λ _. record { stays = h.stays; op = h.op; own = h.own; has = (h.has, goal) })
@@ -126,16 +112,18 @@ segment_found me q r0 r g s n can h goal mine =
 pub segment_step : (me : Me) (q : Request) (r0 : Memo) (w : Spot → ℕ) (r : ℕ → Memo) (f : Frame) (tr : Trail) (g : Goal) (s : Search) → PointKeeps me q r0 w r f tr (Segment g s)
 segment_step me q r0 w r f tr g s st going can request fit h =
     let c = me.who in
-    let at = address me.geometry (place.Segment s.segment) in
-    let p : Spot = spot.Segment s.segment in
+    let i : ℕ = segment_at me q s.segment in
+    let there : i < me.geometry.segments = segment_below me q s.segment fit.1.segment in
+    let at = address me.geometry (place.Segment i) in
+    let p : Spot = spot.Segment i in
     let t : Step = framed me (Load at) f (w p) in
     let x : Remains (r c) (memo_on (r c) t p) = remains (r c) t (memo_on (r c) t p) refl refl in
     load_kept me w r f tr at (λ n r'. NextHolds me q r0 r' (alloc_next_at me q (Segment g s) n)) p st
-    (spot-place me.geometry (classes w) (place.Segment s.segment) (lt-ltb s.segment me.geometry.segments fit.1.segment)) refl tt
+    (spot-place me.geometry (classes w) (place.Segment i) (lt-ltb i me.geometry.segments there)) refl tt
     (segment_found me q r0 (memo_on (r c) t p) g s (w p) can
     (looks_on r0 (r c) (memo_on (r c) t p) (record { stays = h.stays; op = h.op; own = h.own; has = h.has.0 }) x)
     (goal_on c (r c) (memo_on (r c) t p) g (own_same (r c) (memo_on (r c) t p) x) h.has.1)
-    (λ e. owned_on (r c) (memo_on (r c) t p) s.segment ((st.held.segments c st.who).all s.segment e) x))
+    (λ e. owned_on (r c) (memo_on (r c) t p) i ((st.held.segments c st.who).all i e) x))
 
 -- ---- a segment is claimed
 
@@ -143,23 +131,25 @@ segment_step me q r0 w r f tr g s st going can request fit h =
 pub claim_step : (me : Me) (q : Request) (r0 : Memo) (w : Spot → ℕ) (r : ℕ → Memo) (f : Frame) (tr : Trail) (g : Goal) (s : Search) → PointKeeps me q r0 w r f tr (Claim g s)
 claim_step me q r0 w r f tr g s st going can request fit h =
     let c = me.who in
-    let at = address me.geometry (place.Segment s.segment) in
-    let p : Spot = spot.Segment s.segment in
+    let i : ℕ = segment_at me q s.segment in
+    let there : i < me.geometry.segments = segment_below me q s.segment fit.1.segment in
+    let at = address me.geometry (place.Segment i) in
+    let p : Spot = spot.Segment i in
     let t : Step = framed me (Exchange at 0 (c + 1)) f (w p) in
     let m : Memo = called (r c) t in
     let after : ℕ → Memo → Type 0 = λ n r'. NextHolds me q r0 r' (alloc_next_at me q (Claim g s) n) in
     let memo : Bool → Memo = λ b. with_end f.ends (with_call m (cond b (exchanged_on me.geometry.wide c m p (c + 1)) (read_on me.geometry c false m (test_before (r c) t) p (w p)))) in
     let Goes : Bool → Type 0 = λ b. NextHolds me q r0 (memo b) (cond b (first_page g s) (segment_taken me g s)) in
     let here : Looks r0 (r c) = record { stays = h.stays; op = h.op; own = h.own; has = h.has.0 } in
-    let e = spot-place me.geometry (classes w) (place.Segment s.segment) (lt-ltb s.segment me.geometry.segments fit.1.segment) in
-    let won : Remains (r c) (memo true) = record { same = called_searched (r c) t; owned = (s.segment ∷ [], ap (λ os. s.segment ∷ os) (called_owned (r c) t)) } in
+    let e = spot-place me.geometry (classes w) (place.Segment i) (lt-ltb i me.geometry.segments there) in
+    let won : Remains (r c) (memo true) = record { same = called_searched (r c) t; owned = (i ∷ [], ap (λ os. i ∷ os) (called_owned (r c) t)) } in
     let lost : Remains (r c) (memo false) = remains (r c) t (memo false) refl refl in
     elim (cases_eq (w p) 0) [
       | inl z ↦ kept_with me w r (Exchange at 0 (c + 1)) f after p (spot_at me.geometry (classes w) at) e
-          (claimed me w r f tr at s.segment st going e z (is_here me r0 (r c) can here.stays))
+          (claimed me w r f tr at i st going e z (is_here me r0 (r c) can here.stays))
           (subst Goes (sym (eq-eqb (w p) 0 z))
           (let x = looks_on r0 (r c) (memo true) here won in
-          record { stays = x.stays; op = x.op; own = x.own; has = (x.has, goal_on c (r c) (memo true) g (own_same (r c) (memo true) won) h.has.1, newest s.segment m.owned) }))
+          record { stays = x.stays; op = x.op; own = x.own; has = (x.has, goal_on c (r c) (memo true) g (own_same (r c) (memo true) won) h.has.1, newest i m.owned) }))
       | inr z ↦ lost_kept me w r f tr at 0 (c + 1) after p st e refl tt z
           (subst Goes (sym (ne_eqb (w p) 0 z))
           (segment_done me q r0 (memo false) g (record s { taken = s.taken + 1 }) can (looks_on r0 (r c) (memo false) here lost) (goal_on c (r c) (memo false) g (own_same (r c) (memo false) lost) h.has.1)))

@@ -1,27 +1,16 @@
 -- the search for a free block: what each step leaves of the memo, and where the search ends
 use Rattle.std.proofs.Common.{arith, ◌≤◌, ◌<◌, ◌-◌, ◌^◌, ◌≡◌, ℕ, ◌+◌, refl, sym, ap, ◌∙◌, subst, false, ltb, List, [], ◌++◌, append_assoc}
-use Rattle.std.specs.Prelude.{None, Err}
-use Rattle.std.specs.List.{Contains}
 use Rattle.std.proofs.lemmas.List.Elements.{Contains-append_right}
-use Rattle.shm_graph.specs.declared.ask.Me.{Me}
+use Rattle.std.specs.{Prelude.{None, Err}, List.Contains}
+use Rattle.shm_graph.specs.{declared.{ask.Me.Me, memo.{Stored.Stored, Memo.Memo, Step.Step}}, Idle.hold_word}
+use Rattle.shm_graph.specs.{Views.own_word, Changes.called}
 use Rattle.shm_graph.specs.declared.spot.Spot.TheVariants as spot
-use Rattle.shm_graph.specs.declared.memo.Stored.{Stored}
 use Rattle.shm_graph.specs.declared.memo.Op.TheVariants as op
-use Rattle.shm_graph.specs.declared.memo.Memo.{Memo}
-use Rattle.shm_graph.specs.declared.memo.Step.{Step}
-use Rattle.shm_graph.specs.Idle.{hold_word}
-use Rattle.shm_graph.specs.Views.{own_word}
-use Rattle.shm_graph.specs.Changes.{called}
-use Rattle.shm_graph.proofs.Machines.Calling.{called_part}
-use Rattle.shm_graph.proofs.StepKinds.Loads.{choice}
-use Rattle.shm_alloc.specs.declared.alloc.AllocFault.{AllocFault}
-use Rattle.shm_alloc.specs.declared.alloc.AllocFault.TheVariants.{Full}
-use Rattle.shm_alloc.specs.declared.request.Request.{Request}
-use Rattle.shm_alloc.specs.declared.point.Goal.{Goal}
-use Rattle.shm_alloc.specs.declared.point.Search.{Search}
-use Rattle.shm_alloc.specs.declared.point.AllocPoint.TheVariants.{Segment, Page}
+use Rattle.shm_graph.proofs.{Machines.Calling.called_part, StepKinds.Loads.choice}
+use Rattle.shm_alloc.specs.declared.{alloc.AllocFault.{AllocFault, TheVariants.Full}, request.Request.Request}
+use Rattle.shm_alloc.specs.declared.point.{Goal.Goal, Search.Search, AllocPoint.TheVariants.{Segment, Page}}
 use Rattle.shm_alloc.specs.declared.point.AllocNext.TheVariants.{Point, Answer}
-use Rattle.shm_alloc.specs.Alloc.Control.{segment_over, page_over}
+use Rattle.shm_alloc.specs.Alloc.Control.{segment_over, page_over, segment_at}
 use Rattle.shm_alloc.specs.Alloc.{GoalHas, AllocStays, Searches, CanAlloc, AnswerHolds, Cause, NextHolds}
 
 -- ---- what a step of the search leaves of the memo
@@ -120,7 +109,7 @@ segment_done me q r0 r g s can h goal =
     (λ e. refused me q r0 r (Full s.taken s.used) can h (full_cause me r0 r g h goal))
 
 -- the page is over
-pub page_done : (me : Me) (q : Request) (r0 r : Memo) (g : Goal) (s : Search) (p : ℕ) → CanAlloc me r0 → Looks r0 r → GoalHas me.who r g → Contains r.owned s.segment → NextHolds me q r0 r (page_over me g s p)
+pub page_done : (me : Me) (q : Request) (r0 r : Memo) (g : Goal) (s : Search) (p : ℕ) → CanAlloc me r0 → Looks r0 r → GoalHas me.who r g → Contains r.owned (segment_at me q s.segment) → NextHolds me q r0 r (page_over me g s p)
 page_done me q r0 r g s p can h goal mine =
     choice (NextHolds me q r0 r) (ltb p 15) (Point (Page g s (p + 1))) (segment_over me g s)
     (λ e. record { stays = h.stays; op = h.op; own = h.own; has = (h.has, goal, mine) })

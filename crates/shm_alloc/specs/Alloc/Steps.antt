@@ -1,24 +1,15 @@
 -- what the steps of the search and those of the making share: what a step owes, and what stays
 use Rattle.std.proofs.Common.{◌≡◌, ℕ, refl, sym, ap, ◌∙◌, Bool, true, false, List, ◌∷◌}
-use Rattle.std.specs.Prelude.{if◌then◌else◌}
 use Rattle.std.proofs.lemmas.Bool.{cond-true, cond-false}
+use Rattle.std.specs.Prelude.{if◌then◌else◌}
 use Rattle.shm_words.specs.Redos.{second_word}
-use Rattle.shm_graph.specs.declared.memo.Stored.{Stored}
-use Rattle.shm_graph.proofs.Spots.Spotting.{same_spot_self}
-use Rattle.shm_graph.specs.declared.ask.Me.{Me}
-use Rattle.shm_graph.specs.declared.spot.Spot.{Spot}
+use Rattle.shm_graph.specs.{declared.{memo.{Stored.Stored, Memo.Memo}, ask.Me.Me, spot.Spot.Spot}, Asks.{Trail, at_of}}
+use Rattle.shm_graph.specs.{Spots.{spot_at, same_spot}, Blocks.classes, Views.own_word, Laws.{Frame, Stands, KeptAt}}
 use Rattle.shm_graph.specs.declared.spot.Spot.TheVariants as spot
-use Rattle.shm_graph.specs.declared.memo.Memo.{Memo}
 use Rattle.shm_graph.specs.declared.memo.Status.TheVariants as status
-use Rattle.shm_graph.specs.Asks.{Trail, at_of}
-use Rattle.shm_graph.specs.Spots.{spot_at, same_spot}
-use Rattle.shm_graph.specs.Blocks.{classes}
-use Rattle.shm_graph.specs.Views.{own_word}
-use Rattle.shm_graph.specs.Laws.{Frame, Stands, KeptAt}
+use Rattle.shm_graph.proofs.Spots.Spotting.{same_spot_self}
 use Rattle.shm_steps.specs.Conditions.{IsHere}
-use Rattle.shm_alloc.specs.declared.request.Request.{Request}
-use Rattle.shm_alloc.specs.declared.point.Goal.{Goal}
-use Rattle.shm_alloc.specs.declared.point.AllocPoint.{AllocPoint}
+use Rattle.shm_alloc.specs.declared.{request.Request.Request, point.{Goal.Goal, AllocPoint.AllocPoint}}
 use Rattle.shm_alloc.specs.Alloc.Control.{alloc_ask_at, alloc_next_at, redo_asked, RequestFits, PointFits}
 use Rattle.shm_alloc.specs.Alloc.{GoalHas, AllocStays, CanAlloc, PointHolds, NextHolds, more_stored, readied}
 

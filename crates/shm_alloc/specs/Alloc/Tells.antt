@@ -1,34 +1,20 @@
 -- the event of each step of an allocation is the one that it tells
 use Rattle.std.proofs.Common.{◌≡◌, ℕ, ◌+◌, ◌<◌, refl, sym, ap, ◌∙◌, subst, arith, false, eqb, eq-eqb, lt-ltb}
-use Rattle.std.proofs.lemmas.Bool.{true≢false, and_from, cond-true}
-use Rattle.std.proofs.lemmas.List.Elements.{All-contains}
+use Rattle.std.proofs.lemmas.{Bool.{true≢false, and_from, cond-true}, List.Elements.All-contains}
 use Rattle.shm_words.specs.declared.place.Place.TheVariants as place
 use Rattle.shm_words.proofs.Classing.{class_room}
-use Rattle.shm_graph.specs.declared.ask.Ask.{Ask}
-use Rattle.shm_graph.specs.declared.ask.Ask.TheVariants.{Load, Store, Exchange}
-use Rattle.shm_graph.specs.declared.ask.Me.{Me}
-use Rattle.shm_graph.specs.declared.spot.Spot.{Spot}
+use Rattle.shm_graph.specs.declared.{ask.{Ask.{Ask, TheVariants.{Load, Store, Exchange}}, Me.Me}, spot.Spot.Spot}
+use Rattle.shm_graph.specs.{declared.memo.{Memo.Memo, Making.Making, Step.Step}, Spots.{spot_at, segment_of}}
+use Rattle.shm_graph.specs.{Blocks.{classes, IsBlock}, Held.ZeroAt, Asks.{Trail, at_of, seen_of}, Events.Nothing}
+use Rattle.shm_graph.specs.{Laws.{Frame, framed, Stands, event_by, event_on, event_of}, Tells.Tells}
 use Rattle.shm_graph.specs.declared.spot.Spot.TheVariants as spot
-use Rattle.shm_graph.specs.declared.memo.Memo.{Memo}
-use Rattle.shm_graph.specs.declared.memo.Making.{Making}
-use Rattle.shm_graph.specs.declared.memo.Step.{Step}
-use Rattle.shm_graph.specs.Spots.{spot_at, segment_of}
-use Rattle.shm_graph.specs.Blocks.{classes, IsBlock}
-use Rattle.shm_graph.specs.Held.{ZeroAt}
-use Rattle.shm_graph.specs.Asks.{Trail, at_of, seen_of}
-use Rattle.shm_graph.specs.Events.{Nothing}
-use Rattle.shm_graph.specs.Laws.{Frame, framed, Stands, event_by, event_on, event_of}
-use Rattle.shm_graph.specs.Tells.{Tells}
-use Rattle.shm_graph.proofs.Spots.SpotPlaces.{spot-place}
-use Rattle.shm_graph.proofs.Spots.Spotting.{block_within, tag_spot}
-use Rattle.shm_graph.proofs.Memos.LoadTold.{is_head}
+use Rattle.shm_graph.proofs.{Spots.{SpotPlaces.spot-place, Spotting.{block_within, tag_spot}}, Memos.LoadTold.is_head}
 use Rattle.shm_steps.proofs.Prepared.{MakingHolds, making_holds}
-use Rattle.shm_alloc.specs.declared.request.Request.{Request}
-use Rattle.shm_alloc.specs.declared.point.AllocPoint.{AllocPoint}
+use Rattle.shm_alloc.specs.declared.{request.Request.Request, point.AllocPoint.AllocPoint}
 use Rattle.shm_alloc.specs.declared.point.AllocPoint.TheVariants.{Era, Root, Segment, Claim, Page, Class, Header, Tag, Reference, Plain, More, Redo, Commit, Slot, Close, Over}
-use Rattle.shm_alloc.specs.Alloc.Control.{alloc_ask_at, alloc_control, is_over, RequestFits, PointFits}
-use Rattle.shm_alloc.specs.Alloc.Events.{alloc_event_at, alloc_event}
-use Rattle.shm_alloc.specs.Alloc.{PointHolds, IsPrepared, AllocFits}
+use Rattle.shm_alloc.specs.Turning.{segment_below, page_below}
+use Rattle.shm_alloc.specs.Alloc.Control.{segment_at, page_at, alloc_ask_at, alloc_control, is_over, RequestFits, PointFits}
+use Rattle.shm_alloc.specs.Alloc.{Events.{alloc_event_at, alloc_event}, PointHolds, IsPrepared, AllocFits}
 use Rattle.shm_alloc.specs.Alloc.MakingSteps.{word_spot}
 
 -- a step at another word than a header is no event
@@ -54,9 +40,9 @@ commits : (me : Me) (q : Request) (r0 : Memo) (w : Spot → ℕ) (r : ℕ → Me
 commits me q r0 w r f tr Era st h o fits l = refl
 commits me q r0 w r f tr (Root e k) st h o fits l = refl
 commits me q r0 w r f tr (Segment g s) st h o fits l = refl
-commits me q r0 w r f tr (Claim g s) st h o fits l = quiet me w r f (alloc_ask_at me q (Claim g s)) (spot.Segment s.segment) (spot-place me.geometry (classes w) (place.Segment s.segment) (lt-ltb s.segment me.geometry.segments l.1.segment)) refl
+commits me q r0 w r f tr (Claim g s) st h o fits l = quiet me w r f (alloc_ask_at me q (Claim g s)) (spot.Segment (segment_at me q s.segment)) (spot-place me.geometry (classes w) (place.Segment (segment_at me q s.segment)) (lt-ltb (segment_at me q s.segment) me.geometry.segments (segment_below me q s.segment l.1.segment))) refl
 commits me q r0 w r f tr (Page g s p) st h o fits l = refl
-commits me q r0 w r f tr (Class g s p) st h o fits l = quiet me w r f (alloc_ask_at me q (Class g s p)) (spot.Page s.segment p) (spot-place me.geometry (classes w) (place.Page s.segment p) (and_from _ _ (lt-ltb s.segment me.geometry.segments l.1.segment) (lt-ltb p 16 l.2))) refl
+commits me q r0 w r f tr (Class g s p) st h o fits l = quiet me w r f (alloc_ask_at me q (Class g s p)) (spot.Page (segment_at me q s.segment) (page_at q p)) (spot-place me.geometry (classes w) (place.Page (segment_at me q s.segment) (page_at q p)) (and_from _ _ (lt-ltb (segment_at me q s.segment) me.geometry.segments (segment_below me q s.segment l.1.segment)) (lt-ltb (page_at q p) 16 (page_below q p l.2)))) refl
 commits me q r0 w r f tr (Header g s p i) st h o fits l = refl
 commits me q r0 w r f tr (Tag g b) st h o fits l =
     let zero : (w (spot.Head b) ≡ 0) × IsBlock me.geometry (classes w) b × (w (spot.Segment (segment_of me.geometry b)) ≡ me.who + 1) = All-contains (ZeroAt me.geometry (classes w) (λ i. w (spot.Segment i)) (λ i. w (spot.Head i)) me.who) (r me.who).zeros (spot.Head b) (st.held.zeros me.who st.who) h.has.2 in

@@ -1,47 +1,28 @@
 -- the partition on the way of a count step: what it was, or what the slot with its new value leads to
 use Rattle.std.proofs.Common.{◌≡◌, ℕ, ◌+◌, refl, sym, ap, ◌∙◌, subst, false, Bool, eqb, ◌&&◌, List, [], ◌∷◌, ◌++◌, None, ◌⊎◌, inl, inr}
-use Rattle.std.specs.List.{filter}
 use Rattle.std.proofs.lemmas.Bool.{true≢false}
-use Rattle.shm_words.specs.declared.geometry.Geometry.{Geometry}
-use Rattle.shm_words.specs.Headers.{header_of}
-use Rattle.shm_count.specs.Step.BeforeExchange.{ready_part}
-use Rattle.shm_graph.specs.declared.ask.Me.{Me}
-use Rattle.shm_graph.specs.declared.spot.Spot.{Spot}
-use Rattle.shm_graph.specs.declared.spot.Spot.TheVariants as spot
-use Rattle.shm_graph.specs.declared.memo.Memo.{Memo}
-use Rattle.shm_graph.specs.declared.memo.First.TheVariants.{Committed}
-use Rattle.shm_graph.specs.declared.memo.ChangeStage.TheVariants.{Lowering}
-use Rattle.shm_graph.specs.declared.memo.Second.TheVariants.{Closed}
-use Rattle.shm_graph.specs.declared.memo.Op.TheVariants as op
-use Rattle.shm_graph.specs.declared.memo.Stored.{Stored}
-use Rattle.shm_graph.specs.declared.table.Part.{Part as TablePart}
-use Rattle.shm_graph.specs.declared.table.Part.TheVariants.{Loose, Table}
-use Rattle.shm_graph.specs.Agents.{status_of}
-use Rattle.shm_graph.specs.Asks.{Trail}
-use Rattle.shm_graph.specs.Chains.{part_set}
+use Rattle.std.specs.List.{filter}
+use Rattle.shm_words.specs.{declared.geometry.Geometry.Geometry, Headers.header_of}
+use Rattle.shm_count.specs.Step.{BeforeExchange.ready_part, Control.{header_after, is_over, value_after}}
+use Rattle.shm_count.specs.Step.{Machines.{down_control, up_control}, Parts.{first_sight, part_after}}
+use Rattle.shm_count.specs.Step.{AtFirst, InHalf, PointHas, StepFits, closed_memo, set_memo, slot_memo}
+use Rattle.shm_count.specs.declared.point.{Aim.{Aim, TheVariants.{Up, Down, Change}}, Half.Half}
+use Rattle.shm_count.specs.declared.point.{Half.TheVariants.{First, Second}, StepPoint.StepPoint, StepState.StepState}
+use Rattle.shm_count.specs.{CountParts.{down_part, up_part}, Slots.Lost, Steady.IsSteady}
+use Rattle.shm_count.specs.declared.point.StepPoint.TheVariants as point
+use Rattle.shm_count.proofs.Steady.{table_of}
+use Rattle.shm_graph.specs.declared.{ask.Me.Me, spot.Spot.Spot, memo.{Memo.Memo, First.TheVariants.Committed}}
+use Rattle.shm_graph.specs.declared.memo.{ChangeStage.TheVariants.Lowering, Second.TheVariants.Closed, Stored.Stored}
+use Rattle.shm_graph.specs.{declared.table.Part.{Part as TablePart, TheVariants.{Loose, Table}}, Agents.status_of}
+use Rattle.shm_graph.specs.{Asks.Trail, Chains.part_set}
 use Rattle.shm_graph.specs.MemoAfterExchange.{cut, lowered, reparted, with_unsent, with_untaken, without_made}
-use Rattle.shm_graph.specs.Ops.{On, cover, is_op, slot_of}
-use Rattle.shm_graph.specs.Reach.{is_dying, learnt, shown}
-use Rattle.shm_graph.specs.Spots.{same_spot}
+use Rattle.shm_graph.specs.{Ops.{On, cover, is_op, slot_of}, Reach.{is_dying, learnt, shown}, Spots.same_spot}
 use Rattle.shm_graph.specs.MemoAfterStore.{era_stored, is_lowering, making_with, not_of, op_closed, other_than, put, stored_on, with_own, without_looks, written}
 use Rattle.shm_graph.specs.Views.{own_word}
+use Rattle.shm_graph.specs.declared.spot.Spot.TheVariants as spot
+use Rattle.shm_graph.specs.declared.memo.Op.TheVariants as op
 use Rattle.shm_graph.proofs.StepKinds.Loads.{choice}
 use Rattle.shm_steps.specs.Reparting.{sight}
-use Rattle.shm_count.specs.declared.point.Aim.{Aim}
-use Rattle.shm_count.specs.declared.point.Aim.TheVariants.{Up, Down, Change}
-use Rattle.shm_count.specs.declared.point.Half.{Half}
-use Rattle.shm_count.specs.declared.point.Half.TheVariants.{First, Second}
-use Rattle.shm_count.specs.declared.point.StepPoint.{StepPoint}
-use Rattle.shm_count.specs.declared.point.StepPoint.TheVariants as point
-use Rattle.shm_count.specs.declared.point.StepState.{StepState}
-use Rattle.shm_count.specs.CountParts.{down_part, up_part}
-use Rattle.shm_count.specs.Slots.{Lost}
-use Rattle.shm_count.specs.Step.Control.{header_after, is_over, value_after}
-use Rattle.shm_count.specs.Step.Machines.{down_control, up_control}
-use Rattle.shm_count.specs.Step.Parts.{first_sight, part_after}
-use Rattle.shm_count.specs.Step.{AtFirst, InHalf, PointHas, StepFits, closed_memo, set_memo, slot_memo}
-use Rattle.shm_count.specs.Steady.{IsSteady}
-use Rattle.shm_count.proofs.Steady.{table_of}
 
 -- ---- what leaves the partition as it is
 

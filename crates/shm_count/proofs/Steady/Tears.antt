@@ -1,34 +1,17 @@
 -- the partition on the way of a tear-down: it stays, since none is read from words of zero-count blocks
 use Rattle.std.proofs.Common.{◌≡◌, ℕ, sym, ap, ◌∙◌, false, List, inl, inr}
-use Rattle.shm_graph.specs.declared.ask.Me.{Me}
-use Rattle.shm_graph.specs.declared.spot.Spot.TheVariants.{Home, Body}
-use Rattle.shm_graph.specs.declared.memo.Memo.{Memo}
-use Rattle.shm_graph.specs.declared.memo.Op.{Op}
-use Rattle.shm_graph.specs.declared.memo.Op.TheVariants.{Nothing}
-use Rattle.shm_graph.specs.Asks.{Trail}
-use Rattle.shm_graph.specs.Chains.{part_set}
-use Rattle.shm_graph.specs.Events.{Event}
-use Rattle.shm_graph.specs.Ops.{cover, cover_of}
-use Rattle.shm_graph.specs.Tells.{happens_along}
-use Rattle.shm_graph.specs.Views.{own_word}
+use Rattle.shm_graph.specs.declared.{ask.Me.Me, spot.Spot.TheVariants.{Home, Body}, memo.{Memo.Memo, Op.Op}}
+use Rattle.shm_graph.specs.{declared.memo.Op.TheVariants.Nothing, Asks.Trail, Chains.part_set, Events.Event}
+use Rattle.shm_graph.specs.{Ops.{cover, cover_of}, Tells.happens_along, Views.own_word}
 use Rattle.shm_steps.specs.Reparting.{sight}
-use Rattle.shm_count.specs.declared.point.Aim.TheVariants.{Down as DownAim}
-use Rattle.shm_count.specs.declared.point.StepPoint.{StepPoint}
-use Rattle.shm_count.specs.declared.tear_point.TearPoint.{TearPoint}
-use Rattle.shm_count.specs.declared.tear_point.TearPoint.TheVariants as point
-use Rattle.shm_count.specs.declared.tear_point.TearState.{TearState}
-use Rattle.shm_count.specs.CountParts.{tear_part}
-use Rattle.shm_count.specs.Step.{PointHolds}
-use Rattle.shm_count.specs.Step.Control.{is_over}
-use Rattle.shm_count.specs.Step.Parts.{part_after}
-use Rattle.shm_count.specs.Tear.Control.{tear_control, word_address}
-use Rattle.shm_count.specs.Tear.Events.{tear_event, tear_start}
-use Rattle.shm_count.specs.Tear.Laws.{IsRunning, fit_runs}
-use Rattle.shm_count.specs.Tear.Memos.{IsFound, TearStays}
-use Rattle.shm_count.specs.Tear.{TearFits, TearHolds}
+use Rattle.shm_count.specs.declared.point.{Aim.TheVariants.Down as DownAim, StepPoint.StepPoint}
+use Rattle.shm_count.specs.{declared.tear_point.{TearPoint.TearPoint, TearState.TearState}, CountParts.tear_part}
+use Rattle.shm_count.specs.Step.{PointHolds, Control.is_over, Parts.part_after}
+use Rattle.shm_count.specs.Tear.{Control.{tear_control, word_address}, Events.{tear_event, tear_start}}
+use Rattle.shm_count.specs.Tear.{Laws.{IsRunning, fit_runs}, Memos.{IsFound, TearStays}, TearFits, TearHolds}
 use Rattle.shm_count.specs.Steady.{IsSteady}
-use Rattle.shm_count.proofs.Steady.{table_of}
-use Rattle.shm_count.proofs.Steady.Steps.{point_part}
+use Rattle.shm_count.specs.declared.tear_point.TearPoint.TheVariants as point
+use Rattle.shm_count.proofs.Steady.{table_of, Steps.point_part}
 
 -- between its steps down nothing of the partition changed
 stays_part : (c : ℕ) (m r : Memo) → TearStays c m r → r.part ≡ m.part

@@ -1,19 +1,13 @@
 -- the control of a commit test
-use Rattle.std.specs.Prelude.{ℕ, ◌+◌, ◌<◌, Bool, true, false, ◌&&◌, ◌==◌, nat_lt, if◌then◌else◌, Option, Some, None}
+use Rattle.std.specs.Prelude.{ℕ, ◌+◌, ◌<◌, Bool, true, false, ◌&&◌, ◌==◌, nat_lt, if◌then◌else◌, Option, Some, None, []}
+use Rattle.shm_words.specs.{Headers.header_of, Layout.{GeometryFits, address}}
 use Rattle.shm_words.specs.declared.place.Place.TheVariants as place
-use Rattle.shm_words.specs.Headers.{header_of}
-use Rattle.shm_words.specs.Layout.{GeometryFits, address}
-use Rattle.shm_graph.specs.declared.ask.Ask.{Ask}
-use Rattle.shm_graph.specs.declared.ask.Ask.TheVariants.{Load}
-use Rattle.shm_graph.specs.declared.ask.Me.{Me}
-use Rattle.shm_graph.specs.MemoAfterRead.{next_row}
-use Rattle.shm_calls.specs.declared.word.Word.{Word}
-use Rattle.shm_count.specs.declared.commit_test.Commit.{Commit}
-use Rattle.shm_count.specs.declared.commit_test.Commit.TheVariants.{Committed, NotCommitted}
-use Rattle.shm_count.specs.declared.commit_test.Proof.TheVariants as proof
-use Rattle.shm_count.specs.declared.commit_test.TestingPoint.{TestingPoint}
-use Rattle.shm_count.specs.declared.commit_test.TestingPoint.TheVariants.{Header, Row}
+use Rattle.shm_graph.specs.{declared.ask.{Ask.{Ask, TheVariants.Load}, Me.Me}, MemoAfterRead.next_row}
+use Rattle.shm_calls.specs.{declared.word.Word.Word, Steering.Steered}
+use Rattle.shm_count.specs.declared.commit_test.Commit.{Commit, TheVariants.{Committed, NotCommitted}}
+use Rattle.shm_count.specs.declared.commit_test.TestingPoint.{TestingPoint, TheVariants.{Header, Row}}
 use Rattle.shm_count.specs.declared.commit_test.TestingState.{TestingState}
+use Rattle.shm_count.specs.declared.commit_test.Proof.TheVariants as proof
 
 -- a test of the step of era e on block b, before its first load
 abbrev pub testing : Me → ℕ → ℕ → TestingState
@@ -55,3 +49,16 @@ pub record TestingInRange (m : TestingState) : Type 0 where
   pub geometry : GeometryFits m.me.geometry
   pub who : m.me.who < m.me.geometry.clients
   pub row : m.row < m.me.geometry.clients
+
+-- what the plan does: its identity and its line, its calls, and where it goes by their answers
+abbrev pub testing_steered : Steered TestingState Word ℕ Commit
+testing_steered =
+    record {
+      me = λ m. m.me;
+      line = λ m. [];
+      first = λ m. is_header m.point;
+      start = λ m. record m { row = 0; point = Header };
+      call = λ m. test_call m m.point;
+      after = λ m. test_after m m.point;
+      turns = λ m. test_turns m m.point;
+    }

@@ -1,44 +1,27 @@
 -- what is owed of a commit test
 use Rattle.std.proofs.Common.{◌≡◌, ◌≢◌, ℕ, ◌+◌, ◌<◌, ◌≤◌, refl, sym, ap, ◌∙◌, subst, arith, Bool, true, false, cond, eqb, ◌&&◌, List, [], ◌∷◌, ◌++◌, inl, inr}
-use Rattle.std.specs.Prelude.{nat_lt, ◌⊎◌, Option, Some, None}
-use Rattle.std.specs.List.{Contains}
 use Rattle.std.proofs.lemmas.Bool.{and_from, and_parts, cases_eq, cases_lt, cond-false, cond-true, eq-eqb, eqb-false, eqb-true, le-ltb, lt-ltb, ltb-false, ltb-true, ne_eqb}
 use Rattle.std.proofs.lemmas.List.Elements.{Contains-append_right}
+use Rattle.std.specs.{Prelude.{nat_lt, ◌⊎◌, Option, Some, None}, List.Contains}
 use Rattle.shm_words.specs.Layout.{total_of}
-use Rattle.shm_graph.specs.declared.ask.Ask.{Ask}
-use Rattle.shm_graph.specs.declared.ask.Ask.TheVariants.{Load}
-use Rattle.shm_graph.specs.declared.ask.Me.{Me}
-use Rattle.shm_graph.specs.declared.spot.Spot.{Spot}
-use Rattle.shm_graph.specs.declared.spot.Spot.TheVariants.{Era, Head, Spare}
-use Rattle.shm_graph.specs.declared.memo.Fact.TheVariants.{Counter}
-use Rattle.shm_graph.specs.declared.memo.Memo.{Memo}
-use Rattle.shm_graph.specs.Agents.{recovers}
-use Rattle.shm_graph.specs.Asks.{Trail, IsWithin, at_of, pair, seen_of}
-use Rattle.shm_graph.specs.Blocks.{classes}
-use Rattle.shm_graph.specs.Core.{core}
-use Rattle.shm_graph.specs.Events.{Event}
-use Rattle.shm_graph.specs.Laws.{Frame, Outcome, Stands}
-use Rattle.shm_graph.specs.Ops.{on_of}
-use Rattle.shm_graph.specs.MemoAfterRead.{next_row, test_from, test_on}
-use Rattle.shm_graph.specs.Spots.{spot_at}
-use Rattle.shm_graph.specs.Views.{own_word}
+use Rattle.shm_graph.specs.declared.{ask.{Ask.{Ask, TheVariants.Load}, Me.Me}, spot.Spot.Spot}
+use Rattle.shm_graph.specs.declared.{spot.Spot.TheVariants.{Era, Head, Spare}, memo.Fact.TheVariants.Counter}
+use Rattle.shm_graph.specs.{declared.memo.Memo.Memo, Agents.recovers, Asks.{Trail, IsWithin, at_of, pair, seen_of}}
+use Rattle.shm_graph.specs.{Blocks.classes, Core.core, Events.Event, Laws.{Frame, Outcome, Stands}, Ops.on_of}
+use Rattle.shm_graph.specs.{MemoAfterRead.{next_row, test_from, test_on}, Spots.spot_at, Views.own_word}
 use Rattle.shm_graph.proofs.Spots.Spotting.{spot_zero}
-use Rattle.shm_calls.specs.CallTells.{within_more}
-use Rattle.shm_calls.specs.Parts.{IsHeld}
-use Rattle.shm_calls.specs.Plans.{Follows, PlanLaws, PlanStays}
+use Rattle.shm_calls.specs.{CallTells.within_more, Parts.IsHeld, Plans.{Follows, PlanLaws, PlanStays}}
 use Rattle.shm_calls.specs.Words.{IsWord, word_control, word_part, word_part_laws}
 use Rattle.shm_steps.specs.WordParts.{TestBegun}
 use Rattle.shm_steps.proofs.Words.Test.{test_begin, test_row, test_spare}
-use Rattle.shm_count.specs.declared.commit_test.Commit.{Commit}
-use Rattle.shm_count.specs.declared.commit_test.Commit.TheVariants.{Committed, NotCommitted}
-use Rattle.shm_count.specs.declared.commit_test.Proof.TheVariants as proof
-use Rattle.shm_count.specs.declared.commit_test.TestingPoint.{TestingPoint}
-use Rattle.shm_count.specs.declared.commit_test.TestingPoint.TheVariants.{Header, Row}
+use Rattle.shm_count.specs.declared.commit_test.Commit.{Commit, TheVariants.{Committed, NotCommitted}}
+use Rattle.shm_count.specs.declared.commit_test.TestingPoint.{TestingPoint, TheVariants.{Header, Row}}
 use Rattle.shm_count.specs.declared.commit_test.TestingState.{TestingState}
-use Rattle.shm_count.specs.CommitTest.Control.{is_header, is_shown, test_ask, test_call, test_next, test_step, testing}
+use Rattle.shm_count.specs.CommitTest.Control.{is_header, is_shown, test_ask, test_call, test_next, test_step, testing, testing_steered}
 use Rattle.shm_count.specs.CommitTest.{record_in, HasTest, IsTesting, MayTest, TestFound, TestKnows, TestLeaves, rows_to, step_block, test_part, testing_plan}
 use Rattle.shm_count.specs.CommitTest.StepTrail.{one_read, read_part_laws}
 use Rattle.shm_count.specs.CommitTest.Shown.{block_here, by_header, by_none, by_row, none_there, spare_hidden}
+use Rattle.shm_count.specs.declared.commit_test.Proof.TheVariants as proof
 
 -- ---- rows
 
@@ -310,7 +293,7 @@ testing_laws =
         record {
           same_me = either (λ (x : TestingState). x.me) (is_shown m.me.who m.era n) p (test_next p 0) refl (alike (λ (x : TestingState). x.me) p 0 refl);
           same_line = refl;
-          same_start = either testing_plan.start (is_shown m.me.who m.era n) p (test_next p 0) refl (alike testing_plan.start p 0 refl);
+          same_start = either testing_steered.start (is_shown m.me.who m.era n) p (test_next p 0) refl (alike testing_steered.start p 0 refl);
           started = started (is_shown m.me.who m.era n);
         }
       where
@@ -322,7 +305,7 @@ testing_laws =
         record {
           same_me = either (λ (x : TestingState). x.me) (nat_lt n m.era) (test_next p (m.row + 1)) p (alike (λ (x : TestingState). x.me) p (m.row + 1) refl) refl;
           same_line = refl;
-          same_start = either testing_plan.start (nat_lt n m.era) (test_next p (m.row + 1)) p (alike testing_plan.start p (m.row + 1) refl) refl;
+          same_start = either testing_steered.start (nat_lt n m.era) (test_next p (m.row + 1)) p (alike testing_steered.start p (m.row + 1) refl) refl;
           started = λ e. either (λ (x : TestingState). is_header x.point) (nat_lt n m.era) (test_next p (m.row + 1)) p (alike (λ (x : TestingState). is_header x.point) p (m.row + 1) refl) refl;
         }
 

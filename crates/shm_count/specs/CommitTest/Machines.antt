@@ -1,13 +1,10 @@
 -- the control of a commit test
 use Rattle.std.specs.Prelude.{ℕ}
 use Rattle.shm_graph.specs.Laws.{Control}
-use Rattle.shm_calls.specs.declared.calls.Calls.{Calls}
-use Rattle.shm_calls.specs.declared.word.Word.{Word}
-use Rattle.shm_calls.specs.CallsControl.{calls_control}
+use Rattle.shm_calls.specs.{declared.{calls.Calls.Calls, word.Word.Word}, CallsControl.calls_control}
 use Rattle.shm_calls.specs.Words.{word_control}
-use Rattle.shm_count.specs.declared.commit_test.Commit.{Commit}
-use Rattle.shm_count.specs.declared.commit_test.TestingState.{TestingState}
-use Rattle.shm_count.specs.CommitTest.{testing_plan}
+use Rattle.shm_count.specs.declared.commit_test.{Commit.Commit, TestingState.TestingState}
+use Rattle.shm_count.specs.CommitTest.Control.{testing_steered}
 
 abbrev pub commit_test : Control (Calls TestingState Word Commit ℕ) Commit
-commit_test = calls_control word_control testing_plan
+commit_test = calls_control word_control testing_steered

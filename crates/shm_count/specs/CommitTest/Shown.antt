@@ -1,35 +1,21 @@
 -- what a held state shows of the step that a commit test is of
 use Rattle.std.proofs.Common.{◌≡◌, ◌≢◌, ℕ, ◌+◌, ◌%◌, ◌<◌, ◌≤◌, refl, sym, ap, ◌∙◌, subst, arith, Bool, true, false, not, cond, eqb, inl, inr}
-use Rattle.std.specs.Prelude.{Option, Some, None}
-use Rattle.std.specs.List.{Contains}
-use Rattle.std.proofs.lemmas.Bool.{and_parts, eq-eqb, eqb-false, eqb-true, ne_eqb}
-use Rattle.std.proofs.lemmas.List.Elements.{All-contains}
-use Rattle.shm_words.specs.declared.geometry.Geometry.{Geometry}
-use Rattle.shm_words.specs.declared.redo.Redo.{Redo as ARedo}
-use Rattle.shm_words.specs.declared.redo.Redo.TheVariants as redos
-use Rattle.shm_words.specs.Headers.{header_of}
+use Rattle.std.proofs.lemmas.{Bool.{and_parts, eq-eqb, eqb-false, eqb-true, ne_eqb}, List.Elements.All-contains}
+use Rattle.std.specs.{Prelude.{Option, Some, None}, List.Contains}
+use Rattle.shm_words.specs.{declared.{geometry.Geometry.Geometry, redo.Redo.Redo as ARedo}, Headers.header_of}
 use Rattle.shm_words.specs.Redos.{redo_of}
-use Rattle.shm_graph.specs.declared.ask.Me.{Me}
-use Rattle.shm_graph.specs.declared.spot.Spot.{Spot}
+use Rattle.shm_words.specs.declared.redo.Redo.TheVariants as redos
+use Rattle.shm_graph.specs.declared.{ask.Me.Me, spot.Spot.Spot}
 use Rattle.shm_graph.specs.declared.spot.Spot.TheVariants.{Era, Head, Page, QueueHead, Redo, RedoMore, Spare, Tail}
-use Rattle.shm_graph.specs.declared.memo.Fact.TheVariants.{Counter}
-use Rattle.shm_graph.specs.declared.memo.First.{First}
-use Rattle.shm_graph.specs.declared.memo.First.TheVariants.{Begun, Committed, Written}
-use Rattle.shm_graph.specs.declared.memo.Second.{Second}
+use Rattle.shm_graph.specs.declared.memo.{Fact.TheVariants.Counter, First.First}
+use Rattle.shm_graph.specs.declared.memo.{First.TheVariants.{Begun, Committed, Written}, Second.Second}
 use Rattle.shm_graph.specs.declared.memo.Second.TheVariants.{Closed, Open}
-use Rattle.shm_graph.specs.declared.memo.ChangeStage.TheVariants.{Lowering, Raising}
-use Rattle.shm_graph.specs.declared.memo.Memo.{Memo}
-use Rattle.shm_graph.specs.declared.memo.Op.{Op}
-use Rattle.shm_graph.specs.declared.memo.Op.TheVariants.{Alloc, Change, Down, Nothing, Up}
-use Rattle.shm_graph.specs.Blocks.{IsBlock, classes}
-use Rattle.shm_graph.proofs.Spots.Spotting.{in_pool}
-use Rattle.shm_graph.proofs.States.RedoNames.{may_name}
-use Rattle.shm_graph.specs.Held.{MayName, IsBefore, FactAt, HeldAt, OpTie, TestAt, odd}
-use Rattle.shm_graph.specs.Ops.{on_from, on_of, on_till}
-use Rattle.shm_graph.specs.References.{Words, words_of}
-use Rattle.shm_graph.specs.Views.{ons, own_word, view}
-use Rattle.shm_count.specs.CommitTest.{record_in, is_first_half, step_block}
-use Rattle.shm_count.specs.CommitTest.Control.{is_shown}
+use Rattle.shm_graph.specs.declared.memo.{ChangeStage.TheVariants.{Lowering, Raising}, Memo.Memo, Op.Op}
+use Rattle.shm_graph.specs.{declared.memo.Op.TheVariants.{Alloc, Change, Down, Nothing, Up}, Blocks.{IsBlock, classes}}
+use Rattle.shm_graph.specs.{Held.{MayName, IsBefore, FactAt, HeldAt, OpTie, TestAt, odd}, Ops.{on_from, on_of, on_till}}
+use Rattle.shm_graph.specs.{References.{Words, words_of}, Views.{ons, own_word, view}}
+use Rattle.shm_graph.proofs.{Spots.Spotting.in_pool, States.RedoNames.may_name}
+use Rattle.shm_count.specs.CommitTest.{record_in, is_first_half, step_block, Control.is_shown}
 
 -- ---- the block on which a step is committed is the one that the redo record names
 

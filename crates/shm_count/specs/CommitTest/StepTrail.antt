@@ -1,9 +1,6 @@
 -- a word step as a part that leaves what it asked, besides what it leaves
 use Rattle.std.proofs.Common.{◌≡◌, ℕ, Bool, ap, ◌∙◌, [], ◌∷◌}
-use Rattle.shm_graph.specs.declared.ask.Ask.{Ask}
-use Rattle.shm_graph.specs.Asks.{Trail, pair}
-use Rattle.shm_graph.specs.Laws.{Control}
-use Rattle.shm_graph.specs.Trails.{Answers, Asked}
+use Rattle.shm_graph.specs.{declared.ask.Ask.Ask, Asks.{Trail, pair}, Laws.Control, Trails.{Answers, Asked}}
 use Rattle.shm_calls.specs.Parts.{Part, PartLaws}
 
 -- its trail is one of its trails

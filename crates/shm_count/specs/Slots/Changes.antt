@@ -1,43 +1,29 @@
 -- what a step that changes a reference leaves, at a root and at a word of a block
 use Rattle.std.proofs.Common.{◌≡◌, ◌≢◌, ℕ, ◌+◌, ◌-◌, ◌^◌, ◌<◌, ◌≤◌, refl, sym, ap, ◌∙◌, subst, arith, Bool, true, cond, eqb, List, [], ◌∷◌, ◌++◌}
-use Rattle.std.specs.List.{Contains, filter}
 use Rattle.std.proofs.lemmas.Bool.{eq-eqb, cond-true}
+use Rattle.std.specs.List.{Contains, filter}
 use Rattle.shm_words.specs.Headers.{header_of}
-use Rattle.shm_graph.specs.declared.ask.Me.{Me}
-use Rattle.shm_graph.specs.declared.spot.Spot.{Spot}
-use Rattle.shm_graph.specs.declared.spot.Spot.TheVariants as spot
-use Rattle.shm_graph.specs.declared.memo.Memo.{Memo}
-use Rattle.shm_graph.specs.declared.memo.First.TheVariants.{Committed}
+use Rattle.shm_graph.specs.declared.{ask.Me.Me, spot.Spot.Spot, memo.{Memo.Memo, First.TheVariants.Committed}}
 use Rattle.shm_graph.specs.declared.memo.ChangeStage.TheVariants.{Raising, Lowering}
-use Rattle.shm_graph.specs.declared.memo.Second.TheVariants.{Open, Closed}
-use Rattle.shm_graph.specs.declared.memo.Op.TheVariants as op
-use Rattle.shm_graph.specs.declared.memo.Stored.{Stored}
-use Rattle.shm_graph.specs.Chains.{part_set}
-use Rattle.shm_graph.specs.MemoAfterExchange.{cut, reparted, without_made}
-use Rattle.shm_graph.specs.Ops.{On, cover}
-use Rattle.shm_graph.specs.Reach.{is_named, shown, sifted}
-use Rattle.shm_graph.specs.Spots.{same_spot}
+use Rattle.shm_graph.specs.{declared.memo.{Second.TheVariants.{Open, Closed}, Stored.Stored}, Chains.part_set}
+use Rattle.shm_graph.specs.{MemoAfterExchange.{cut, reparted, without_made}, Ops.{On, cover}}
+use Rattle.shm_graph.specs.{Reach.{is_named, shown, sifted}, Spots.same_spot}
 use Rattle.shm_graph.specs.MemoAfterStore.{is_of, not_block, not_of, written, stored_on, with_own, era_stored}
-use Rattle.shm_graph.specs.Views.{own_word}
-use Rattle.shm_graph.proofs.StepKinds.Loads.{choice}
-use Rattle.shm_graph.proofs.Spots.Spotting.{same_spot_is}
+use Rattle.shm_graph.specs.{Views.own_word, Core.core}
+use Rattle.shm_graph.specs.declared.spot.Spot.TheVariants as spot
+use Rattle.shm_graph.specs.declared.memo.Op.TheVariants as op
+use Rattle.shm_graph.proofs.{StepKinds.Loads.choice, Spots.Spotting.same_spot_is}
 use Rattle.shm_laws.specs.HeaderExchanges.{dying_after}
-use Rattle.shm_steps.proofs.MemoCommits.{known_lowered, lowered_is}
+use Rattle.shm_steps.proofs.{MemoCommits.{known_lowered, lowered_is}, Cores.body_word}
 use Rattle.shm_steps.specs.Reparting.{sight}
-use Rattle.shm_count.specs.declared.point.Aim.TheVariants.{Change}
-use Rattle.shm_count.specs.declared.point.Half.TheVariants.{Second}
+use Rattle.shm_count.specs.declared.point.{Aim.TheVariants.Change, Half.TheVariants.Second}
 use Rattle.shm_count.specs.DownLeaves.{count_less, joined, kept_lowered, one_less}
 use Rattle.shm_count.specs.Retaining.{slots_learnt, slots_forgotten, slots_sifted, named_same, named_sifted, value_sifted}
-use Rattle.shm_count.specs.Roots.{rest}
-use Rattle.shm_count.specs.Slots.Ups.{slotted_own, closed_row}
+use Rattle.shm_count.specs.{Roots.rest, Slots.Ups.{slotted_own, closed_row}}
 use Rattle.shm_count.specs.Slots.Downs.{known_at_keeps, slotted_rest, slotted_dying, slotted_values, slotted_known, slotted_root, slotted_home}
-use Rattle.shm_count.specs.Slots.{IsReplaced, emptied, slotted, known_at, Lost, Sifts}
-use Rattle.shm_count.specs.Step.Control.{header_after}
-use Rattle.shm_steps.proofs.Cores.{body_word}
+use Rattle.shm_count.specs.{Slots.{IsReplaced, emptied, slotted, known_at, Lost, Sifts}, Step.Control.header_after}
 use Rattle.shm_count.specs.Step.{Done, Rows, begun, set_memo, slot_memo, closed_memo}
-use Rattle.shm_graph.specs.Core.{core}
-use Rattle.shm_count.specs.Step.Parts.{part_after, lasting_not, first_own, rows_grow}
-use Rattle.shm_count.specs.Tear.Memos.{is_slot_word}
+use Rattle.shm_count.specs.{Step.Parts.{part_after, lasting_not, first_own, rows_grow}, Tear.Memos.is_slot_word}
 
 known_slots : (p : Spot) (x : ℕ) (ks : List Stored) → filter is_slot_word (known_at p x ks) ≡ filter is_slot_word ks
 known_slots (spot.Body d k) x ks = slots_learnt (spot.Body d k) x ks refl

@@ -1,45 +1,30 @@
 -- what a step down leaves, at each kind of slot
 use Rattle.std.proofs.Common.{◌≡◌, ◌≢◌, ℕ, ◌+◌, ◌-◌, ◌^◌, ◌<◌, ◌≤◌, refl, sym, ap, ◌∙◌, subst, arith, Bool, true, false, cond, eqb, List, [], ◌∷◌, ◌++◌, inl, inr}
-use Rattle.std.specs.Prelude.{if◌then◌else◌}
-use Rattle.std.specs.List.{Contains, filter}
 use Rattle.std.proofs.lemmas.Bool.{eq-eqb, ne_eqb, cond-true, cond-false}
 use Rattle.std.proofs.lemmas.List.Elements.{Contains-append_cases, Contains-append_right, Contains-push_cases}
+use Rattle.std.specs.{Prelude.if◌then◌else◌, List.{Contains, filter}}
 use Rattle.shm_words.specs.Headers.{header_of}
-use Rattle.shm_graph.specs.declared.ask.Me.{Me}
-use Rattle.shm_graph.specs.declared.spot.Spot.{Spot}
-use Rattle.shm_graph.specs.declared.spot.Spot.TheVariants as spot
-use Rattle.shm_graph.specs.declared.memo.Memo.{Memo}
-use Rattle.shm_graph.specs.declared.memo.First.TheVariants.{Committed, Written}
-use Rattle.shm_graph.specs.declared.memo.Op.{Op}
-use Rattle.shm_graph.specs.declared.memo.Op.TheVariants as op
-use Rattle.shm_graph.specs.declared.memo.Stored.{Stored}
-use Rattle.shm_graph.specs.declared.table.Part.{Part as TablePart}
-use Rattle.shm_graph.specs.declared.table.Part.TheVariants.{Loose, Table}
-use Rattle.shm_graph.specs.Chains.{part_set}
+use Rattle.shm_graph.specs.declared.{ask.Me.Me, spot.Spot.Spot, memo.Memo.Memo}
+use Rattle.shm_graph.specs.declared.memo.{First.TheVariants.{Committed, Written}, Op.Op, Stored.Stored}
+use Rattle.shm_graph.specs.{declared.table.Part.{Part as TablePart, TheVariants.{Loose, Table}}, Chains.part_set}
 use Rattle.shm_graph.specs.MemoAfterExchange.{cut, reparted, without_made, with_unsent, with_untaken, lowered}
-use Rattle.shm_graph.specs.Ops.{On, cover, cover_of}
-use Rattle.shm_graph.specs.Reach.{is_named, not_at, shown, sifted}
-use Rattle.shm_graph.specs.Spots.{same_spot}
+use Rattle.shm_graph.specs.{Ops.{On, cover, cover_of}, Reach.{is_named, not_at, shown, sifted}, Spots.same_spot}
 use Rattle.shm_graph.specs.MemoAfterStore.{is_lowering, is_of, not_of, op_closed, op_written, other_than, put, written, without_looks, stored_on, with_own, era_stored}
-use Rattle.shm_graph.specs.Views.{own_word}
+use Rattle.shm_graph.specs.{Views.own_word, Core.core}
+use Rattle.shm_graph.specs.declared.spot.Spot.TheVariants as spot
+use Rattle.shm_graph.specs.declared.memo.Op.TheVariants as op
 use Rattle.shm_graph.proofs.StepKinds.Loads.{choice}
 use Rattle.shm_laws.proofs.Keep.{newest, Contains-filter, filter_from}
 use Rattle.shm_laws.specs.HeaderExchanges.{dying_after}
-use Rattle.shm_steps.proofs.MemoCommits.{known_lowered, lowered_is}
+use Rattle.shm_steps.proofs.{MemoCommits.{known_lowered, lowered_is}, Cores.body_word}
 use Rattle.shm_steps.specs.Reparting.{sight}
-use Rattle.shm_count.specs.declared.point.Aim.TheVariants.{Down}
-use Rattle.shm_count.specs.declared.point.Half.TheVariants.{First}
+use Rattle.shm_count.specs.declared.point.{Aim.TheVariants.Down, Half.TheVariants.First}
 use Rattle.shm_count.specs.DownLeaves.{count_less, joined, kept_lowered, one_less}
 use Rattle.shm_count.specs.Retaining.{slots_learnt, slots_forgotten, slots_sifted, named_same, named_sifted, value_sifted}
-use Rattle.shm_count.specs.Roots.{rest}
-use Rattle.shm_count.specs.Slots.Ups.{slotted_own, closed_row}
-use Rattle.shm_count.specs.Slots.{IsEmptied, emptied, slotted, known_at, Lost}
-use Rattle.shm_count.specs.Step.Control.{header_after}
-use Rattle.shm_steps.proofs.Cores.{body_word}
+use Rattle.shm_count.specs.{Roots.rest, Slots.Ups.{slotted_own, closed_row}}
+use Rattle.shm_count.specs.{Slots.{IsEmptied, emptied, slotted, known_at, Lost}, Step.Control.header_after}
 use Rattle.shm_count.specs.Step.{Done, begun, set_memo, slot_memo, closed_memo}
-use Rattle.shm_graph.specs.Core.{core}
-use Rattle.shm_count.specs.Step.Parts.{part_after, lasting_not, first_own, rows_grow}
-use Rattle.shm_count.specs.Tear.Memos.{is_slot_word}
+use Rattle.shm_count.specs.{Step.Parts.{part_after, lasting_not, first_own, rows_grow}, Tear.Memos.is_slot_word}
 
 -- what no slot changes
 pub slotted_op : (p : Spot) (x : ℕ) (m : Memo) → (slotted p x m).op ≡ m.op

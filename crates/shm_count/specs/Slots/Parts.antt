@@ -1,35 +1,21 @@
 -- count steps at each kind of slot as parts, by what they leave of the memo
 use Rattle.std.proofs.Common.{◌≡◌, ◌+◌, ◌^◌, ◌<◌, ◌≤◌, refl, sym, ap, ◌∙◌, subst, arith, Bool, cond, List}
-use Rattle.std.specs.Prelude.{Result, Ok, Err}
 use Rattle.std.proofs.lemmas.Bool.{eq-eqb}
-use Rattle.shm_graph.specs.declared.ask.Me.{Me}
-use Rattle.shm_graph.specs.declared.spot.Spot.{Spot}
+use Rattle.std.specs.Prelude.{Result, Ok, Err}
+use Rattle.shm_graph.specs.{declared.{ask.Me.Me, spot.Spot.Spot, memo.{Memo.Memo, Stored.Stored}}, Events.Event}
+use Rattle.shm_graph.specs.{Held.room_of, Views.own_word, Core.core}
 use Rattle.shm_graph.specs.declared.spot.Spot.TheVariants as spot
-use Rattle.shm_graph.specs.declared.memo.Memo.{Memo}
 use Rattle.shm_graph.specs.declared.memo.Op.TheVariants as op
-use Rattle.shm_graph.specs.Events.{Event}
-use Rattle.shm_graph.specs.declared.memo.Stored.{Stored}
-use Rattle.shm_graph.specs.Held.{room_of}
-use Rattle.shm_graph.specs.Views.{own_word}
 use Rattle.shm_calls.specs.Parts.{IsHeld, Part, PartLaws, weaker, weaker_laws}
-use Rattle.shm_count.specs.declared.answer.EraSpent.{EraSpent}
-use Rattle.shm_count.specs.declared.answer.UpFault.{UpFault}
-use Rattle.shm_count.specs.declared.answer.UpFault.TheVariants as fault
-use Rattle.shm_count.specs.declared.point.Aim.{Aim}
-use Rattle.shm_count.specs.declared.point.Aim.TheVariants.{Up, Down, Change}
-use Rattle.shm_count.specs.declared.point.StepState.{StepState}
+use Rattle.shm_count.specs.declared.{answer.{EraSpent.EraSpent, UpFault.UpFault}, point.Aim.Aim}
+use Rattle.shm_count.specs.declared.point.{Aim.TheVariants.{Up, Down, Change}, StepState.StepState}
 use Rattle.shm_count.specs.CountParts.{down_part, down_part_laws, up_part, up_part_laws, change_part, change_part_laws}
-use Rattle.shm_count.specs.Step.Bound.{step_bound}
-use Rattle.shm_count.specs.Slots.Ups.{up_leaves}
-use Rattle.shm_count.specs.Slots.Downs.{down_leaves_at}
+use Rattle.shm_count.specs.Step.{Bound.step_bound, Control.step_control, Events.own_events, Gives, Refused}
+use Rattle.shm_count.specs.Step.Machines.{down_control, up_control, down_told, up_told, IsDown, IsUp, IsChange}
+use Rattle.shm_count.specs.{Step.Parts.lasting_not, Slots.{Ups.up_leaves, Downs.down_leaves_at}}
 use Rattle.shm_count.specs.Slots.Changes.{change_leaves_at}
 use Rattle.shm_count.specs.Slots.{IsSlotFor, MayStepAt, StepCause, StepDid, StepLeft, Untouched}
-use Rattle.shm_count.specs.Step.Control.{step_control}
-use Rattle.shm_count.specs.Step.Events.{own_events}
-use Rattle.shm_count.specs.Step.{Gives, Refused}
-use Rattle.shm_graph.specs.Core.{core}
-use Rattle.shm_count.specs.Step.Machines.{down_control, up_control, down_told, up_told, IsDown, IsUp, IsChange}
-use Rattle.shm_count.specs.Step.Parts.{lasting_not}
+use Rattle.shm_count.specs.declared.answer.UpFault.TheVariants as fault
 
 -- in a held state in which no step of an identity is in progress its own era leaves room for two in a header
 pub era_room : (me : Me) (m : Memo) → IsHeld me m → me.who < me.geometry.clients → m.op ≡ op.Nothing → own_word m.own (spot.Era me.who me.who) + 1 < 2 ^ 47

@@ -1,28 +1,18 @@
 -- what a step up leaves, at each kind of slot
 use Rattle.std.proofs.Common.{◌≡◌, ℕ, ◌+◌, ◌≤◌, refl, sym, ap, ◌∙◌, subst, Bool, false, cond, eqb, List}
 use Rattle.std.proofs.lemmas.Bool.{eq-eqb, cond-true}
-use Rattle.shm_graph.specs.declared.ask.Me.{Me}
-use Rattle.shm_graph.specs.declared.spot.Spot.{Spot}
+use Rattle.shm_graph.specs.declared.{ask.Me.Me, spot.Spot.Spot, memo.{Memo.Memo, First.TheVariants.Committed, Op.Op}}
+use Rattle.shm_graph.specs.{declared.memo.Stored.Stored, Chains.part_set, MemoAfterExchange.{reparted, without_made}}
+use Rattle.shm_graph.specs.{Ops.{On, cover}, Spots.same_spot}
+use Rattle.shm_graph.specs.{MemoAfterStore.{put, written, stored_on, with_own, era_stored}, Views.own_word, Core.core}
 use Rattle.shm_graph.specs.declared.spot.Spot.TheVariants as spot
-use Rattle.shm_graph.specs.declared.memo.Memo.{Memo}
-use Rattle.shm_graph.specs.declared.memo.First.TheVariants.{Committed}
-use Rattle.shm_graph.specs.declared.memo.Op.{Op}
 use Rattle.shm_graph.specs.declared.memo.Op.TheVariants as op
-use Rattle.shm_graph.specs.declared.memo.Stored.{Stored}
-use Rattle.shm_graph.specs.Chains.{part_set}
-use Rattle.shm_graph.specs.MemoAfterExchange.{reparted, without_made}
-use Rattle.shm_graph.specs.Ops.{On, cover}
-use Rattle.shm_graph.specs.Spots.{same_spot}
-use Rattle.shm_graph.specs.MemoAfterStore.{put, written, stored_on, with_own, era_stored}
-use Rattle.shm_graph.specs.Views.{own_word}
 use Rattle.shm_graph.proofs.Spots.Spotting.{same_spot_self}
 use Rattle.shm_steps.specs.Reparting.{sight}
-use Rattle.shm_count.specs.declared.point.Aim.TheVariants.{Up}
-use Rattle.shm_count.specs.declared.point.Half.TheVariants.{First}
-use Rattle.shm_count.specs.Slots.{IsFilled, slotted, known_at, unsent_at, Filled}
 use Rattle.shm_steps.proofs.Cores.{body_word}
+use Rattle.shm_count.specs.declared.point.{Aim.TheVariants.Up, Half.TheVariants.First}
+use Rattle.shm_count.specs.Slots.{IsFilled, slotted, known_at, unsent_at, Filled}
 use Rattle.shm_count.specs.Step.{Done, begun, set_memo, slot_memo, closed_memo}
-use Rattle.shm_graph.specs.Core.{core}
 use Rattle.shm_count.specs.Step.Parts.{part_after, lasting_not, first_own, rows_grow}
 
 module _ (me : Me) (slot b e w : ℕ) (q : Memo) where

@@ -1,66 +1,37 @@
 -- what a count step keeps up to the exchange: it reads the own era, stores the redo record, reads the header of its block, and shows the header's era in the own row
 use Rattle.std.proofs.Common.{cond, ◌≡◌, ◌≢◌, ℕ, ◌+◌, ◌<◌, ◌≤◌, refl, sym, ap, ◌∙◌, subst, arith, true, false, eqb, ltb, ◌∷◌, []}
-use Rattle.shm_count.specs.Step.Events.{events_at}
-use Rattle.shm_words.proofs.Words.{fitted_same}
-use Rattle.std.specs.Prelude.{Result}
-use Rattle.shm_graph.specs.Trails.{Chosen}
-use Rattle.shm_count.specs.declared.answer.UpFault.{UpFault}
-use Rattle.shm_count.specs.Step.Asks.{point_trail, first_trail, more_trail, redo_trail}
-use Rattle.shm_count.specs.Step.Control.{first_point, is_over}
-use Rattle.shm_graph.specs.declared.memo.Op.TheVariants.{Nothing as NoOp}
-use Rattle.shm_graph.specs.Held.{Names}
-use Rattle.shm_words.specs.declared.redo.Redo.{Redo as ARedo}
-use Rattle.std.specs.Prelude.{Err}
-use Rattle.std.specs.List.{Contains}
 use Rattle.std.proofs.lemmas.Bool.{eq-eqb, ne_eqb, and_from, lt-ltb, ltb-true, ltb-false, cond-true, cond-false}
-use Rattle.shm_words.specs.declared.place.Place.TheVariants as place
-use Rattle.shm_words.specs.Headers.{header_of}
-use Rattle.shm_words.specs.Layout.{address}
-use Rattle.shm_words.specs.Redos.{second_word, first_word, RedoFits, redo_first, redo_second}
-use Rattle.shm_graph.specs.declared.ask.Ask.{Ask}
-use Rattle.shm_graph.specs.declared.ask.Ask.TheVariants.{Load, Store}
-use Rattle.shm_graph.specs.declared.ask.Me.{Me}
-use Rattle.shm_graph.specs.declared.spot.Spot.{Spot}
-use Rattle.shm_graph.specs.declared.spot.Spot.TheVariants as spot
-use Rattle.shm_graph.specs.declared.memo.Fact.TheVariants.{Header as HeaderRead, Counter}
-use Rattle.shm_graph.specs.declared.memo.Memo.{Memo}
-use Rattle.shm_graph.specs.declared.memo.Step.{Step}
-use Rattle.shm_graph.specs.Agents.{recovers}
-use Rattle.shm_graph.specs.Asks.{Trail, at_of}
-use Rattle.shm_graph.specs.Blocks.{classes}
-use Rattle.shm_graph.specs.Changes.{called, with_call, with_end, memo_on}
-use Rattle.shm_graph.specs.Laws.{Frame, framed, Stands, KeptAt}
-use Rattle.shm_graph.specs.Reach.{is_reached}
-use Rattle.shm_graph.specs.Spots.{spot_at, same_spot}
-use Rattle.shm_graph.specs.MemoAfterStore.{with_own, era_stored}
-use Rattle.shm_graph.specs.Views.{view, own_word}
-use Rattle.shm_graph.proofs.StepKinds.LoadKeeping.{load_kept}
-use Rattle.shm_graph.proofs.StepKinds.Loads.{choice}
-use Rattle.shm_graph.proofs.Spots.SpotPlaces.{spot-place}
-use Rattle.shm_graph.proofs.Spots.Spotting.{same_spot_self}
-use Rattle.shm_laws.specs.OwnWords.{BeginNeeds}
-use Rattle.shm_steps.specs.OwnWords.{op_begun, IsReady}
-use Rattle.shm_steps.proofs.BodyLoads.{header_loaded}
-use Rattle.shm_steps.proofs.OwnStores.{row_stored}
-use Rattle.shm_steps.proofs.OwnStoresRedo.{redo_stored, more_stored}
-use Rattle.shm_steps.proofs.KeptAfter.{kept_going}
-use Rattle.shm_count.specs.declared.answer.UpFault.TheVariants.{EraSpent}
-use Rattle.shm_count.specs.declared.point.Aim.{Aim}
-use Rattle.shm_count.specs.declared.point.Aim.TheVariants.{Up, Down, Change}
-use Rattle.shm_count.specs.declared.point.Half.{Half}
-use Rattle.shm_count.specs.declared.point.Half.TheVariants.{First}
-use Rattle.shm_count.specs.declared.point.StepPoint.{StepPoint}
-use Rattle.shm_count.specs.declared.point.StepPoint.TheVariants.{Era, Redo, Row, Show, Exchange, More}
-use Rattle.shm_count.specs.declared.point.StepPoint.TheVariants as point
-use Rattle.shm_count.specs.declared.point.StepNext.TheVariants.{Point, Answer}
-use Rattle.shm_count.specs.Step.Control.{last_era, block_at, redo_at, row_address, step_ask_at, step_next_at, PointFits, first_next}
-use Rattle.shm_graph.specs.Core.{core}
+use Rattle.std.specs.{Prelude.{Result, Err}, List.Contains}
+use Rattle.shm_count.specs.Step.{Events.events_at, Asks.{point_trail, first_trail, more_trail, redo_trail}}
+use Rattle.shm_count.specs.Step.Control.{first_point, is_over, last_era, block_at, redo_at, row_address, step_ask_at, step_next_at, PointFits, first_next}
 use Rattle.shm_count.specs.Step.{HasPut, CanStep, begun_op, Rows, begun, HasRead, InHalf, PointHolds, NextHolds, CanAim, readied, Bool, PointHas}
-use Rattle.shm_graph.proofs.Memos.MemoSteps.{recovers_on}
-use Rattle.shm_steps.proofs.Cores.{called_core, era_core, era_counts, era_facts, header_core, here_same}
 use Rattle.shm_count.specs.Step.Memos.{rows_same, row_raised, half_then, half_same, read_same, era_room, half_status, more_rows, rows_then}
 use Rattle.shm_count.specs.Step.Headers.{half_block, header_has, header_found}
-use Rattle.shm_count.specs.Step.Beginning.{record_of, can_on, begins_here, can_ready}
+use Rattle.shm_count.specs.{Step.Beginning.{record_of, can_on, begins_here, can_ready}, declared.answer.UpFault.UpFault}
+use Rattle.shm_count.specs.declared.{answer.UpFault.TheVariants.EraSpent, point.Aim.Aim}
+use Rattle.shm_count.specs.declared.point.{Aim.TheVariants.{Up, Down, Change}, Half.{Half, TheVariants.First}}
+use Rattle.shm_count.specs.declared.point.StepPoint.{StepPoint, TheVariants.{Era, Redo, Row, Show, Exchange, More}}
+use Rattle.shm_count.specs.declared.point.StepNext.TheVariants.{Point, Answer}
+use Rattle.shm_count.specs.declared.point.StepPoint.TheVariants as point
+use Rattle.shm_words.proofs.Words.{fitted_same}
+use Rattle.shm_words.specs.{declared.redo.Redo.Redo as ARedo, Headers.header_of, Layout.address}
+use Rattle.shm_words.specs.Redos.{second_word, first_word, RedoFits, redo_first, redo_second}
+use Rattle.shm_words.specs.declared.place.Place.TheVariants as place
+use Rattle.shm_graph.specs.{Trails.Chosen, declared.memo.Op.TheVariants.Nothing as NoOp}
+use Rattle.shm_graph.specs.declared.memo.{Fact.TheVariants.{Header as HeaderRead, Counter}, Memo.Memo, Step.Step}
+use Rattle.shm_graph.specs.{declared.{ask.{Ask.{Ask, TheVariants.{Load, Store}}, Me.Me}, spot.Spot.Spot}, Held.Names}
+use Rattle.shm_graph.specs.{Agents.recovers, Asks.{Trail, at_of}, Blocks.classes}
+use Rattle.shm_graph.specs.{Changes.{called, with_call, with_end, memo_on}, Laws.{Frame, framed, Stands, KeptAt}}
+use Rattle.shm_graph.specs.{Reach.is_reached, Spots.{spot_at, same_spot}, MemoAfterStore.{with_own, era_stored}}
+use Rattle.shm_graph.specs.{Views.{view, own_word}, Core.core}
+use Rattle.shm_graph.specs.declared.spot.Spot.TheVariants as spot
+use Rattle.shm_graph.proofs.{StepKinds.{LoadKeeping.load_kept, Loads.choice}, Spots.SpotPlaces.spot-place}
+use Rattle.shm_graph.proofs.{Spots.Spotting.same_spot_self, Memos.MemoSteps.recovers_on}
+use Rattle.shm_laws.specs.OwnWords.{BeginNeeds}
+use Rattle.shm_steps.specs.OwnWords.{op_begun, IsReady}
+use Rattle.shm_steps.proofs.{BodyLoads.header_loaded, OwnStores.row_stored, OwnStoresRedo.{redo_stored, more_stored}}
+use Rattle.shm_steps.proofs.KeptAfter.{kept_going}
+use Rattle.shm_steps.proofs.Cores.{called_core, era_core, era_counts, era_facts, header_core, here_same}
 
 -- ---- what a step owes
 

@@ -1,38 +1,23 @@
 -- a count step begins at the slot that it could begin at
 use Rattle.std.proofs.Common.{◌≡◌, ◌≢◌, ℕ, ◌+◌, ◌%◌, ◌^◌, ◌<◌, ◌≤◌, refl, sym, ap, ◌∙◌, subst, true, false, inl, inr, ◌⊎◌}
-use Rattle.shm_words.specs.Redos.{redo_first}
-use Rattle.shm_words.specs.declared.redo.Redo.{Redo as ARedo}
-use Rattle.std.specs.Prelude.{slice_index}
-use Rattle.std.specs.List.{Contains}
-use Rattle.std.proofs.lemmas.Bool.{eq-eqb, ne_eqb}
-use Rattle.std.proofs.lemmas.List.Elements.{All-contains}
-use Rattle.shm_words.specs.declared.geometry.Geometry.{Geometry}
-use Rattle.shm_graph.specs.declared.spot.Spot.{Spot}
+use Rattle.std.proofs.lemmas.{Bool.{eq-eqb, ne_eqb}, List.Elements.All-contains}
+use Rattle.std.specs.{Prelude.slice_index, List.Contains}
+use Rattle.shm_words.specs.{Redos.redo_first, declared.{redo.Redo.Redo as ARedo, geometry.Geometry.Geometry}}
+use Rattle.shm_graph.specs.{declared.{spot.Spot.Spot, memo.Memo.Memo}, Blocks.classes}
+use Rattle.shm_graph.specs.{Held.{HeldAt, is_home, is_slot, is_slot_to, odd}, Reach.is_reached}
+use Rattle.shm_graph.specs.{Spots.{spot_address, IsAt}, MemoAfterStore.{is_block_made, with_own}, Telling.claims}
+use Rattle.shm_graph.specs.{Views.{view, own_word}, Core.core}
 use Rattle.shm_graph.specs.declared.spot.Spot.TheVariants as spot
-use Rattle.shm_graph.specs.declared.memo.Memo.{Memo}
 use Rattle.shm_graph.specs.declared.memo.Op.TheVariants as op
-use Rattle.shm_graph.specs.Blocks.{classes}
-use Rattle.shm_graph.specs.Held.{HeldAt, is_home, is_slot, is_slot_to, odd}
-use Rattle.shm_graph.specs.Reach.{is_reached}
-use Rattle.shm_graph.specs.Spots.{spot_address, IsAt}
-use Rattle.shm_graph.specs.MemoAfterStore.{is_block_made, with_own}
-use Rattle.shm_graph.specs.Telling.{claims}
-use Rattle.shm_graph.specs.Views.{view, own_word}
 use Rattle.shm_graph.proofs.Memos.KnownChange.{KnownHolds}
-use Rattle.shm_steps.specs.Beginning.{HasRoom, MayStoreIn, IsOwnWord}
-use Rattle.shm_steps.specs.Conditions.{IsHere}
+use Rattle.shm_steps.specs.{Beginning.{HasRoom, MayStoreIn, IsOwnWord}, Conditions.IsHere}
 use Rattle.shm_steps.specs.OwnWords.{op_begun, MayBegin, IsReady}
 use Rattle.shm_steps.proofs.BeginAt.{SlotHas, fixed_told, up_begun_at, down_begun_at, change_begun_at, up_at, down_at, change_at}
 use Rattle.shm_steps.proofs.BeginSlots.{root_has, home_has, room_left, room_unsent, tail_has, head_has}
-use Rattle.shm_steps.proofs.BeginWords.{own_word_has}
-use Rattle.shm_steps.proofs.OwnStoresRedo.{root_at}
-use Rattle.shm_count.specs.declared.point.Aim.{Aim}
-use Rattle.shm_count.specs.declared.point.Aim.TheVariants.{Up, Down, Change}
-use Rattle.shm_count.specs.declared.point.Half.TheVariants.{First}
+use Rattle.shm_steps.proofs.{BeginWords.own_word_has, OwnStoresRedo.root_at, Cores.here_same}
+use Rattle.shm_count.specs.declared.point.{Aim.{Aim, TheVariants.{Up, Down, Change}}, Half.TheVariants.First}
 use Rattle.shm_count.specs.Step.Control.{block_at, raises, redo_at}
-use Rattle.shm_graph.specs.Core.{core}
 use Rattle.shm_count.specs.Step.{HasPut, CanUp, CanDown, CanChange, CanAim, begun_op, Bool}
-use Rattle.shm_steps.proofs.Cores.{here_same}
 
 -- ---- what the memo shows of the slot
 

@@ -2,50 +2,28 @@
 use Rattle.std.proofs.Common.{◌≡◌, ◌≢◌, ℕ, ◌+◌, ◌^◌, ◌<◌, refl, sym, ap, ◌∙◌, subst, arith, Bool, true, false, not, ◌&&◌, eqb}
 use Rattle.std.proofs.lemmas.Bool.{eq-eqb, and_from, lt-ltb}
 use Rattle.shm_words.proofs.Placing.{total_small}
-use Rattle.shm_words.specs.Layout.{GeometryFits, total_of, address}
-use Rattle.shm_words.specs.Headers.{header_of}
+use Rattle.shm_words.specs.{Layout.{GeometryFits, total_of, address}, Headers.header_of}
 use Rattle.shm_words.specs.declared.place.Place.TheVariants as place
-use Rattle.shm_graph.specs.declared.ask.Ask.{Ask}
-use Rattle.shm_graph.specs.declared.ask.Me.{Me}
-use Rattle.shm_graph.specs.declared.spot.Spot.{Spot}
-use Rattle.shm_graph.specs.declared.memo.Memo.{Memo}
-use Rattle.shm_graph.specs.declared.memo.Op.{Op}
-use Rattle.shm_graph.specs.declared.ask.Ask.TheVariants.{Store}
-use Rattle.shm_graph.specs.declared.memo.Second.TheVariants.{Closed}
-use Rattle.shm_graph.specs.declared.memo.ChangeStage.TheVariants.{Lowering}
+use Rattle.shm_graph.specs.declared.{ask.{Ask.{Ask, TheVariants.Store}, Me.Me}, spot.Spot.Spot, memo.{Memo.Memo, Op.Op}}
+use Rattle.shm_graph.specs.declared.memo.{Second.TheVariants.Closed, ChangeStage.TheVariants.Lowering}
+use Rattle.shm_graph.specs.{Views.{own_word, view}, References.words_of, Asks.Trail}
+use Rattle.shm_graph.specs.{Laws.{framed, Stands, KeptAt, Frame}, MemoAfterStore.{op_written, op_closed}}
+use Rattle.shm_graph.specs.{Ops.{is_op, slot_of}, Held.{HeldAt, OpTie}, Spots.{spot_at, IsAt}, Blocks.classes}
+use Rattle.shm_graph.specs.{Changes.{called, memo_on}, Agents.recovers, Core.core}
 use Rattle.shm_graph.specs.declared.spot.Spot.TheVariants as spot
 use Rattle.shm_graph.specs.declared.memo.Op.TheVariants as op
-use Rattle.shm_graph.specs.Views.{own_word, view}
-use Rattle.shm_graph.specs.References.{words_of}
-use Rattle.shm_graph.specs.Asks.{Trail}
-use Rattle.shm_graph.specs.Laws.{framed, Stands, KeptAt, Frame}
-use Rattle.shm_graph.specs.MemoAfterStore.{op_written, op_closed}
-use Rattle.shm_graph.specs.Ops.{is_op, slot_of}
-use Rattle.shm_graph.specs.Held.{HeldAt, OpTie}
-use Rattle.shm_graph.specs.Spots.{spot_at, IsAt}
-use Rattle.shm_graph.specs.Blocks.{classes}
-use Rattle.shm_graph.specs.Changes.{called, memo_on}
-use Rattle.shm_graph.specs.Agents.{recovers}
-use Rattle.shm_graph.proofs.Spots.SpotPlaces.{spot-place}
-use Rattle.shm_laws.specs.Slotting.{Writes}
-use Rattle.shm_laws.specs.OwnWords.{Closes}
+use Rattle.shm_graph.proofs.{Spots.SpotPlaces.spot-place, Memos.MemoSteps.recovers_on}
+use Rattle.shm_laws.specs.{Slotting.Writes, OwnWords.Closes}
 use Rattle.shm_steps.specs.Conditions.{IsHere, MayWrite}
-use Rattle.shm_steps.proofs.SlotStores.{home_stored, queue_stored, body_stored, root_stored}
-use Rattle.shm_steps.proofs.OwnStoresEra.{era_closed}
-use Rattle.shm_steps.proofs.KeptAfter.{kept_going}
-use Rattle.shm_count.specs.declared.point.Aim.{Aim}
-use Rattle.shm_count.specs.declared.point.Half.TheVariants.{First, Second}
+use Rattle.shm_steps.proofs.{SlotStores.{home_stored, queue_stored, body_stored, root_stored}, OwnStoresEra.era_closed}
+use Rattle.shm_steps.proofs.{KeptAfter.kept_going, Cores.{HasSlot, here_same}}
+use Rattle.shm_count.specs.declared.point.{Aim.{Aim, TheVariants.{Change, Down, Up}}, Half.TheVariants.{First, Second}}
 use Rattle.shm_count.specs.declared.point.Half.{Half}
-use Rattle.shm_count.specs.declared.point.Aim.TheVariants.{Change, Down, Up}
-use Rattle.shm_count.specs.declared.point.StepPoint.TheVariants as point
-use Rattle.shm_steps.proofs.Cores.{HasSlot}
 use Rattle.shm_count.specs.Step.Cores.{set_op, stored_core, can_slot, IsSet, PointKeeps, IsStepSlot, is_set, is_stored, closed_core}
-use Rattle.shm_graph.specs.Core.{core}
 use Rattle.shm_count.specs.Step.{NextHolds, AtFirst, set_memo, slot_memo, closed_memo, InHalf, CanStep, PointHolds}
 use Rattle.shm_count.specs.Step.Control.{AimFits, step_next_at, PartFits, value_after, EraFits, closed_next, raises}
-use Rattle.shm_graph.proofs.Memos.MemoSteps.{recovers_on}
-use Rattle.shm_steps.proofs.Cores.{here_same}
 use Rattle.shm_count.specs.Step.Memos.{era_room, rows_same, half_status}
+use Rattle.shm_count.specs.declared.point.StepPoint.TheVariants as point
 
 -- ---- the step in progress
 

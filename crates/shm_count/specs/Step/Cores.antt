@@ -1,34 +1,20 @@
 -- memos by what a count step reads of them: their cores, the steps in progress, and the slots that a step may have
 use Rattle.std.proofs.Common.{◌≡◌, ℕ, ◌+◌, ◌≤◌, refl, sym, ap, ◌∙◌, subst, true, false, eqb}
-use Rattle.shm_words.specs.declared.geometry.Geometry.{Geometry}
-use Rattle.shm_words.specs.Headers.{header_of}
-use Rattle.shm_graph.specs.declared.ask.Me.{Me}
-use Rattle.shm_graph.specs.declared.spot.Spot.{Spot}
-use Rattle.shm_graph.specs.declared.memo.Memo.{Memo}
-use Rattle.shm_graph.specs.declared.memo.ChangeStage.TheVariants.{Lowering, Raising}
-use Rattle.shm_graph.specs.declared.memo.First.TheVariants.{Committed}
-use Rattle.shm_graph.specs.declared.memo.Op.{Op}
-use Rattle.shm_graph.specs.declared.memo.Second.TheVariants.{Closed}
-use Rattle.shm_graph.specs.declared.spot.Spot.TheVariants as spot
-use Rattle.shm_graph.specs.declared.memo.Op.TheVariants as op
+use Rattle.shm_words.specs.{declared.geometry.Geometry.Geometry, Headers.header_of}
+use Rattle.shm_graph.specs.declared.{ask.Me.Me, spot.Spot.Spot, memo.Memo.Memo}
+use Rattle.shm_graph.specs.declared.memo.{ChangeStage.TheVariants.{Lowering, Raising}, First.TheVariants.Committed}
+use Rattle.shm_graph.specs.declared.memo.{Op.Op, Second.TheVariants.Closed}
 use Rattle.shm_graph.specs.MemoAfterExchange.{reparted, cut, without_made, lowered, with_untaken}
 use Rattle.shm_graph.specs.MemoAfterStore.{op_written, written, stored_on, with_own, era_stored, is_lowering}
-use Rattle.shm_graph.specs.Spots.{spot_at}
-use Rattle.shm_graph.specs.Reach.{learnt, sifted}
-use Rattle.shm_graph.specs.Views.{own_word}
-use Rattle.shm_graph.specs.Ops.{slot_of, is_op}
-use Rattle.shm_graph.specs.Asks.{at_of, Trail}
-use Rattle.shm_graph.specs.Laws.{Stands, Frame, KeptAt}
-use Rattle.shm_graph.specs.Blocks.{classes}
+use Rattle.shm_graph.specs.{Spots.spot_at, Reach.{learnt, sifted}, Views.own_word, Ops.{slot_of, is_op}}
+use Rattle.shm_graph.specs.{Asks.{at_of, Trail}, Laws.{Stands, Frame, KeptAt}, Blocks.classes, Core.core}
+use Rattle.shm_graph.specs.declared.spot.Spot.TheVariants as spot
+use Rattle.shm_graph.specs.declared.memo.Op.TheVariants as op
 use Rattle.shm_laws.specs.HeaderExchanges.{dying_after}
 use Rattle.shm_steps.proofs.MemoCommits.{untaken_list, known_left, known_lowered, lowered_is, with_untaken_is, unsent_list, with_unsent_is}
 use Rattle.shm_steps.proofs.Cores.{HasSlot, body_word, core_cond}
-use Rattle.shm_count.specs.declared.point.Aim.TheVariants.{Down, Change, Up}
-use Rattle.shm_count.specs.declared.point.Half.TheVariants.{First, Second}
-use Rattle.shm_count.specs.declared.point.Half.{Half}
-use Rattle.shm_count.specs.declared.point.Aim.{Aim}
-use Rattle.shm_count.specs.declared.point.StepPoint.{StepPoint}
-use Rattle.shm_graph.specs.Core.{core}
+use Rattle.shm_count.specs.declared.point.{Aim.{TheVariants.{Down, Change, Up}, Aim}, Half.TheVariants.{First, Second}}
+use Rattle.shm_count.specs.declared.point.{Half.Half, StepPoint.StepPoint}
 use Rattle.shm_count.specs.Step.{CanUp, CanStep, CanChange, CanAim, set_memo, closed_memo, CanDown, PointHolds, NextHolds, Bool}
 use Rattle.shm_count.specs.Step.Control.{last_era, header_after, PartFits, PointFits, step_ask_at, step_next_at}
 

@@ -4,19 +4,14 @@ use Rattle.std.specs.Prelude.{◌||◌, ◌==◌, nat_lt, if◌then◌else◌, i
 use Rattle.shm_words.specs.Headers.{header_of}
 use Rattle.shm_graph.specs.declared.ask.Me.{Me}
 use Rattle.shm_calls.specs.Deciding.{Decides, decides_told, mapped_decides}
-use Rattle.shm_count.specs.declared.answer.UpFault.{UpFault}
-use Rattle.shm_count.specs.declared.answer.UpFault.TheVariants.{CountFull, EraSpent}
-use Rattle.shm_count.specs.declared.point.Aim.{Aim}
-use Rattle.shm_count.specs.declared.point.Aim.TheVariants.{Up, Down, Change}
-use Rattle.shm_count.specs.declared.point.StepNext.{StepNext}
-use Rattle.shm_count.specs.declared.point.StepNext.TheVariants.{Point, Answer}
-use Rattle.shm_count.specs.declared.point.Half.{Half}
-use Rattle.shm_count.specs.declared.point.Half.TheVariants.{First, Second}
-use Rattle.shm_count.specs.declared.point.StepPoint.{StepPoint}
-use Rattle.shm_count.specs.declared.point.StepPoint.TheVariants as point
+use Rattle.shm_count.specs.declared.{answer.UpFault.{UpFault, TheVariants.{CountFull, EraSpent}}, point.Aim.Aim}
+use Rattle.shm_count.specs.declared.point.{Aim.TheVariants.{Up, Down, Change}, StepNext.StepNext}
+use Rattle.shm_count.specs.declared.point.{StepNext.TheVariants.{Point, Answer}, Half.Half}
+use Rattle.shm_count.specs.declared.point.{Half.TheVariants.{First, Second}, StepPoint.StepPoint}
 use Rattle.shm_count.specs.Step.Control.{answer_of, block_at, closed_next, committed_next, header_next, last_era, point_of, step_control, step_next, step_next_at, first_next}
 use Rattle.shm_count.specs.Step.ExchangeMade.{exchanged_at, exchanging_at, is_second, step_exchanged, step_exchanging}
 use Rattle.shm_count.specs.Step.Machines.{down_answer, down_control, up_answer, up_control}
+use Rattle.shm_count.specs.declared.point.StepPoint.TheVariants as point
 
 -- ---- the exchange is what decides
 

@@ -1,17 +1,11 @@
 -- what a count step does to the graph of references, where its slot is the spot p
 use Rattle.std.specs.Prelude.{ℕ, Bool, ◌==◌, if◌then◌else◌, List, [], ◌∷◌, Result, Ok, Err}
-use Rattle.shm_graph.specs.declared.ask.Me.{Me}
-use Rattle.shm_graph.specs.declared.spot.Spot.{Spot}
-use Rattle.shm_graph.specs.Events.{Event}
+use Rattle.shm_graph.specs.{declared.{ask.Me.Me, spot.Spot.Spot}, Events.Event}
 use Rattle.shm_graph.specs.Events as event
-use Rattle.shm_count.specs.declared.answer.UpFault.{UpFault}
-use Rattle.shm_count.specs.declared.point.Aim.{Aim}
-use Rattle.shm_count.specs.declared.point.Aim.TheVariants.{Up, Down, Change}
-use Rattle.shm_count.specs.declared.point.Half.{Half}
-use Rattle.shm_count.specs.declared.point.Half.TheVariants.{First, Second}
-use Rattle.shm_count.specs.declared.point.StepPoint.{StepPoint}
-use Rattle.shm_count.specs.declared.point.StepPoint.TheVariants as point
+use Rattle.shm_count.specs.declared.{answer.UpFault.UpFault, point.Aim.{Aim, TheVariants.{Up, Down, Change}}}
+use Rattle.shm_count.specs.declared.point.{Half.{Half, TheVariants.{First, Second}}, StepPoint.StepPoint}
 use Rattle.shm_count.specs.declared.point.StepState.{StepState}
+use Rattle.shm_count.specs.declared.point.StepPoint.TheVariants as point
 
 -- the event of the exchange of a half
 abbrev pub event_of_half : Me → Aim → Spot → Half → Event

@@ -1,12 +1,8 @@
 -- whether the exchange of a count step was made: by its control alone
 use Rattle.std.specs.Prelude.{ℕ, Bool, true, false, ◌==◌}
-use Rattle.shm_count.specs.declared.point.Aim.{Aim}
-use Rattle.shm_count.specs.declared.point.Aim.TheVariants.{Change}
-use Rattle.shm_count.specs.declared.point.Half.{Half}
-use Rattle.shm_count.specs.declared.point.Half.TheVariants.{Second}
-use Rattle.shm_count.specs.declared.point.StepPoint.{StepPoint}
+use Rattle.shm_count.specs.declared.point.{Aim.{Aim, TheVariants.Change}, Half.{Half, TheVariants.Second}}
+use Rattle.shm_count.specs.declared.point.{StepPoint.StepPoint, StepState.StepState}
 use Rattle.shm_count.specs.declared.point.StepPoint.TheVariants as point
-use Rattle.shm_count.specs.declared.point.StepState.{StepState}
 
 -- whether the half is the second one of a change
 abbrev pub is_second : Aim → Half → Bool

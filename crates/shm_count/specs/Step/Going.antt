@@ -1,35 +1,21 @@
 -- a count step goes along its trails: each word step is the next pair of a trail from its point
 use Rattle.std.proofs.Common.{◌≡◌, ◌≢◌, ℕ, zero, suc, refl, sym, ap, ◌∙◌, subst, Bool, true, false, cond, List, [], ◌∷◌, ◌++◌, append_assoc}
-use Rattle.std.specs.List.{filter}
-use Rattle.std.specs.Prelude.{◌==◌, ◌&&◌, not, nat_lt, if◌then◌else◌, Result, Err}
+use Rattle.std.specs.{List.filter, Prelude.{◌==◌, ◌&&◌, not, nat_lt, if◌then◌else◌, Result, Err}}
 use Rattle.shm_words.specs.Headers.{header_of}
-use Rattle.shm_graph.specs.declared.ask.Me.{Me}
-use Rattle.shm_graph.specs.declared.spot.Spot.{Spot}
-use Rattle.shm_graph.specs.declared.memo.Memo.{Memo}
-use Rattle.shm_graph.specs.declared.memo.Seen.{Seen}
-use Rattle.shm_graph.specs.Asks.{Trail, pair}
-use Rattle.shm_graph.specs.Trails.{Answers, Chosen}
-use Rattle.shm_graph.specs.Events.{Event}
+use Rattle.shm_graph.specs.{declared.{ask.Me.Me, spot.Spot.Spot, memo.{Memo.Memo, Seen.Seen}}, Asks.{Trail, pair}}
+use Rattle.shm_graph.specs.{Trails.{Answers, Chosen}, Events.Event, Tells.{is_event, after_all, happens_along}}
 use Rattle.shm_graph.specs.Events as event
-use Rattle.shm_graph.specs.Tells.{is_event, after_all, happens_along}
 use Rattle.shm_graph.proofs.Machines.TellsAlong.{after_all-append, happens_along-append}
-use Rattle.shm_count.specs.declared.answer.UpFault.{UpFault}
-use Rattle.shm_count.specs.declared.answer.UpFault.TheVariants.{EraSpent, CountFull}
-use Rattle.shm_count.specs.declared.point.Aim.{Aim}
-use Rattle.shm_count.specs.declared.point.Aim.TheVariants.{Up, Down, Change}
-use Rattle.shm_count.specs.declared.point.Half.{Half}
-use Rattle.shm_count.specs.declared.point.Half.TheVariants.{First, Second}
-use Rattle.shm_count.specs.declared.point.StepPoint.{StepPoint}
-use Rattle.shm_count.specs.declared.point.StepPoint.TheVariants as point
-use Rattle.shm_count.specs.declared.point.StepState.{StepState}
-use Rattle.shm_count.specs.declared.point.StepNext.{StepNext}
+use Rattle.shm_count.specs.declared.{answer.UpFault.{UpFault, TheVariants.{EraSpent, CountFull}}, point.Aim.Aim}
+use Rattle.shm_count.specs.declared.point.{Aim.TheVariants.{Up, Down, Change}, Half.{Half, TheVariants.{First, Second}}}
+use Rattle.shm_count.specs.declared.point.{StepPoint.StepPoint, StepState.StepState, StepNext.StepNext}
 use Rattle.shm_count.specs.declared.point.StepNext.TheVariants.{Point, Answer}
 use Rattle.shm_count.specs.Step.Control.{last_era, block_at, raises, step_ask, step_ask_at, step_next, step_next_at, header_next, row_next, committed_next, exchange_next, closed_next, point_of, PartFits, PointFits, StepInRange, step_control, first_next}
 use Rattle.shm_count.specs.Step.Asks.{StepTrails, step_trail, point_trail, redo_trail, header_trail, row_trail, show_trail, exchange_trail, set_trail, after_set, again_trail, first_trail, more_trail}
 use Rattle.shm_count.specs.Step.Events.{step_event, step_event_at, step_start, event_of_half, events_before, events_at, own_events}
-use Rattle.shm_count.specs.Step.{CanStep, PointHolds, Gives, StepFits, StepGives}
+use Rattle.shm_count.specs.Step.{CanStep, PointHolds, Gives, StepFits, StepGives, Status.gives_status}
+use Rattle.shm_count.specs.declared.point.StepPoint.TheVariants as point
 use Rattle.shm_calls.specs.Grown.{Grows, grows_now}
-use Rattle.shm_count.specs.Step.Status.{gives_status}
 
 -- ---- trails
 

@@ -1,55 +1,28 @@
 -- the exchange of the header in a half of a count step: it finds the header that was read, or reads another one
 use Rattle.std.proofs.Common.{◌≡◌, ◌≢◌, ℕ, ◌-◌, ◌^◌, ◌<◌, refl, sym, ap, ◌∙◌, subst, arith, Bool, true, false, cond, eqb, inl, inr, ◌⊎◌}
-use Rattle.std.specs.List.{Contains}
 use Rattle.std.proofs.lemmas.Bool.{eq-eqb, ne_eqb, cases_eq}
-use Rattle.shm_words.specs.Headers.{HeaderFits, header_of}
+use Rattle.std.specs.List.{Contains}
+use Rattle.shm_words.specs.{Headers.{HeaderFits, header_of}, declared.geometry.Geometry.Geometry, Layout.GeometryFits}
 use Rattle.shm_words.proofs.Words.{header_word_small, header_of-word, header_fits}
-use Rattle.shm_words.specs.declared.geometry.Geometry.{Geometry}
-use Rattle.shm_words.specs.Layout.{GeometryFits}
-use Rattle.shm_graph.specs.declared.ask.Ask.{Ask}
-use Rattle.shm_graph.specs.declared.ask.Me.{Me}
-use Rattle.shm_graph.specs.declared.spot.Spot.{Spot}
-use Rattle.shm_graph.specs.declared.memo.Memo.{Memo}
-use Rattle.shm_graph.specs.declared.ask.Ask.TheVariants.{Exchange}
+use Rattle.shm_graph.specs.declared.{ask.{Ask.{Ask, TheVariants.Exchange}, Me.Me}, spot.Spot.Spot, memo.Memo.Memo}
+use Rattle.shm_graph.specs.{declared.memo.Op.Op, Laws.{framed, Frame, Stands, KeptAt}, Spots.spot_at, Views.view}
+use Rattle.shm_graph.specs.{Changes.{with_call, called, with_end}, MemoAfterRead.read_on}
+use Rattle.shm_graph.specs.{MemoAfterExchange.{exchanged_on, committed}, Reach.shown, Asks.Trail, Agents.recovers}
+use Rattle.shm_graph.specs.{Blocks.classes, Held.{HeldAt, is_loose}, Core.core}
 use Rattle.shm_graph.specs.declared.spot.Spot.TheVariants as spot
-use Rattle.shm_graph.specs.Laws.{framed, Frame, Stands, KeptAt}
-use Rattle.shm_graph.specs.Spots.{spot_at}
-use Rattle.shm_graph.specs.Views.{view}
-use Rattle.shm_graph.specs.Changes.{with_call, called, with_end}
-use Rattle.shm_graph.specs.MemoAfterRead.{read_on}
-use Rattle.shm_graph.specs.MemoAfterExchange.{exchanged_on, committed}
-use Rattle.shm_graph.specs.Reach.{shown}
-use Rattle.shm_graph.specs.Asks.{Trail}
-use Rattle.shm_graph.specs.Agents.{recovers}
-use Rattle.shm_graph.specs.Blocks.{classes}
-use Rattle.shm_graph.specs.Held.{HeldAt, is_loose}
-use Rattle.shm_steps.specs.Raising.{is_read, IsReparted}
-use Rattle.shm_steps.specs.Reparting.{TableStep, Begins}
-use Rattle.shm_steps.proofs.Partitions.Laws.{begun_reparted}
-use Rattle.shm_graph.specs.declared.memo.Op.{Op}
-use Rattle.shm_steps.proofs.BodyLoads.{header_lost}
-use Rattle.shm_steps.proofs.RaiseBlock.{block_raised}
-use Rattle.shm_steps.proofs.ChangeLowered.{change_lowered}
-use Rattle.shm_steps.proofs.PartsSet.{reparted_unread}
-use Rattle.shm_steps.proofs.LowerBlock.{block_lowered}
-use Rattle.shm_steps.proofs.ChangeRaised.{change_raised}
-use Rattle.shm_steps.proofs.KeptAfter.{kept_going}
-use Rattle.shm_count.specs.declared.point.Half.TheVariants.{First, Second}
-use Rattle.shm_count.specs.declared.point.Aim.TheVariants.{Down, Up, Change}
-use Rattle.shm_count.specs.declared.point.Half.{Half}
-use Rattle.shm_count.specs.declared.point.StepNext.{StepNext}
-use Rattle.shm_count.specs.declared.point.Aim.{Aim}
-use Rattle.shm_count.specs.declared.point.StepPoint.TheVariants as point
-use Rattle.shm_graph.specs.Core.{core}
-use Rattle.shm_count.specs.Step.{begun_op, InHalf, CanStep, HasRead, NextHolds, set_memo, IsShown, IsDyingWord}
 use Rattle.shm_graph.proofs.Memos.MemoSteps.{recovers_on}
-use Rattle.shm_steps.proofs.Cores.{header_core, here_same}
+use Rattle.shm_steps.specs.{Raising.{is_read, IsReparted}, Reparting.{TableStep, Begins}}
+use Rattle.shm_steps.proofs.{Partitions.Laws.begun_reparted, BodyLoads.header_lost, RaiseBlock.block_raised}
+use Rattle.shm_steps.proofs.{ChangeLowered.change_lowered, PartsSet.reparted_unread, LowerBlock.block_lowered}
+use Rattle.shm_steps.proofs.{ChangeRaised.change_raised, KeptAfter.kept_going, Cores.{header_core, here_same}}
+use Rattle.shm_count.specs.declared.point.{Half.{TheVariants.{First, Second}, Half}, Aim.TheVariants.{Down, Up, Change}}
+use Rattle.shm_count.specs.declared.point.{Aim.Aim, StepNext.StepNext}
+use Rattle.shm_count.specs.Step.{begun_op, InHalf, CanStep, HasRead, NextHolds, set_memo, IsShown, IsDyingWord}
 use Rattle.shm_count.specs.Step.Memos.{first_reach, half_same, half_status, half_op}
 use Rattle.shm_count.specs.Step.Control.{value_before, value_after, CountFits, EraFits, header_after, PartFits, block_at, committed_next, header_next, count_after, raises, exchange_next}
-use Rattle.shm_count.specs.Step.Headers.{header_has, header_found, half_block}
-use Rattle.shm_count.specs.Step.Parts.{first_sight}
-use Rattle.shm_count.specs.Step.Cores.{PointKeeps}
+use Rattle.shm_count.specs.Step.{Headers.{header_has, header_found, half_block}, Parts.first_sight, Cores.PointKeeps}
 use Rattle.shm_count.specs.DyingBlocks.{dying_reparted}
+use Rattle.shm_count.specs.declared.point.StepPoint.TheVariants as point
 
 -- ---- the header that the block comes to have
 

@@ -1,39 +1,22 @@
 -- the block of a half is a live block that is counted, and where a count step goes by the header that it read
 use Rattle.std.proofs.Common.{◌≡◌, ◌≢◌, ℕ, ◌<◌, refl, sym, ap, ◌∙◌, subst, arith, Bool, true, false, not, cond, eqb, leb, ◌&&◌, ◌∷◌}
-use Rattle.std.specs.Prelude.{Err}
-use Rattle.std.specs.List.{Contains}
 use Rattle.std.proofs.lemmas.Bool.{eq-eqb, eqb-true, eqb-false, and_parts, and_from, cond-true, true≢false, false≢true}
 use Rattle.std.proofs.lemmas.Bool.Decides.{nat_tests}
-use Rattle.shm_words.specs.Headers.{header_of}
-use Rattle.shm_words.specs.Redos.{first_word}
-use Rattle.shm_graph.specs.declared.ask.Me.{Me}
-use Rattle.shm_graph.specs.declared.spot.Spot.{Spot}
+use Rattle.std.specs.{Prelude.Err, List.Contains}
+use Rattle.shm_words.specs.{Headers.header_of, Redos.first_word}
+use Rattle.shm_graph.specs.declared.{ask.Me.Me, spot.Spot.Spot, memo.{Fact.TheVariants.Header as HeaderRead, Memo.Memo}}
+use Rattle.shm_graph.specs.{declared.memo.Op.Op, Agents.recovers, Blocks.{classes, headers, IsBlock, IsLive}}
+use Rattle.shm_graph.specs.{Held.{HeldAt, OpTie}, Ops.{is_op, slot_of, cover_of, held_over_of}, References.words_of}
+use Rattle.shm_graph.specs.{MemoAfterRead.{op_refused, raised_by, is_held}, Views.view, Core.core}
 use Rattle.shm_graph.specs.declared.spot.Spot.TheVariants as spot
-use Rattle.shm_graph.specs.declared.memo.Fact.TheVariants.{Header as HeaderRead}
-use Rattle.shm_graph.specs.declared.memo.Memo.{Memo}
-use Rattle.shm_graph.specs.declared.memo.Op.{Op}
 use Rattle.shm_graph.specs.declared.memo.Op.TheVariants as op
-use Rattle.shm_graph.specs.Agents.{recovers}
-use Rattle.shm_graph.specs.Blocks.{classes, headers, IsBlock, IsLive}
-use Rattle.shm_graph.specs.Held.{HeldAt, OpTie}
-use Rattle.shm_graph.specs.Ops.{is_op, slot_of, cover_of, held_over_of}
-use Rattle.shm_graph.specs.References.{words_of}
-use Rattle.shm_graph.specs.MemoAfterRead.{op_refused, raised_by, is_held}
-use Rattle.shm_graph.specs.Views.{view}
 use Rattle.shm_graph.proofs.States.Holders.{Holds, target_counted, held_over_counted, reach_counted}
-use Rattle.shm_graph.proofs.StepKinds.Loads.{choice}
-use Rattle.shm_graph.proofs.States.Reached.{reached_here}
-use Rattle.shm_graph.proofs.Spots.Spotting.{in_pool}
+use Rattle.shm_graph.proofs.{States.Reached.reached_here, StepKinds.Loads.choice, Spots.Spotting.in_pool}
 use Rattle.shm_steps.proofs.BeginAt.{quiet_target}
-use Rattle.shm_count.specs.declared.answer.UpFault.TheVariants.{CountFull}
-use Rattle.shm_count.specs.declared.point.Aim.{Aim}
-use Rattle.shm_count.specs.declared.point.Aim.TheVariants.{Up, Down, Change}
-use Rattle.shm_count.specs.declared.point.Half.{Half}
-use Rattle.shm_count.specs.declared.point.Half.TheVariants.{First, Second}
-use Rattle.shm_count.specs.declared.point.StepPoint.TheVariants.{Exchange, Row}
-use Rattle.shm_count.specs.declared.point.StepNext.TheVariants.{Point, Answer}
+use Rattle.shm_count.specs.declared.{answer.UpFault.TheVariants.CountFull, point.Aim.Aim}
+use Rattle.shm_count.specs.declared.point.{Aim.TheVariants.{Up, Down, Change}, Half.{Half, TheVariants.{First, Second}}}
+use Rattle.shm_count.specs.declared.point.{StepPoint.TheVariants.{Exchange, Row}, StepNext.TheVariants.{Point, Answer}}
 use Rattle.shm_count.specs.Step.Control.{block_at, raises, redo_at, header_next, EraFits, PartFits}
-use Rattle.shm_graph.specs.Core.{core}
 use Rattle.shm_count.specs.Step.{CanStep, begun_op, op_of, Rows, HasRead, InHalf, Refused, NextHolds}
 use Rattle.shm_count.specs.Step.Memos.{rows_same, rows_then, half_same, begun_quiet, first_reach, half_op}
 

@@ -1,27 +1,16 @@
 -- each word step of a count step keeps the invariant, and its memo fits again or holds what is answered
-use Rattle.std.proofs.Common.{true, ◌≡◌, ◌≢◌, ℕ, refl, false, [], ◌∷◌, ◌++◌}
-use Rattle.std.proofs.lemmas.Bool.{true≢false}
-use Rattle.shm_graph.specs.declared.ask.Me.{Me}
-use Rattle.shm_graph.specs.declared.spot.Spot.{Spot}
-use Rattle.shm_graph.specs.declared.memo.Memo.{Memo}
-use Rattle.shm_graph.specs.Spots.{spot_at}
-use Rattle.shm_graph.specs.Blocks.{classes}
-use Rattle.shm_graph.specs.Asks.{Trail, at_of, pair, seen_of}
-use Rattle.shm_graph.specs.Laws.{Keeps, Then, Frame, Stands, KeptAt, Outcome}
+use Rattle.std.proofs.{Common.{true, ◌≡◌, ◌≢◌, ℕ, refl, false, [], ◌∷◌, ◌++◌}, lemmas.Bool.true≢false}
+use Rattle.shm_graph.specs.{declared.{ask.Me.Me, spot.Spot.Spot, memo.Memo.Memo}, Spots.spot_at, Blocks.classes}
+use Rattle.shm_graph.specs.{Asks.{Trail, at_of, pair, seen_of}, Laws.{Keeps, Then, Frame, Stands, KeptAt, Outcome}}
 use Rattle.shm_graph.proofs.StepKinds.KindKeeping.{not_fresh}
-use Rattle.shm_count.specs.declared.point.Aim.{Aim}
-use Rattle.shm_count.specs.declared.point.StepPoint.{StepPoint}
+use Rattle.shm_count.specs.declared.point.{Aim.Aim, StepPoint.StepPoint}
 use Rattle.shm_count.specs.declared.point.StepPoint.TheVariants.{Era, Redo, More, Load, Row, Show, Exchange, Slot, Close, Over}
-use Rattle.shm_count.specs.declared.point.StepState.{StepState}
-use Rattle.shm_count.specs.declared.point.StepNext.{StepNext}
-use Rattle.shm_count.specs.declared.point.StepNext.TheVariants.{Point, Answer}
+use Rattle.shm_count.specs.declared.point.{StepState.StepState, StepNext.{StepNext, TheVariants.{Point, Answer}}}
 use Rattle.shm_count.specs.Step.Control.{step_ask, step_ask_at, step_next, step_next_at, point_of, answer_of, is_over, step_control, PointFits}
-use Rattle.shm_count.specs.Step.{CanStep, PointHolds, NextHolds, StepFits, StepGives}
-use Rattle.shm_count.specs.Step.Ranges.{knows_after}
+use Rattle.shm_count.specs.Step.{CanStep, PointHolds, NextHolds, StepFits, StepGives, Ranges.knows_after}
 use Rattle.shm_count.specs.Step.Going.{fits_goes, gives_ends}
 use Rattle.shm_count.specs.Step.BeforeExchange.{era_step, more_step, redo_step, load_step, row_step, show_step}
-use Rattle.shm_count.specs.Step.HalfExchange.{exchange_step}
-use Rattle.shm_count.specs.Step.Committing.{slot_step, close_step}
+use Rattle.shm_count.specs.Step.{HalfExchange.exchange_step, Committing.{slot_step, close_step}}
 use Rattle.shm_calls.specs.Grown.{Grows, grows_more}
 
 -- the step at a point

@@ -1,22 +1,14 @@
 -- the machines of count steps: their controls, when each fits, what it gives, and its laws
-use Rattle.std.proofs.Common.{◌≡◌, ℕ, Bool, true, false, refl, sym, ap, ◌∙◌, subst}
+use Rattle.std.proofs.{Common.{◌≡◌, ℕ, Bool, true, false, refl, sym, ap, ◌∙◌, subst}, lemmas.Bool.true≢false}
 use Rattle.std.specs.Prelude.{Result, Ok, Err}
-use Rattle.std.proofs.lemmas.Bool.{true≢false}
-use Rattle.shm_graph.specs.declared.ask.Me.{Me}
-use Rattle.shm_graph.specs.declared.spot.Spot.{Spot}
-use Rattle.shm_graph.specs.declared.memo.Memo.{Memo}
-use Rattle.shm_graph.specs.Asks.{Trail}
+use Rattle.shm_graph.specs.{declared.{ask.Me.Me, spot.Spot.Spot, memo.Memo.Memo}, Asks.Trail}
 use Rattle.shm_graph.specs.Laws.{Control, Laws, Keeps}
 use Rattle.shm_graph.specs.Mapped.{mapped, SomeFits, SomeGives, AmongFits, AmongGives, mapped_laws, some_laws, among_laws}
-use Rattle.shm_count.specs.declared.answer.EraSpent.{EraSpent}
-use Rattle.shm_count.specs.declared.answer.UpFault.{UpFault}
-use Rattle.shm_count.specs.declared.answer.UpFault.TheVariants as fault
-use Rattle.shm_count.specs.declared.point.Aim.{Aim}
-use Rattle.shm_count.specs.declared.point.Aim.TheVariants.{Up, Down, Change}
-use Rattle.shm_count.specs.declared.point.StepState.{StepState}
-use Rattle.shm_count.specs.Step.Control.{step_control, spent}
-use Rattle.shm_count.specs.Step.{StepFits, StepGives, Done, Refused}
+use Rattle.shm_count.specs.declared.{answer.{EraSpent.EraSpent, UpFault.UpFault}, point.Aim.Aim}
+use Rattle.shm_count.specs.declared.point.{Aim.TheVariants.{Up, Down, Change}, StepState.StepState}
+use Rattle.shm_count.specs.Step.{Control.{step_control, spent}, StepFits, StepGives, Done, Refused}
 use Rattle.shm_count.specs.Step.Laws.{step_steady, step_inside, step_back}
+use Rattle.shm_count.specs.declared.answer.UpFault.TheVariants as fault
 
 -- ---- which of the three it is
 

@@ -1,32 +1,21 @@
 -- what the memo shows on the way of a count step: what stays where a word is read, where a row is raised, and in each half
 use Rattle.std.proofs.Common.{◌≡◌, ◌≢◌, ℕ, ◌+◌, ◌-◌, ◌^◌, ◌≤◌, refl, sym, ap, ◌∙◌, subst, arith, true, false, not, cond, List}
-use Rattle.std.specs.List.{Contains}
 use Rattle.std.proofs.lemmas.Bool.{eq-eqb, ne_eqb, and_from, cond-true, true≢false}
-use Rattle.shm_graph.specs.declared.ask.Me.{Me}
-use Rattle.shm_graph.specs.declared.spot.Spot.{Spot}
-use Rattle.shm_graph.specs.declared.spot.Spot.TheVariants as spot
-use Rattle.shm_graph.specs.declared.memo.Fact.TheVariants.{Header as HeaderRead}
-use Rattle.shm_graph.specs.declared.memo.ChangeStage.TheVariants.{Lowering}
-use Rattle.shm_graph.specs.declared.memo.Second.TheVariants.{Open}
-use Rattle.shm_graph.specs.declared.memo.Memo.{Memo}
-use Rattle.shm_graph.specs.declared.memo.Op.{Op}
-use Rattle.shm_graph.specs.declared.memo.Op.TheVariants as op
-use Rattle.shm_graph.specs.declared.memo.Stored.{Stored}
-use Rattle.shm_graph.specs.Ops.{Quiet, cover, cover_of}
-use Rattle.shm_graph.specs.Reach.{shown, is_reached, learnt}
-use Rattle.shm_graph.specs.Spots.{same_spot}
+use Rattle.std.specs.List.{Contains}
+use Rattle.shm_graph.specs.declared.{ask.Me.Me, spot.Spot.Spot, memo.Fact.TheVariants.Header as HeaderRead}
+use Rattle.shm_graph.specs.declared.memo.{ChangeStage.TheVariants.Lowering, Second.TheVariants.Open, Memo.Memo, Op.Op}
+use Rattle.shm_graph.specs.{declared.memo.Stored.Stored, Ops.{Quiet, cover, cover_of}}
+use Rattle.shm_graph.specs.{Reach.{shown, is_reached, learnt}, Spots.same_spot}
 use Rattle.shm_graph.specs.MemoAfterStore.{with_own, written, op_closed, is_lowering, without_looks, era_stored, making_with}
-use Rattle.shm_graph.specs.Views.{own_word}
-use Rattle.shm_graph.proofs.StepKinds.Loads.{choice}
-use Rattle.shm_graph.proofs.Spots.Spotting.{same_spot_self, same_spot_is, same_spot_not}
+use Rattle.shm_graph.specs.{Views.own_word, Core.core}
+use Rattle.shm_graph.specs.declared.spot.Spot.TheVariants as spot
+use Rattle.shm_graph.specs.declared.memo.Op.TheVariants as op
+use Rattle.shm_graph.proofs.{StepKinds.Loads.choice, Spots.Spotting.{same_spot_self, same_spot_is, same_spot_not}}
 use Rattle.shm_words.specs.Redos.{first_word}
 use Rattle.shm_steps.proofs.Cores.{reach_same}
-use Rattle.shm_count.specs.declared.point.Aim.{Aim}
-use Rattle.shm_count.specs.declared.point.Aim.TheVariants.{Up, Down, Change}
-use Rattle.shm_count.specs.declared.point.Half.{Half}
+use Rattle.shm_count.specs.declared.point.{Aim.{Aim, TheVariants.{Up, Down, Change}}, Half.Half}
 use Rattle.shm_count.specs.declared.point.Half.TheVariants.{First, Second}
 use Rattle.shm_count.specs.Step.Control.{last_era, redo_at, EraFits, PartFits}
-use Rattle.shm_graph.specs.Core.{core}
 use Rattle.shm_count.specs.Step.{CanChange, CanStep, begun_op, op_of, is_row, Rows, begun, AtFirst, set_memo, slot_memo, closed_memo, HasRead, InHalf}
 
 -- ---- rows

@@ -1,41 +1,23 @@
 -- what a count step leaves of the memo's partition and of its map, and what a step up leaves at a word of a block
 use Rattle.std.proofs.Common.{◌≡◌, ℕ, ◌+◌, ◌≤◌, refl, sym, ap, ◌∙◌, subst, arith, Bool, true, false, not, cond, eqb, ◌&&◌, Option, List, [], ◌∷◌}
 use Rattle.std.proofs.lemmas.Bool.{eq-eqb, ne_eqb, eqb-false, cond-true, not-true}
-use Rattle.shm_words.specs.Redos.{first_word}
-use Rattle.shm_words.specs.Headers.{header_of}
-use Rattle.shm_graph.specs.declared.ask.Me.{Me}
-use Rattle.shm_graph.specs.declared.spot.Spot.{Spot}
+use Rattle.shm_words.specs.{Redos.first_word, Headers.header_of}
+use Rattle.shm_graph.specs.declared.{ask.Me.Me, spot.Spot.Spot, memo.{Memo.Memo, First.TheVariants.Committed}}
+use Rattle.shm_graph.specs.declared.memo.{Stored.Stored, Op.Op, Status.Status as AStatus, Making.Making}
+use Rattle.shm_graph.specs.{declared.table.{Part.Part as TablePart, Entry.Entry}, Chains.part_set}
+use Rattle.shm_graph.specs.{MemoAfterExchange.{reparted, cut, without_made}, Ops.{On, cover, is_op, slot_of}}
+use Rattle.shm_graph.specs.{Reach.{sifted, learnt}, Spots.same_spot}
+use Rattle.shm_graph.specs.{MemoAfterStore.{written, making_with, with_own, era_stored}, Views.own_word, Core.core}
 use Rattle.shm_graph.specs.declared.spot.Spot.TheVariants as spot
-use Rattle.shm_graph.specs.declared.memo.Memo.{Memo}
-use Rattle.shm_graph.specs.declared.memo.First.TheVariants.{Committed}
 use Rattle.shm_graph.specs.declared.memo.Op.TheVariants as op
-use Rattle.shm_graph.specs.declared.table.Part.{Part as TablePart}
-use Rattle.shm_graph.specs.Chains.{part_set}
-use Rattle.shm_graph.specs.MemoAfterExchange.{reparted, cut, without_made}
-use Rattle.shm_graph.specs.Ops.{On, cover, is_op, slot_of}
-use Rattle.shm_graph.specs.Reach.{sifted, learnt}
-use Rattle.shm_graph.specs.Spots.{same_spot}
-use Rattle.shm_graph.specs.MemoAfterStore.{written, making_with, with_own, era_stored}
-use Rattle.shm_graph.specs.declared.memo.Stored.{Stored}
-use Rattle.shm_graph.specs.declared.memo.Op.{Op}
-use Rattle.shm_graph.proofs.Spots.Spotting.{same_spot_is}
-use Rattle.shm_graph.specs.Views.{own_word}
-use Rattle.shm_graph.proofs.StepKinds.Loads.{choice}
+use Rattle.shm_graph.proofs.{Spots.Spotting.same_spot_is, StepKinds.Loads.choice}
 use Rattle.shm_steps.specs.Reparting.{Sight, sight, link_after}
-use Rattle.shm_graph.specs.declared.table.Entry.{Entry}
-use Rattle.shm_steps.proofs.MemoCommits.{known_lowered, lowered_is}
+use Rattle.shm_steps.proofs.{MemoCommits.{known_lowered, lowered_is}, Cores.{body_word, HasSlot}}
 use Rattle.shm_laws.specs.HeaderExchanges.{dying_after}
-use Rattle.shm_count.specs.declared.point.Aim.{Aim}
-use Rattle.shm_count.specs.declared.point.Aim.TheVariants.{Up, Down, Change}
-use Rattle.shm_count.specs.declared.point.Half.TheVariants.{First}
-use Rattle.shm_count.specs.Step.Control.{redo_at, value_after, header_after}
-use Rattle.shm_steps.proofs.Cores.{body_word, HasSlot}
-use Rattle.shm_count.specs.Step.Cores.{is_set}
-use Rattle.shm_graph.specs.declared.memo.Status.{Status as AStatus}
-use Rattle.shm_graph.specs.declared.memo.Making.{Making}
-use Rattle.shm_count.specs.Tear.Memos.{is_lasting}
-use Rattle.shm_graph.specs.Core.{core}
+use Rattle.shm_count.specs.declared.point.{Aim.{Aim, TheVariants.{Up, Down, Change}}, Half.TheVariants.First}
+use Rattle.shm_count.specs.Step.{Control.{redo_at, value_after, header_after}, Cores.is_set}
 use Rattle.shm_count.specs.Step.{AtFirst, Done, is_row, begun, set_memo, slot_memo, closed_memo}
+use Rattle.shm_count.specs.Tear.Memos.{is_lasting}
 
 -- the partition after a step at a word, as the memo's change computes it
 abbrev pub part_after : ℕ → Sight → Spot → ℕ → TablePart

@@ -1,18 +1,12 @@
 -- what the control of a count step keeps in range, it keeps there
 use Rattle.std.proofs.Common.{◌≡◌, ◌≢◌, ℕ, ◌-◌, ◌^◌, ◌==◌, ◌&&◌, nat_lt, if◌then◌else◌, Bool, true, false, subst, sym, arith, refl}
-use Rattle.std.proofs.lemmas.Bool.{true≢false}
-use Rattle.std.proofs.lemmas.Bool.Decides.{nat_tests}
+use Rattle.std.proofs.lemmas.Bool.{true≢false, Decides.nat_tests}
 use Rattle.shm_words.specs.Headers.{header_of}
 use Rattle.shm_graph.specs.declared.ask.Me.{Me}
-use Rattle.shm_count.specs.declared.point.Aim.{Aim}
-use Rattle.shm_count.specs.declared.point.Aim.TheVariants.{Up, Down, Change}
-use Rattle.shm_count.specs.declared.point.Half.{Half}
-use Rattle.shm_count.specs.declared.point.Half.TheVariants.{First, Second}
-use Rattle.shm_count.specs.declared.point.StepPoint.{StepPoint}
+use Rattle.shm_count.specs.declared.point.{Aim.{Aim, TheVariants.{Up, Down, Change}}, Half.Half}
+use Rattle.shm_count.specs.declared.point.{Half.TheVariants.{First, Second}, StepPoint.StepPoint}
 use Rattle.shm_count.specs.declared.point.StepPoint.TheVariants.{Era, More, Redo, Load, Row, Show, Exchange, Slot, Close, Over}
-use Rattle.shm_count.specs.declared.point.StepState.{StepState}
-use Rattle.shm_count.specs.declared.point.StepNext.{StepNext}
-use Rattle.shm_count.specs.declared.point.StepNext.TheVariants.{Point, Answer}
+use Rattle.shm_count.specs.declared.point.{StepState.StepState, StepNext.{StepNext, TheVariants.{Point, Answer}}}
 use Rattle.shm_count.specs.Step.Control.{point_of, raises, era_next, header_next, row_next, committed_next, closed_next, step_next_at, step_next, PartFits, EraFits, PointFits, StepInRange, first_next}
 
 -- where it goes on, the point is in range

@@ -2,35 +2,22 @@
 use Rattle.std.proofs.Common.{◌≡◌, ℕ, ◌≤◌, refl, ap, ◌∙◌, arith, Bool, eqb, ltb, ◌&&◌}
 use Rattle.std.specs.Prelude.{◌==◌, if◌then◌else◌, Result, Ok, Err}
 use Rattle.shm_words.specs.Headers.{header_of}
-use Rattle.shm_graph.specs.declared.ask.Me.{Me}
-use Rattle.shm_graph.specs.declared.spot.Spot.{Spot}
-use Rattle.shm_graph.specs.declared.spot.Spot.TheVariants as spot
-use Rattle.shm_graph.specs.declared.memo.First.TheVariants.{Committed}
-use Rattle.shm_graph.specs.declared.memo.Second.TheVariants.{Closed}
-use Rattle.shm_graph.specs.declared.memo.ChangeStage.TheVariants.{Lowering}
-use Rattle.shm_graph.specs.declared.memo.Memo.{Memo}
-use Rattle.shm_graph.specs.declared.memo.Op.TheVariants as op
+use Rattle.shm_graph.specs.declared.{ask.Me.Me, spot.Spot.Spot, memo.First.TheVariants.Committed}
+use Rattle.shm_graph.specs.declared.memo.{Second.TheVariants.Closed, ChangeStage.TheVariants.Lowering, Memo.Memo}
 use Rattle.shm_graph.specs.MemoAfterExchange.{cut, reparted, with_unsent, with_untaken, without_made}
-use Rattle.shm_graph.specs.Ops.{is_op, slot_of}
-use Rattle.shm_graph.specs.Reach.{learnt}
-use Rattle.shm_graph.specs.Spots.{same_spot}
-use Rattle.shm_graph.specs.MemoAfterStore.{making_with, written}
+use Rattle.shm_graph.specs.{Ops.{is_op, slot_of}, Reach.learnt, Spots.same_spot, MemoAfterStore.{making_with, written}}
 use Rattle.shm_graph.specs.Views.{own_word}
+use Rattle.shm_graph.specs.declared.spot.Spot.TheVariants as spot
+use Rattle.shm_graph.specs.declared.memo.Op.TheVariants as op
 use Rattle.shm_graph.proofs.StepKinds.Loads.{choice}
 use Rattle.shm_steps.proofs.MemoCommits.{lowered_is, with_unsent_is, with_untaken_is}
-use Rattle.shm_count.specs.declared.answer.UpFault.{UpFault}
-use Rattle.shm_count.specs.declared.answer.UpFault.TheVariants.{EraSpent, CountFull}
-use Rattle.shm_count.specs.declared.point.Aim.{Aim}
-use Rattle.shm_count.specs.declared.point.Aim.TheVariants.{Up, Down, Change}
-use Rattle.shm_count.specs.declared.point.Half.{Half}
-use Rattle.shm_count.specs.declared.point.Half.TheVariants.{First, Second}
-use Rattle.shm_count.specs.declared.point.StepPoint.{StepPoint}
-use Rattle.shm_count.specs.declared.point.StepPoint.TheVariants as point
-use Rattle.shm_count.specs.declared.point.StepNext.{StepNext}
-use Rattle.shm_count.specs.declared.point.StepNext.TheVariants.{Point, Answer}
+use Rattle.shm_count.specs.declared.{answer.UpFault.{UpFault, TheVariants.{EraSpent, CountFull}}, point.Aim.Aim}
+use Rattle.shm_count.specs.declared.point.{Aim.TheVariants.{Up, Down, Change}, Half.{Half, TheVariants.{First, Second}}}
+use Rattle.shm_count.specs.declared.point.{StepPoint.StepPoint, StepNext.{StepNext, TheVariants.{Point, Answer}}}
 use Rattle.shm_count.specs.Step.Control.{PointFits, block_at, committed_next, header_after, header_next, last_era, raises, step_next_at, value_after, first_next}
 use Rattle.shm_count.specs.Step.{CanAim, CanStep, Done, Gives, PointHas, Refused, set_memo, slot_memo}
 use Rattle.shm_count.specs.Step.Memos.{closed_part}
+use Rattle.shm_count.specs.declared.point.StepPoint.TheVariants as point
 
 -- ---- the memos of a step
 

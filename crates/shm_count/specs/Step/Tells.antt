@@ -3,35 +3,19 @@ use Rattle.std.proofs.Common.{◌≡◌, ℕ, refl, sym, ap, ◌∙◌, subst, f
 use Rattle.std.proofs.lemmas.Bool.{true≢false, and_from, lt-ltb}
 use Rattle.shm_words.specs.Headers.{header_of}
 use Rattle.shm_words.specs.declared.place.Place.TheVariants as place
-use Rattle.shm_graph.specs.declared.ask.Ask.{Ask}
-use Rattle.shm_graph.specs.declared.ask.Me.{Me}
-use Rattle.shm_graph.specs.declared.spot.Spot.{Spot}
-use Rattle.shm_graph.specs.declared.memo.Memo.{Memo}
-use Rattle.shm_graph.specs.declared.memo.Step.{Step}
-use Rattle.shm_graph.specs.declared.ask.Ask.TheVariants.{Store, Load, Exchange}
+use Rattle.shm_graph.specs.declared.{ask.{Ask.{Ask, TheVariants.{Store, Load, Exchange}}, Me.Me}, spot.Spot.Spot}
+use Rattle.shm_graph.specs.{declared.memo.{Memo.Memo, Step.Step}, Events.Nothing}
+use Rattle.shm_graph.specs.{Laws.{event_by, event_on, event_of, framed, Stands, Frame}, Tells.Tells, Spots.spot_at}
+use Rattle.shm_graph.specs.{Asks.{at_of, Trail, seen_of}, Blocks.classes}
 use Rattle.shm_graph.specs.declared.spot.Spot.TheVariants as spot
-use Rattle.shm_graph.specs.Events.{Nothing}
-use Rattle.shm_graph.specs.Laws.{event_by, event_on, event_of, framed, Stands, Frame}
-use Rattle.shm_graph.specs.Tells.{Tells}
-use Rattle.shm_graph.specs.Spots.{spot_at}
-use Rattle.shm_graph.specs.Asks.{at_of, Trail, seen_of}
-use Rattle.shm_graph.specs.Blocks.{classes}
-use Rattle.shm_graph.proofs.Memos.LoadTold.{is_head}
-use Rattle.shm_graph.proofs.Spots.SpotPlaces.{spot-place}
-use Rattle.shm_count.specs.declared.point.Half.{Half}
-use Rattle.shm_count.specs.declared.point.StepPoint.{StepPoint}
-use Rattle.shm_count.specs.declared.point.Aim.TheVariants.{Up, Change, Down}
-use Rattle.shm_count.specs.declared.point.Aim.{Aim}
-use Rattle.shm_count.specs.declared.point.Half.TheVariants.{Second, First}
-use Rattle.shm_count.specs.declared.point.StepPoint.TheVariants as point
+use Rattle.shm_graph.proofs.{Memos.LoadTold.is_head, Spots.SpotPlaces.spot-place}
+use Rattle.shm_count.specs.declared.point.{Half.{Half, TheVariants.{Second, First}}, StepPoint.StepPoint}
+use Rattle.shm_count.specs.declared.point.Aim.{TheVariants.{Up, Change, Down}, Aim}
 use Rattle.shm_count.specs.Step.Control.{step_control, is_over, PartFits, block_at, PointFits, step_ask_at}
 use Rattle.shm_count.specs.Step.Events.{event_of_half, step_event_at, step_event}
-use Rattle.shm_count.specs.Step.{StepFits, CanStep, PointHolds, op_of}
-use Rattle.shm_count.specs.Step.Memos.{half_op}
-use Rattle.shm_count.specs.Step.Committing.{slot_set}
-use Rattle.shm_count.specs.Step.Cores.{IsStepSlot}
-use Rattle.shm_count.specs.Step.BeforeExchange.{row_spot}
-use Rattle.shm_count.specs.Step.Headers.{half_block}
+use Rattle.shm_count.specs.Step.{StepFits, CanStep, PointHolds, op_of, Memos.half_op, Committing.slot_set}
+use Rattle.shm_count.specs.Step.{Cores.IsStepSlot, BeforeExchange.row_spot, Headers.half_block}
+use Rattle.shm_count.specs.declared.point.StepPoint.TheVariants as point
 
 -- a step at another word than a header is no event
 elsewhere : (m : Memo) (t : Step) (a : Ask) (p q : Spot) → p ≡ q → is_head q ≡ false → event_by m t a p ≡ Nothing

@@ -1,21 +1,13 @@
 -- what a tear-down asks, and what it answers
 use Rattle.std.specs.Prelude.{ℕ, zero, suc, ◌+◌, ◌%◌, Bool, true, false, ◌==◌, nat_lt, Result, Ok, Err}
-use Rattle.shm_words.specs.declared.tag.Tag.{Tag as ATag}
-use Rattle.shm_words.specs.Tags.{tag_word}
-use Rattle.shm_words.specs.Layout.{address_limit}
-use Rattle.shm_graph.specs.declared.ask.Ask.TheVariants.{Load, Store}
-use Rattle.shm_graph.specs.declared.ask.Me.{Me}
-use Rattle.shm_graph.specs.Asks.{Trail}
+use Rattle.shm_words.specs.{declared.tag.Tag.Tag as ATag, Tags.tag_word, Layout.address_limit}
+use Rattle.shm_graph.specs.{declared.ask.{Ask.TheVariants.{Load, Store}, Me.Me}, Asks.Trail}
 use Rattle.shm_graph.specs.Trails.{Answers, Asked, Chosen, Joined}
-use Rattle.shm_count.specs.declared.answer.EraSpent.{EraSpent}
-use Rattle.shm_count.specs.declared.answer.UpFault.{UpFault}
-use Rattle.shm_count.specs.declared.point.Aim.TheVariants.{Down}
-use Rattle.shm_count.specs.declared.tear_point.TearPoint.{TearPoint}
-use Rattle.shm_count.specs.declared.tear_point.TearPoint.TheVariants as point
-use Rattle.shm_count.specs.Step.Asks.{step_trail}
-use Rattle.shm_count.specs.Step.Asks as steps
-use Rattle.shm_count.specs.Step.Control.{spent}
+use Rattle.shm_count.specs.declared.{answer.{EraSpent.EraSpent, UpFault.UpFault}, point.Aim.TheVariants.Down}
+use Rattle.shm_count.specs.{declared.tear_point.TearPoint.TearPoint, Step.{Asks.step_trail, Control.spent}}
 use Rattle.shm_count.specs.Tear.Control.{tag_read, word_address, relinked}
+use Rattle.shm_count.specs.declared.tear_point.TearPoint.TheVariants as point
+use Rattle.shm_count.specs.Step.Asks as steps
 
 -- the trails of a tear-down, each with its answer
 abbrev pub TearTrails : Type 1

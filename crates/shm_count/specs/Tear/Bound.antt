@@ -1,30 +1,20 @@
 -- how many word steps a tear-down makes: each one is paid for, by what was due or left, by an exchange that failed, or by a step down that is being made
 use Rattle.std.proofs.Common.{◌≡◌, ℕ, ◌+◌, ◌-◌, ◌*◌, ◌<◌, ◌≤◌, ap, arith, Bool, true, false, List, [], ◌∷◌, ◌++◌, length}
-use Rattle.std.specs.Prelude.{◌==◌, if◌then◌else◌, nat_lt, Result, Err}
 use Rattle.std.proofs.lemmas.List.{length-append}
-use Rattle.shm_words.specs.declared.tag.Tag.{Tag as ATag}
-use Rattle.shm_words.specs.Headers.{header_of}
-use Rattle.shm_graph.specs.declared.ask.Me.{Me}
-use Rattle.shm_graph.specs.declared.memo.Seen.{Seen}
-use Rattle.shm_graph.specs.Asks.{Trail, pair, failed_by, failed, IsWithin}
-use Rattle.shm_graph.specs.Events.{Event}
-use Rattle.shm_graph.specs.Bounds.{redo_steps, tear_steps}
+use Rattle.std.specs.Prelude.{◌==◌, if◌then◌else◌, nat_lt, Result, Err}
+use Rattle.shm_words.specs.{declared.tag.Tag.Tag as ATag, Headers.header_of}
+use Rattle.shm_graph.specs.{declared.{ask.Me.Me, memo.Seen.Seen}, Asks.{Trail, pair, failed_by, failed, IsWithin}}
+use Rattle.shm_graph.specs.{Events.Event, Bounds.{redo_steps, tear_steps}}
 use Rattle.shm_graph.proofs.StepKinds.Loads.{choice}
-use Rattle.shm_count.specs.declared.answer.UpFault.{UpFault}
+use Rattle.shm_count.specs.declared.{answer.UpFault.UpFault, point.Half.{Half, TheVariants.{First, Second}}}
+use Rattle.shm_count.specs.declared.{point.{StepPoint.StepPoint, StepNext.StepNext}, tear_point.TearPoint.TearPoint}
+use Rattle.shm_count.specs.Step.Control.{step_ask_at, step_next_at, first_next, header_next, committed_next, last_era, is_over}
+use Rattle.shm_count.specs.Tear.{Control.word_or_free, Events.{Visit, frees}, due_at, steps_before, done_at, IsPaid}
 use Rattle.shm_count.specs.declared.answer.UpFault.TheVariants as fault
 use Rattle.shm_count.specs.declared.point.Aim.TheVariants as aims
-use Rattle.shm_count.specs.declared.point.Half.{Half}
-use Rattle.shm_count.specs.declared.point.Half.TheVariants.{First, Second}
-use Rattle.shm_count.specs.declared.point.StepPoint.{StepPoint}
 use Rattle.shm_count.specs.declared.point.StepPoint.TheVariants as step
-use Rattle.shm_count.specs.declared.point.StepNext.{StepNext}
 use Rattle.shm_count.specs.declared.point.StepNext.TheVariants as next
-use Rattle.shm_count.specs.declared.tear_point.TearPoint.{TearPoint}
 use Rattle.shm_count.specs.declared.tear_point.TearPoint.TheVariants as point
-use Rattle.shm_count.specs.Step.Control.{step_ask_at, step_next_at, first_next, header_next, committed_next, last_era, is_over}
-use Rattle.shm_count.specs.Tear.Control.{word_or_free}
-use Rattle.shm_count.specs.Tear.Events.{Visit, frees}
-use Rattle.shm_count.specs.Tear.{due_at, steps_before, done_at, IsPaid}
 
 -- ---- trails
 

@@ -1,26 +1,16 @@
 -- the control of a tear-down: which word it asks for, and where it goes by the word found
 use Rattle.std.specs.Prelude.{ℕ, ◌+◌, ◌%◌, ◌<◌, Bool, true, false, ◌==◌, nat_lt, if◌then◌else◌, Option, Some, None, Result, Ok, Err, []}
-use Rattle.shm_words.specs.declared.tag.Tag.{Tag as ATag}
-use Rattle.shm_words.specs.Layout.{GeometryFits, address_limit, place_limit}
+use Rattle.shm_words.specs.{declared.tag.Tag.Tag as ATag, Layout.{GeometryFits, address_limit, place_limit}}
 use Rattle.shm_words.specs.Tags.{tag_word, tag_of, TagFits}
-use Rattle.shm_graph.specs.declared.ask.Ask.{Ask}
-use Rattle.shm_graph.specs.declared.ask.Ask.TheVariants.{Load, Store}
-use Rattle.shm_graph.specs.declared.ask.Me.{Me}
-use Rattle.shm_graph.specs.Laws.{Control}
-use Rattle.shm_count.specs.declared.answer.EraSpent.{EraSpent}
-use Rattle.shm_count.specs.declared.answer.UpFault.{UpFault}
-use Rattle.shm_count.specs.declared.point.Aim.TheVariants as aims
-use Rattle.shm_count.specs.declared.point.StepPoint.{StepPoint}
-use Rattle.shm_count.specs.declared.point.StepPoint.TheVariants as step
-use Rattle.shm_count.specs.declared.point.StepState.{StepState}
-use Rattle.shm_count.specs.declared.point.StepNext.{StepNext}
-use Rattle.shm_count.specs.declared.point.StepNext.TheVariants as next
-use Rattle.shm_count.specs.declared.tear_point.TearPoint.{TearPoint}
-use Rattle.shm_count.specs.declared.tear_point.TearPoint.TheVariants as point
-use Rattle.shm_count.specs.declared.tear_point.TearState.{TearState}
-use Rattle.shm_count.specs.declared.tear_point.TearNext.{TearNext}
-use Rattle.shm_count.specs.declared.tear_point.TearNext.TheVariants.{Go, Answer}
+use Rattle.shm_graph.specs.{declared.ask.{Ask.{Ask, TheVariants.{Load, Store}}, Me.Me}, Laws.Control}
+use Rattle.shm_count.specs.declared.{answer.{EraSpent.EraSpent, UpFault.UpFault}, point.StepPoint.StepPoint}
+use Rattle.shm_count.specs.declared.{point.{StepState.StepState, StepNext.StepNext}, tear_point.TearPoint.TearPoint}
+use Rattle.shm_count.specs.declared.tear_point.{TearState.TearState, TearNext.{TearNext, TheVariants.{Go, Answer}}}
 use Rattle.shm_count.specs.Step.Control.{PointFits, step_ask, step_next, spent}
+use Rattle.shm_count.specs.declared.point.Aim.TheVariants as aims
+use Rattle.shm_count.specs.declared.point.StepPoint.TheVariants as step
+use Rattle.shm_count.specs.declared.point.StepNext.TheVariants as next
+use Rattle.shm_count.specs.declared.tear_point.TearPoint.TheVariants as point
 
 -- ---- words
 

@@ -1,34 +1,19 @@
 -- memos of a tear-down: what a word step leaves of them
 use Rattle.std.proofs.Common.{◌≡◌, ℕ, ◌+◌, ◌<◌, ◌≤◌, refl, sym, ap, ◌∙◌, subst, arith, true, leb, ltb, ◌||◌, List, ◌∷◌, Option, Some}
-use Rattle.std.specs.List.{Contains, filter}
 use Rattle.std.proofs.lemmas.Bool.{cond-true, ltb-true, ltb-false}
+use Rattle.std.specs.List.{Contains, filter}
 use Rattle.shm_words.specs.declared.tag.Tag.{Tag as ATag}
-use Rattle.shm_graph.specs.declared.ask.Ask.TheVariants.{Load, Store}
-use Rattle.shm_graph.specs.declared.ask.Me.{Me}
-use Rattle.shm_graph.specs.declared.spot.Spot.TheVariants.{Era, Head, Tag, Body}
-use Rattle.shm_graph.specs.declared.memo.Stored.{Stored}
-use Rattle.shm_graph.specs.declared.memo.Memo.{Memo}
-use Rattle.shm_graph.specs.Agents.{recovers}
-use Rattle.shm_graph.specs.Asks.{Trail}
-use Rattle.shm_graph.specs.Changes.{called, memo_on}
-use Rattle.shm_graph.specs.Events.{Event}
-use Rattle.shm_graph.specs.Laws.{Frame, framed}
-use Rattle.shm_graph.specs.Reach.{learnt, is_dying}
-use Rattle.shm_graph.specs.MemoAfterRead.{word_read}
-use Rattle.shm_graph.specs.MemoAfterStore.{not_of, not_block}
-use Rattle.shm_graph.specs.Telling.{Claim, claim_of}
-use Rattle.shm_graph.specs.Views.{own_word}
-use Rattle.shm_graph.proofs.Machines.Calling.{called_part}
-use Rattle.shm_graph.proofs.StepKinds.Loads.{choice}
-use Rattle.shm_count.specs.declared.tear_point.TearPoint.{TearPoint}
-use Rattle.shm_count.specs.declared.tear_point.TearPoint.TheVariants as point
-use Rattle.shm_graph.specs.Core.{core}
-use Rattle.shm_steps.proofs.Cores.{called_core}
-use Rattle.shm_count.specs.Tear.Control.{word_or_free}
-use Rattle.shm_count.specs.Tear.Events.{Visit}
+use Rattle.shm_graph.specs.declared.ask.{Ask.TheVariants.{Load, Store}, Me.Me}
+use Rattle.shm_graph.specs.declared.{spot.Spot.TheVariants.{Era, Head, Tag, Body}, memo.{Stored.Stored, Memo.Memo}}
+use Rattle.shm_graph.specs.{Agents.recovers, Asks.Trail, Changes.{called, memo_on}, Events.Event, Laws.{Frame, framed}}
+use Rattle.shm_graph.specs.{Reach.{learnt, is_dying}, MemoAfterRead.word_read, MemoAfterStore.{not_of, not_block}}
+use Rattle.shm_graph.specs.{Telling.{Claim, claim_of}, Views.own_word, Core.core}
+use Rattle.shm_graph.proofs.{Machines.Calling.called_part, StepKinds.Loads.choice}
+use Rattle.shm_count.specs.{declared.tear_point.TearPoint.TearPoint, Tear.{Control.word_or_free, Events.Visit}}
 use Rattle.shm_count.specs.Tear.{Settled, Linked, is_outside, IsPaid, TearHolds}
-use Rattle.shm_count.specs.Retaining.{retains_then}
-use Rattle.shm_count.specs.Tear.Memos.{TearStays, Knows, IsTagged, Retains}
+use Rattle.shm_count.specs.{Tear.Memos.{TearStays, Knows, IsTagged, Retains}, Retaining.retains_then}
+use Rattle.shm_count.specs.declared.tear_point.TearPoint.TheVariants as point
+use Rattle.shm_steps.proofs.Cores.{called_core}
 
 -- ---- what stays
 

@@ -1,15 +1,10 @@
 -- what a tear-down does to the graph of references
-use Rattle.std.specs.Prelude.{◌≡◌, ℕ, ◌+◌, ◌≤◌, ◌⊎◌, List, [], ◌∷◌, ◌++◌, map}
-use Rattle.std.specs.List.{Contains}
-use Rattle.shm_graph.specs.declared.ask.Me.{Me}
-use Rattle.shm_graph.specs.declared.spot.Spot.TheVariants.{Body}
-use Rattle.shm_graph.specs.Events.{Event}
+use Rattle.std.specs.{Prelude.{◌≡◌, ℕ, ◌+◌, ◌≤◌, ◌⊎◌, List, [], ◌∷◌, ◌++◌, map}, List.Contains}
+use Rattle.shm_graph.specs.{declared.{ask.Me.Me, spot.Spot.TheVariants.Body}, Events.Event}
 use Rattle.shm_graph.specs.Events as event
-use Rattle.shm_count.specs.declared.point.Aim.TheVariants.{Down}
-use Rattle.shm_count.specs.declared.tear_point.TearPoint.{TearPoint}
-use Rattle.shm_count.specs.declared.tear_point.TearPoint.TheVariants as point
-use Rattle.shm_count.specs.declared.tear_point.TearState.{TearState}
+use Rattle.shm_count.specs.declared.{point.Aim.TheVariants.Down, tear_point.{TearPoint.TearPoint, TearState.TearState}}
 use Rattle.shm_count.specs.Step.Events.{step_event_at}
+use Rattle.shm_count.specs.declared.tear_point.TearPoint.TheVariants as point
 
 -- the event of a word step: that of a step down, or the freeing of the block
 abbrev pub tear_event_at : Me → ℕ → TearPoint → ℕ → Event

@@ -1,42 +1,27 @@
 -- a tear-down goes along its trails: each word step is the next pair of a trail from its point
 use Rattle.std.proofs.Common.{◌≡◌, ℕ, ◌+◌, ◌%◌, ◌==◌, nat_lt, if◌then◌else◌, suc, refl, sym, ap, ◌∙◌, subst, arith, Bool, true, false, List, [], ◌∷◌, ◌++◌, append_assoc}
-use Rattle.std.specs.Prelude.{Result, Ok, Err}
-use Rattle.std.specs.List.{filter}
-use Rattle.shm_words.specs.declared.tag.Tag.{Tag as ATag}
-use Rattle.shm_words.specs.Layout.{address_limit}
-use Rattle.shm_graph.specs.declared.ask.Me.{Me}
-use Rattle.shm_graph.specs.declared.memo.Memo.{Memo}
-use Rattle.shm_graph.specs.declared.memo.Seen.{Seen}
-use Rattle.shm_graph.specs.Asks.{Trail, pair}
-use Rattle.shm_graph.specs.Trails.{Answers, Chosen, Joined}
-use Rattle.shm_graph.specs.Events.{Event}
-use Rattle.shm_graph.specs.Laws.{Then, Outcome}
+use Rattle.std.specs.{Prelude.{Result, Ok, Err}, List.filter}
+use Rattle.shm_words.specs.{declared.tag.Tag.Tag as ATag, Layout.address_limit}
+use Rattle.shm_graph.specs.{declared.{ask.Me.Me, memo.{Memo.Memo, Seen.Seen}}, Asks.{Trail, pair}}
+use Rattle.shm_graph.specs.{Trails.{Answers, Chosen, Joined}, Events.Event, Laws.{Then, Outcome}}
 use Rattle.shm_graph.specs.Tells.{is_event, after_all, happens_along}
 use Rattle.shm_graph.proofs.Machines.TellsAlong.{after_all-append, happens_along-append}
-use Rattle.shm_count.specs.declared.answer.EraSpent.{EraSpent}
-use Rattle.shm_count.specs.declared.answer.UpFault.{UpFault}
-use Rattle.shm_count.specs.declared.point.Aim.TheVariants as aims
-use Rattle.shm_count.specs.declared.point.StepPoint.{StepPoint}
-use Rattle.shm_count.specs.declared.point.StepPoint.TheVariants as step
-use Rattle.shm_count.specs.declared.point.StepNext.{StepNext}
-use Rattle.shm_count.specs.declared.point.StepNext.TheVariants as next
-use Rattle.shm_count.specs.declared.tear_point.TearPoint.{TearPoint}
-use Rattle.shm_count.specs.declared.tear_point.TearPoint.TheVariants as point
-use Rattle.shm_count.specs.declared.tear_point.TearState.{TearState}
-use Rattle.shm_count.specs.declared.tear_point.TearNext.{TearNext}
-use Rattle.shm_count.specs.declared.tear_point.TearNext.TheVariants.{Go, Answer}
+use Rattle.shm_count.specs.declared.{answer.{EraSpent.EraSpent, UpFault.UpFault}, point.StepPoint.StepPoint}
+use Rattle.shm_count.specs.declared.{point.StepNext.StepNext, tear_point.{TearPoint.TearPoint, TearState.TearState}}
+use Rattle.shm_count.specs.declared.tear_point.TearNext.{TearNext, TheVariants.{Go, Answer}}
 use Rattle.shm_count.specs.Step.Control.{step_ask_at, step_next_at, PointFits}
-use Rattle.shm_count.specs.Step.Asks as steps
-use Rattle.shm_count.specs.Step.Going as going
 use Rattle.shm_count.specs.Tear.Control.{word_address, tag_read, word_or_free, entered_next, word_next, lowered_next, freed_next, down_next, tear_ask, tear_ask_at, tear_next, tear_next_at, block_of, point_of, answer_of, tear_control, TearPointFits, TearInRange, relinked}
 use Rattle.shm_count.specs.Tear.Asks.{TearTrails, on_trail, link_trail, after_down, word_trail, return_trail, free_trail, tear_trail, point_trail}
 use Rattle.shm_count.specs.Tear.Events.{tear_event, tear_start}
 use Rattle.shm_count.specs.Tear.{CanTear, TearAt, TearHolds, TearFits, TearLeaves, TearGives, NextHolds}
-use Rattle.shm_count.specs.Tear.Ranges.{knows_next}
-use Rattle.shm_count.specs.Retaining.{retains_now}
-use Rattle.shm_count.specs.Tear.Cores.{stays_now}
-use Rattle.shm_count.specs.Tear.Bound.{paid_begin}
-use Rattle.shm_count.specs.Tear.Stacks.{others_begin, walks_begin}
+use Rattle.shm_count.specs.Tear.{Ranges.knows_next, Cores.stays_now, Bound.paid_begin}
+use Rattle.shm_count.specs.{Tear.Stacks.{others_begin, walks_begin}, Retaining.retains_now}
+use Rattle.shm_count.specs.declared.point.Aim.TheVariants as aims
+use Rattle.shm_count.specs.declared.point.StepPoint.TheVariants as step
+use Rattle.shm_count.specs.declared.point.StepNext.TheVariants as next
+use Rattle.shm_count.specs.declared.tear_point.TearPoint.TheVariants as point
+use Rattle.shm_count.specs.Step.Asks as steps
+use Rattle.shm_count.specs.Step.Going as going
 use Rattle.shm_calls.specs.Grown.{Grows, grows_now}
 
 -- ---- trails

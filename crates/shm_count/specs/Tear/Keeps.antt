@@ -1,27 +1,16 @@
 -- each word step of a tear-down keeps the invariant, and its memo fits again or holds what is answered
-use Rattle.std.proofs.Common.{true, ◌≡◌, ◌≢◌, ℕ, false, List}
-use Rattle.std.proofs.lemmas.Bool.{true≢false}
-use Rattle.shm_graph.specs.declared.ask.Me.{Me}
-use Rattle.shm_graph.specs.declared.spot.Spot.{Spot}
-use Rattle.shm_graph.specs.declared.memo.Memo.{Memo}
-use Rattle.shm_graph.specs.Asks.{Trail, at_of, seen_of}
-use Rattle.shm_graph.specs.Blocks.{classes}
-use Rattle.shm_graph.specs.Spots.{spot_at}
-use Rattle.shm_graph.specs.Events.{Event}
-use Rattle.shm_graph.specs.Laws.{Frame, Stands, Keeps, Laws}
+use Rattle.std.proofs.{Common.{true, ◌≡◌, ◌≢◌, ℕ, false, List}, lemmas.Bool.true≢false}
+use Rattle.shm_graph.specs.{declared.{ask.Me.Me, spot.Spot.Spot, memo.Memo.Memo}, Asks.{Trail, at_of, seen_of}}
+use Rattle.shm_graph.specs.{Blocks.classes, Spots.spot_at, Events.Event, Laws.{Frame, Stands, Keeps, Laws}}
 use Rattle.shm_graph.specs.Tells.{happens_along}
 use Rattle.shm_graph.proofs.StepKinds.KindKeeping.{not_fresh}
 use Rattle.shm_count.specs.declared.tear_point.TearPoint.{TearPoint}
 use Rattle.shm_count.specs.declared.tear_point.TearPoint.TheVariants.{Begin, Enter, Link, Word, Down, Free, Return, Over}
-use Rattle.shm_count.specs.Tear.Control.{tear_ask, tear_control, TearPointFits}
-use Rattle.shm_count.specs.Tear.Events.{tear_event, tear_start}
-use Rattle.shm_count.specs.Tear.{CanTear, TearHolds, TearFits, TearGives}
-use Rattle.shm_count.specs.Tear.Going.{then_holds}
-use Rattle.shm_count.specs.Tear.Laws.{IsRunning, fit_runs, tear_steady, tear_inside, tear_back}
-use Rattle.shm_count.specs.Tear.Lowering.{down_step}
+use Rattle.shm_count.specs.Tear.{Control.{tear_ask, tear_control, TearPointFits}, Events.{tear_event, tear_start}}
+use Rattle.shm_count.specs.Tear.{CanTear, TearHolds, TearFits, TearGives, Going.then_holds}
+use Rattle.shm_count.specs.Tear.{Laws.{IsRunning, fit_runs, tear_steady, tear_inside, tear_back}, Lowering.down_step}
 use Rattle.shm_count.specs.Tear.TagLoads.{TearKept, begin_step, enter_step, return_step}
-use Rattle.shm_count.specs.Tear.Storing.{link_step, free_step}
-use Rattle.shm_count.specs.Tear.Words.{word_step}
+use Rattle.shm_count.specs.Tear.{Storing.{link_step, free_step}, Words.word_step}
 use Rattle.shm_calls.specs.Grown.{grows_more}
 
 -- the step at a point

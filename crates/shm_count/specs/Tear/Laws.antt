@@ -1,36 +1,23 @@
 -- the laws of a tear-down, but that its steps keep the invariant
 use Rattle.std.proofs.Common.{◌≡◌, ℕ, ◌+◌, ◌%◌, ◌<◌, ◌≤◌, ◌==◌, nat_lt, if◌then◌else◌, Bool, true, false, List, [], ◌∷◌, subst, sym, refl, arith}
+use Rattle.std.proofs.{Math.Nat.mod-eq_of_lt, lemmas.Bool.true≢false}
 use Rattle.std.specs.Prelude.{Result, Ok, Err}
-use Rattle.std.proofs.Math.Nat.{mod-eq_of_lt}
-use Rattle.std.proofs.lemmas.Bool.{true≢false}
-use Rattle.shm_words.specs.declared.tag.Tag.{Tag as ATag}
-use Rattle.shm_words.specs.Layout.{GeometryFits, total_of, address_limit}
+use Rattle.shm_words.specs.{declared.tag.Tag.Tag as ATag, Layout.{GeometryFits, total_of, address_limit}}
 use Rattle.shm_words.proofs.Placing.{total_small}
-use Rattle.shm_graph.specs.declared.ask.Me.{Me}
-use Rattle.shm_graph.specs.declared.memo.Memo.{Memo}
-use Rattle.shm_graph.specs.declared.spot.Spot.TheVariants.{Body}
-use Rattle.shm_graph.specs.Asks.{Trail, at_of}
-use Rattle.shm_graph.specs.Events.{Event}
-use Rattle.shm_graph.specs.Laws.{Steady, Inside, Back, is_some}
-use Rattle.shm_graph.specs.Tells.{after_all, happens_along}
-use Rattle.shm_count.specs.declared.answer.UpFault.{UpFault}
-use Rattle.shm_count.specs.declared.point.Aim.TheVariants as aims
-use Rattle.shm_count.specs.declared.point.StepPoint.TheVariants as step
-use Rattle.shm_count.specs.declared.point.StepNext.{StepNext}
-use Rattle.shm_count.specs.declared.point.StepNext.TheVariants as next
-use Rattle.shm_count.specs.declared.tear_point.TearPoint.{TearPoint}
-use Rattle.shm_count.specs.declared.tear_point.TearPoint.TheVariants as point
-use Rattle.shm_count.specs.declared.tear_point.TearState.{TearState}
-use Rattle.shm_count.specs.declared.tear_point.TearNext.{TearNext}
+use Rattle.shm_graph.specs.{declared.{ask.Me.Me, memo.Memo.Memo, spot.Spot.TheVariants.Body}, Asks.{Trail, at_of}}
+use Rattle.shm_graph.specs.{Events.Event, Laws.{Steady, Inside, Back, is_some}, Tells.{after_all, happens_along}}
+use Rattle.shm_count.specs.declared.{answer.{UpFault.UpFault, EraSpent.EraSpent}, point.StepNext.StepNext}
+use Rattle.shm_count.specs.declared.tear_point.{TearPoint.TearPoint, TearState.TearState, TearNext.TearNext}
 use Rattle.shm_count.specs.declared.tear_point.TearNext.TheVariants.{Go, Answer}
 use Rattle.shm_count.specs.Step.Control.{IsInside, step_next_at}
+use Rattle.shm_count.specs.Tear.Control.{word_address, tag_read, word_or_free, lowered_next, freed_next, down_next, tear_ask_at, tear_next, tear_next_at, point_of, answer_of, is_begin, is_over, tear_control, relinked}
+use Rattle.shm_count.specs.Tear.{Events.{tear_event, tear_start}, TearHolds, TearFits, TearGives, Memos.Retains}
+use Rattle.shm_count.specs.declared.point.Aim.TheVariants as aims
+use Rattle.shm_count.specs.declared.point.StepPoint.TheVariants as step
+use Rattle.shm_count.specs.declared.point.StepNext.TheVariants as next
+use Rattle.shm_count.specs.declared.tear_point.TearPoint.TheVariants as point
 use Rattle.shm_count.specs.Step.Control as steps
 use Rattle.shm_count.specs.Step.Laws as laws
-use Rattle.shm_count.specs.Tear.Control.{word_address, tag_read, word_or_free, lowered_next, freed_next, down_next, tear_ask_at, tear_next, tear_next_at, point_of, answer_of, is_begin, is_over, tear_control, relinked}
-use Rattle.shm_count.specs.Tear.Events.{tear_event, tear_start}
-use Rattle.shm_count.specs.Tear.{TearHolds, TearFits, TearGives}
-use Rattle.shm_count.specs.Tear.Memos.{Retains}
-use Rattle.shm_count.specs.declared.answer.EraSpent.{EraSpent}
 
 -- ---- steady
 

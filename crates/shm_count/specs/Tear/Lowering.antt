@@ -1,53 +1,32 @@
 -- what a tear-down keeps in the step down by which a reference word comes to be empty
 use Rattle.std.proofs.Common.{◌≡◌, ◌≢◌, ℕ, ◌+◌, ◌≤◌, refl, sym, ap, ◌∙◌, subst, arith, Bool, true, false, cond, List, [], ◌∷◌, ◌++◌, append_assoc, inl, inr}
-use Rattle.std.specs.Prelude.{Ok, Err}
-use Rattle.std.specs.List.{All, Contains, filter}
-use Rattle.std.proofs.lemmas.Bool.{cases_eq, eq-eqb, true≢false}
-use Rattle.std.proofs.lemmas.List.{append-nil}
+use Rattle.std.proofs.lemmas.{Bool.{cases_eq, eq-eqb, true≢false}, List.append-nil}
 use Rattle.std.proofs.lemmas.List.Elements.{All-cons, Contains-append_right}
+use Rattle.std.specs.{Prelude.{Ok, Err}, List.{All, Contains, filter}}
 use Rattle.shm_words.specs.declared.tag.Tag.{Tag as ATag}
-use Rattle.shm_graph.specs.declared.ask.Ask.{Ask}
-use Rattle.shm_graph.specs.declared.ask.Me.{Me}
-use Rattle.shm_graph.specs.declared.spot.Spot.{Spot}
-use Rattle.shm_graph.specs.declared.spot.Spot.TheVariants.{Era, Body}
-use Rattle.shm_graph.specs.declared.memo.Memo.{Memo}
-use Rattle.shm_graph.specs.declared.memo.Stored.{Stored}
-use Rattle.shm_graph.specs.Agents.{recovers}
-use Rattle.shm_graph.specs.Asks.{Trail, at_of, seen_of, pair, words_after}
-use Rattle.shm_graph.specs.Blocks.{classes}
-use Rattle.shm_graph.specs.Changes.{memo_on}
-use Rattle.shm_graph.specs.Events.{Event}
-use Rattle.shm_graph.specs.Events as event
-use Rattle.shm_graph.specs.Laws.{Frame, framed, Stands}
-use Rattle.shm_graph.specs.Spots.{spot_at}
-use Rattle.shm_graph.specs.Tells.{is_event}
-use Rattle.shm_graph.specs.Reach.{is_named}
+use Rattle.shm_graph.specs.declared.{ask.{Ask.Ask, Me.Me}, spot.Spot.{Spot, TheVariants.{Era, Body}}, memo.Memo.Memo}
+use Rattle.shm_graph.specs.{declared.memo.Stored.Stored, Agents.recovers}
+use Rattle.shm_graph.specs.{Asks.{Trail, at_of, seen_of, pair, words_after}, Blocks.classes, Changes.memo_on}
+use Rattle.shm_graph.specs.{Events.Event, Laws.{Frame, framed, Stands}, Spots.spot_at, Tells.is_event, Reach.is_named}
 use Rattle.shm_graph.specs.Views.{own_word, at1}
-use Rattle.shm_graph.proofs.Runs.Lists.{at1_here}
-use Rattle.shm_count.specs.declared.answer.UpFault.{UpFault}
-use Rattle.shm_count.specs.declared.answer.UpFault.TheVariants.{EraSpent, CountFull}
-use Rattle.shm_count.specs.declared.point.Aim.TheVariants as aims
-use Rattle.shm_count.specs.declared.point.StepPoint.{StepPoint}
-use Rattle.shm_count.specs.declared.point.StepNext.{StepNext}
-use Rattle.shm_count.specs.declared.point.StepNext.TheVariants as next
-use Rattle.shm_count.specs.declared.tear_point.TearPoint.TheVariants as point
-use Rattle.shm_count.specs.Step.Control.{step_ask_at, step_next_at, is_over}
-use Rattle.shm_count.specs.Step.Events.{step_event_at, events_at}
-use Rattle.shm_count.specs.Step.{CanStep, Refused, PointHolds}
-use Rattle.shm_count.specs.Step as fits
-use Rattle.shm_count.specs.Step.Going.{has_part, events_with, Told, told_next}
-use Rattle.shm_count.specs.Step.Keeps.{step_at}
-use Rattle.shm_count.specs.Retaining.{named_counted, named_stays, retains_core, retains_then}
-use Rattle.shm_graph.proofs.Memos.MemoSteps.{recovers_on}
+use Rattle.shm_graph.specs.Events as event
+use Rattle.shm_graph.proofs.{Runs.Lists.at1_here, Memos.MemoSteps.recovers_on}
+use Rattle.shm_count.specs.declared.answer.UpFault.{UpFault, TheVariants.{EraSpent, CountFull}}
+use Rattle.shm_count.specs.declared.point.{StepPoint.StepPoint, StepNext.StepNext}
+use Rattle.shm_count.specs.Step.{Control.{step_ask_at, step_next_at, is_over}, Events.{step_event_at, events_at}}
+use Rattle.shm_count.specs.Step.{CanStep, Refused, PointHolds, Going.{has_part, events_with, Told, told_next}}
+use Rattle.shm_count.specs.{Step.Keeps.step_at, Retaining.{named_counted, named_stays, retains_core, retains_then}}
 use Rattle.shm_count.specs.Tear.Control.{word_address, word_or_free, down_next, lowered_next, TearPointFits}
-use Rattle.shm_count.specs.Tear.Cores.{stays_then, stays_core, on_words}
-use Rattle.shm_count.specs.Tear.Events.{Visit, frees, Walks}
+use Rattle.shm_count.specs.Tear.{Cores.{stays_then, stays_core, on_words}, Events.{Visit, frees, Walks}}
 use Rattle.shm_count.specs.Tear.{CanTear, IsVisited, Linked, is_outside, TearAt, TearHolds, NextHolds}
-use Rattle.shm_count.specs.DownLeaves.{down_leaves}
 use Rattle.shm_count.specs.Tear.Bound.{before_answer, paid_down, paid_kept, paid_fell, paid_refused}
 use Rattle.shm_count.specs.Tear.TagLoads.{TearKept}
 use Rattle.shm_count.specs.Tear.Stacks.{walks_kept, walks_fell, frees_more, others_entered, outside_other, apart_entered, KeepsBlock, linked_kept, linked_dying, left_dying, keeps_lowered, lowered_knows, lowered_tagged, lowered_dying}
-use Rattle.shm_count.specs.Tear.Memos.{TearStays, Retains, Knows, IsTagged, IsFound, Lowered}
+use Rattle.shm_count.specs.{Tear.Memos.{TearStays, Retains, Knows, IsTagged, IsFound, Lowered}, DownLeaves.down_leaves}
+use Rattle.shm_count.specs.declared.point.Aim.TheVariants as aims
+use Rattle.shm_count.specs.declared.point.StepNext.TheVariants as next
+use Rattle.shm_count.specs.declared.tear_point.TearPoint.TheVariants as point
+use Rattle.shm_count.specs.Step as fits
 
 -- one word of a block has one index
 same_index : (b j i : ℕ) → Body b j ≡ Body b i → j ≡ i

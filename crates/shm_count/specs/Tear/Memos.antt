@@ -1,20 +1,11 @@
 -- what a tear-down needs of a memo, and what it leaves of it
 use Rattle.std.specs.Prelude.{◌≡◌, ◌≢◌, ℕ, ◌+◌, ◌^◌, ◌<◌, ◌≤◌, Bool, true, not, ◌==◌, if◌then◌else◌, [], ◌∷◌, ◌++◌, ◌⊎◌}
 use Rattle.std.specs.List.{Contains, filter}
-use Rattle.shm_words.specs.declared.tag.Tag.{Tag as ATag}
-use Rattle.shm_words.specs.Tags.{tag_word, TagFits}
-use Rattle.shm_words.specs.Layout.{total_of}
-use Rattle.shm_graph.specs.Core.{core}
-use Rattle.shm_graph.specs.declared.ask.Me.{Me}
-use Rattle.shm_graph.specs.declared.spot.Spot.{Spot}
-use Rattle.shm_graph.specs.declared.spot.Spot.TheVariants.{Redo, RedoMore, Home, Era, Tag, Body}
-use Rattle.shm_graph.specs.declared.memo.Memo.{Memo}
-use Rattle.shm_graph.specs.declared.memo.Stored.{Stored}
-use Rattle.shm_graph.specs.Held.{is_slot}
-use Rattle.shm_graph.specs.Views.{own_word}
-use Rattle.shm_graph.specs.Reach.{shown, is_named}
-use Rattle.shm_graph.specs.MemoAfterStore.{is_of}
-use Rattle.shm_graph.specs.Chains.{part_set}
+use Rattle.shm_words.specs.{declared.tag.Tag.Tag as ATag, Tags.{tag_word, TagFits}, Layout.total_of}
+use Rattle.shm_graph.specs.{Core.core, declared.{ask.Me.Me, spot.Spot.Spot}}
+use Rattle.shm_graph.specs.declared.{spot.Spot.TheVariants.{Redo, RedoMore, Home, Era, Tag, Body}, memo.Memo.Memo}
+use Rattle.shm_graph.specs.{declared.memo.Stored.Stored, Held.is_slot, Views.own_word, Reach.{shown, is_named}}
+use Rattle.shm_graph.specs.{MemoAfterStore.is_of, Chains.part_set}
 use Rattle.shm_count.specs.Step.Control.{IsInside}
 
 -- ---- what stays

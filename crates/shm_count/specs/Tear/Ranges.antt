@@ -1,25 +1,19 @@
 -- what the control of a tear-down keeps in range, it keeps there
 use Rattle.std.proofs.Common.{◌≡◌, ℕ, ◌+◌, ◌%◌, ◌<◌, ◌==◌, nat_lt, if◌then◌else◌, Bool, true, false, Option, Some, None, refl, subst, arith}
-use Rattle.std.specs.Prelude.{Result, Ok, Err}
 use Rattle.std.proofs.lemmas.Bool.{ltb-true}
-use Rattle.shm_words.specs.declared.tag.Tag.{Tag as ATag}
-use Rattle.shm_words.specs.Tags.{tag_of, TagFits}
+use Rattle.std.specs.Prelude.{Result, Ok, Err}
+use Rattle.shm_words.specs.{declared.tag.Tag.Tag as ATag, Tags.{tag_of, TagFits}, Layout.address_limit}
 use Rattle.shm_words.proofs.Words.{tag_fits, place_some, place_most, place_below}
-use Rattle.shm_words.specs.Layout.{address_limit}
 use Rattle.shm_graph.specs.declared.ask.Me.{Me}
-use Rattle.shm_count.specs.declared.answer.UpFault.{UpFault}
+use Rattle.shm_count.specs.declared.{answer.UpFault.UpFault, point.StepNext.StepNext, tear_point.TearPoint.TearPoint}
+use Rattle.shm_count.specs.declared.tear_point.{TearState.TearState, TearNext.{TearNext, TheVariants.{Go, Answer}}}
+use Rattle.shm_count.specs.Step.Control.{step_next_at}
+use Rattle.shm_count.specs.Tear.Control.{or_empty, tag_read, word_or_free, entered_next, lowered_next, freed_next, down_next, tear_next, tear_next_at, block_of, point_of, tear_control, TearPointFits, TearInRange, relinked}
 use Rattle.shm_count.specs.declared.point.Aim.TheVariants as aims
 use Rattle.shm_count.specs.declared.point.StepPoint.TheVariants as step
-use Rattle.shm_count.specs.declared.point.StepNext.{StepNext}
 use Rattle.shm_count.specs.declared.point.StepNext.TheVariants as next
-use Rattle.shm_count.specs.declared.tear_point.TearPoint.{TearPoint}
 use Rattle.shm_count.specs.declared.tear_point.TearPoint.TheVariants as point
-use Rattle.shm_count.specs.declared.tear_point.TearState.{TearState}
-use Rattle.shm_count.specs.declared.tear_point.TearNext.{TearNext}
-use Rattle.shm_count.specs.declared.tear_point.TearNext.TheVariants.{Go, Answer}
-use Rattle.shm_count.specs.Step.Control.{step_next_at}
 use Rattle.shm_count.specs.Step.Ranges as steps
-use Rattle.shm_count.specs.Tear.Control.{or_empty, tag_read, word_or_free, entered_next, lowered_next, freed_next, down_next, tear_next, tear_next_at, block_of, point_of, tear_control, TearPointFits, TearInRange, relinked}
 
 -- where it goes on, block and point are in range
 abbrev NextFits : Me → TearNext → Type 0

@@ -1,26 +1,18 @@
 -- stacks of blocks that are being torn down: the walks they leave to be done, the zero-count blocks outside them, that no block is in one twice, and what stays known of them
 use Rattle.std.proofs.Common.{◌≡◌, ◌≢◌, ℕ, ◌+◌, ◌≤◌, refl, sym, ap, ◌∙◌, subst, arith, append_assoc, Bool, true, false, not, cond, eqb, ◌&&◌, ◌||◌, List, [], ◌∷◌, ◌++◌}
-use Rattle.std.specs.List.{All, Contains, filter, list_any}
 use Rattle.std.proofs.lemmas.Bool.{eq-eqb, ne_eqb, eqb-true, eqb-false, not-true, or_parts, or_from, true≢false}
 use Rattle.std.proofs.lemmas.List.{append-nil}
 use Rattle.std.proofs.lemmas.List.Elements.{All-nil, All-cons, All-contains, Contains-append_left, Contains-append_right, filter-append, filter_agree}
-use Rattle.shm_words.specs.declared.tag.Tag.{Tag as ATag}
-use Rattle.shm_words.specs.Tags.{tag_word}
-use Rattle.shm_graph.specs.declared.ask.Me.{Me}
-use Rattle.shm_graph.specs.declared.spot.Spot.{Spot}
-use Rattle.shm_graph.specs.declared.spot.Spot.TheVariants.{Tag, Body}
-use Rattle.shm_graph.specs.declared.memo.Stored.{Stored}
-use Rattle.shm_graph.specs.declared.memo.Memo.{Memo}
-use Rattle.shm_graph.specs.Spots.{same_spot}
-use Rattle.shm_graph.specs.Reach.{learnt, not_at}
-use Rattle.shm_graph.specs.Events.{Event}
-use Rattle.shm_graph.specs.Events as event
+use Rattle.std.specs.List.{All, Contains, filter, list_any}
+use Rattle.shm_words.specs.{declared.tag.Tag.Tag as ATag, Tags.tag_word}
+use Rattle.shm_graph.specs.declared.{ask.Me.Me, spot.Spot.{Spot, TheVariants.{Tag, Body}}, memo.Stored.Stored}
+use Rattle.shm_graph.specs.{declared.memo.Memo.Memo, Spots.same_spot, Reach.{learnt, not_at}, Events.Event}
 use Rattle.shm_graph.specs.MemoAfterStore.{is_of, not_of, not_block}
+use Rattle.shm_graph.specs.Events as event
 use Rattle.shm_graph.proofs.Spots.Spotting.{same_spot_not}
 use Rattle.shm_laws.proofs.Keep.{newest, Contains-filter}
 use Rattle.shm_count.specs.Tear.Events.{Walk, Freed, Kept, Fell, InOrder, events_of, Visit, Walks, freed_by, frees}
-use Rattle.shm_count.specs.Tear.{IsVisited, Linked, is_visit_of, is_outside, IsApart}
-use Rattle.shm_count.specs.Tear.Memos.{Knows, IsTagged, Lowered}
+use Rattle.shm_count.specs.Tear.{IsVisited, Linked, is_visit_of, is_outside, IsApart, Memos.{Knows, IsTagged, Lowered}}
 
 -- ---- walks
 

@@ -1,50 +1,28 @@
 -- what a tear-down keeps where it stores a link, and where it frees a block
 use Rattle.std.proofs.Common.{◌≡◌, ◌≢◌, ℕ, ◌+◌, ◌≤◌, refl, sym, ap, ◌∙◌, subst, arith, false, List, [], ◌∷◌, ◌++◌}
-use Rattle.std.specs.Prelude.{◌==◌, if◌then◌else◌, Ok}
-use Rattle.std.specs.List.{Contains, filter}
-use Rattle.std.proofs.lemmas.Bool.{ne_eqb, eqb-true}
-use Rattle.std.proofs.lemmas.List.Elements.{Contains-append_right}
-use Rattle.shm_words.specs.declared.tag.Tag.{Tag as ATag}
-use Rattle.shm_words.specs.Layout.{total_of}
-use Rattle.shm_words.specs.Tags.{tag_word, TagFits, tag_shape}
-use Rattle.shm_words.proofs.Words.{tag_word_small, tag_refs-word}
-use Rattle.shm_words.proofs.Words.{link_shape}
-use Rattle.shm_graph.specs.declared.ask.Ask.TheVariants.{Store}
-use Rattle.shm_graph.specs.declared.ask.Me.{Me}
-use Rattle.shm_graph.specs.declared.spot.Spot.{Spot}
-use Rattle.shm_graph.specs.declared.spot.Spot.TheVariants.{Head, Tag}
-use Rattle.shm_graph.specs.declared.memo.Memo.{Memo}
+use Rattle.std.proofs.lemmas.{Bool.{ne_eqb, eqb-true}, List.Elements.Contains-append_right}
+use Rattle.std.specs.{Prelude.{◌==◌, if◌then◌else◌, Ok}, List.{Contains, filter}}
+use Rattle.shm_words.specs.{declared.tag.Tag.Tag as ATag, Layout.total_of, Tags.{tag_word, TagFits, tag_shape}}
+use Rattle.shm_words.proofs.Words.{tag_word_small, tag_refs-word, link_shape}
+use Rattle.shm_graph.specs.declared.{ask.{Ask.TheVariants.Store, Me.Me}, spot.Spot.{Spot, TheVariants.{Head, Tag}}}
+use Rattle.shm_graph.specs.{declared.memo.Memo.Memo, Asks.{Trail, pair}, Blocks.classes, Changes.memo_on, Events.Event}
+use Rattle.shm_graph.specs.{Laws.{Frame, framed, Stands, KeptAt}, Reach.learnt, Spots.spot_at}
+use Rattle.shm_graph.specs.{MemoAfterStore.{is_of, not_of, not_block}, Core.core}
 use Rattle.shm_graph.specs.declared.memo.Op.TheVariants as op
-use Rattle.shm_graph.specs.Asks.{Trail, pair}
-use Rattle.shm_graph.specs.Blocks.{classes}
-use Rattle.shm_graph.specs.Changes.{memo_on}
-use Rattle.shm_graph.specs.Events.{Event}
 use Rattle.shm_graph.specs.Events as event
-use Rattle.shm_graph.specs.Laws.{Frame, framed, Stands, KeptAt}
-use Rattle.shm_graph.specs.Reach.{learnt}
-use Rattle.shm_graph.specs.Spots.{spot_at}
-use Rattle.shm_graph.proofs.Spots.Spotting.{same_spot_not}
-use Rattle.shm_graph.specs.MemoAfterStore.{is_of, not_of, not_block}
-use Rattle.shm_steps.specs.Conditions.{IsHere}
-use Rattle.shm_steps.specs.Preparing.{KnowsDying}
-use Rattle.shm_steps.proofs.BlockTold.{dying_true, dying_block}
-use Rattle.shm_steps.proofs.DyingSteps.{frees, links}
-use Rattle.shm_steps.proofs.KeptAfter.{kept_with}
-use Rattle.shm_count.specs.declared.tear_point.TearPoint.TheVariants as point
-use Rattle.shm_count.specs.declared.tear_point.TearNext.TheVariants.{Go, Answer}
-use Rattle.shm_graph.specs.Core.{core}
-use Rattle.shm_count.specs.Retaining.{retains_core, retains_then, slots_learnt, slots_forgotten, named_counted}
-use Rattle.shm_graph.proofs.Memos.MemoSteps.{recovers_on}
+use Rattle.shm_graph.proofs.{Spots.Spotting.same_spot_not, Memos.MemoSteps.recovers_on}
+use Rattle.shm_steps.specs.{Conditions.IsHere, Preparing.KnowsDying}
+use Rattle.shm_steps.proofs.{BlockTold.{dying_true, dying_block}, DyingSteps.{frees, links}, KeptAfter.kept_with}
 use Rattle.shm_steps.proofs.Cores.{here_same}
+use Rattle.shm_count.specs.declared.tear_point.TearNext.TheVariants.{Go, Answer}
+use Rattle.shm_count.specs.Retaining.{retains_core, retains_then, slots_learnt, slots_forgotten, named_counted}
 use Rattle.shm_count.specs.Tear.Control.{word_or_free, freed_next}
 use Rattle.shm_count.specs.Tear.Cores.{stays_then, stays_core, link_core, free_core, settled_same, on_words}
-use Rattle.shm_count.specs.Tear.Events.{Visit}
-use Rattle.shm_count.specs.Tear.{Settled, CanTear, Linked, is_outside, TearAt, TearHolds, NextHolds}
-use Rattle.shm_count.specs.Tear.Bound.{paid_linked, paid_freed, paid_done}
-use Rattle.shm_count.specs.Tear.TagLoads.{TearKept, unchanged}
-use Rattle.shm_count.specs.DyingBlocks.{dying_tag_spot}
+use Rattle.shm_count.specs.Tear.{Events.Visit, Settled, CanTear, Linked, is_outside, TearAt, TearHolds, NextHolds}
+use Rattle.shm_count.specs.Tear.{Bound.{paid_linked, paid_freed, paid_done}, TagLoads.{TearKept, unchanged}}
 use Rattle.shm_count.specs.Tear.Stacks.{walks_freed, frees_free, others_freed, others_last, outside_other, KeepsBlock, visited_kept, tagged_kept, linked_kept, knows_learnt, knows_other, keeps_learnt, keeps_freed}
-use Rattle.shm_count.specs.Tear.Memos.{TearStays, Retains, IsTagged}
+use Rattle.shm_count.specs.{Tear.Memos.{TearStays, Retains, IsTagged}, DyingBlocks.dying_tag_spot}
+use Rattle.shm_count.specs.declared.tear_point.TearPoint.TheVariants as point
 
 -- no step is in progress at the points beside those of a step down
 is_idle : (me : Me) (first : ℕ) (r0 m : Memo) → CanTear me first r0 → TearStays me.who r0 m → m.op ≡ op.Nothing

@@ -1,50 +1,24 @@
 -- what a tear-down keeps where it loads the tag of a block
 use Rattle.std.proofs.Common.{◌<◌, ◌≡◌, ℕ, ◌+◌, ◌≤◌, refl, sym, ap, ◌∙◌, subst, arith, List, [], ◌∷◌, ◌++◌, inl, inr}
-use Rattle.std.specs.Prelude.{◌==◌, if◌then◌else◌}
-use Rattle.std.specs.List.{Contains, filter}
-use Rattle.std.proofs.lemmas.Bool.{cases_Bool, eqb-true}
-use Rattle.std.proofs.lemmas.List.{append-nil}
-use Rattle.shm_words.specs.declared.tag.Tag.{Tag as ATag}
-use Rattle.shm_words.specs.Tags.{tag_word, TagFits}
-use Rattle.shm_words.specs.Layout.{total_of}
-use Rattle.shm_words.proofs.Words.{tag_of-word}
-use Rattle.shm_words.specs.Layout.{place_limit}
-use Rattle.shm_words.proofs.Placing.{total_in_format}
-use Rattle.shm_words.proofs.Words.{place_some, place_same}
-use Rattle.shm_count.specs.Tear.Control.{relinked}
-use Rattle.shm_graph.specs.declared.ask.Ask.TheVariants.{Load}
-use Rattle.shm_graph.specs.declared.ask.Me.{Me}
-use Rattle.shm_graph.specs.declared.spot.Spot.{Spot}
-use Rattle.shm_graph.specs.declared.spot.Spot.TheVariants.{Tag, Body}
-use Rattle.shm_graph.specs.declared.memo.Memo.{Memo}
-use Rattle.shm_graph.specs.Asks.{Trail, at_of, pair}
-use Rattle.shm_graph.specs.Blocks.{classes}
-use Rattle.shm_graph.specs.Changes.{memo_on}
-use Rattle.shm_graph.specs.Events.{Event}
-use Rattle.shm_graph.specs.Laws.{Frame, framed, Stands, KeptAt}
-use Rattle.shm_graph.specs.Reach.{learnt}
-use Rattle.shm_graph.specs.Spots.{same_spot, spot_at}
-use Rattle.shm_graph.specs.Tells.{is_event}
-use Rattle.shm_graph.proofs.StepKinds.Loads.{choice}
-use Rattle.shm_graph.proofs.Spots.Spotting.{same_spot_is}
-use Rattle.shm_steps.proofs.BeginWords.{known_here}
-use Rattle.shm_steps.proofs.BlockTold.{dying_true}
-use Rattle.shm_steps.proofs.BodyLoads.{tag_loaded}
-use Rattle.shm_steps.proofs.Covering.{dying_told}
-use Rattle.shm_steps.proofs.KeptAfter.{kept_with}
-use Rattle.shm_count.specs.declared.tear_point.TearPoint.{TearPoint}
-use Rattle.shm_count.specs.declared.tear_point.TearPoint.TheVariants as point
-use Rattle.shm_count.specs.declared.tear_point.TearNext.TheVariants.{Go}
-use Rattle.shm_count.specs.DyingBlocks.{dying_tag, dying_tag_spot}
-use Rattle.shm_count.specs.Retaining.{retains_core, slots_learnt}
-use Rattle.shm_graph.proofs.Memos.MemoSteps.{recovers_on}
-use Rattle.shm_count.specs.Tear.Control.{or_empty, tag_read, word_or_free, entered_next, tear_ask_at, tear_next_at}
-use Rattle.shm_count.specs.Tear.Cores.{stays_core, tag_core, settled_same, on_words}
-use Rattle.shm_count.specs.Tear.Events.{Visit, tear_event_at}
+use Rattle.std.proofs.lemmas.{Bool.{cases_Bool, eqb-true}, List.append-nil}
+use Rattle.std.specs.{Prelude.{◌==◌, if◌then◌else◌}, List.{Contains, filter}}
+use Rattle.shm_words.specs.{declared.tag.Tag.Tag as ATag, Tags.{tag_word, TagFits}, Layout.{total_of, place_limit}}
+use Rattle.shm_words.proofs.{Words.{tag_of-word, place_some, place_same}, Placing.total_in_format}
+use Rattle.shm_count.specs.Tear.Control.{relinked, or_empty, tag_read, word_or_free, entered_next, tear_ask_at, tear_next_at}
+use Rattle.shm_count.specs.Tear.{Cores.{stays_core, tag_core, settled_same, on_words}, Events.{Visit, tear_event_at}}
 use Rattle.shm_count.specs.Tear.{Settled, Linked, IsPaid, TearHolds, NextHolds, Bool}
 use Rattle.shm_count.specs.Tear.Bound.{paid_entered, paid_returned}
-use Rattle.shm_count.specs.Tear.Stacks.{KeepsBlock, linked_kept, knows_learnt, knows_other}
-use Rattle.shm_count.specs.Tear.Memos.{Knows, IsTagged}
+use Rattle.shm_count.specs.Tear.{Stacks.{KeepsBlock, linked_kept, knows_learnt, knows_other}, Memos.{Knows, IsTagged}}
+use Rattle.shm_count.specs.declared.tear_point.{TearPoint.TearPoint, TearNext.TheVariants.Go}
+use Rattle.shm_count.specs.{DyingBlocks.{dying_tag, dying_tag_spot}, Retaining.{retains_core, slots_learnt}}
+use Rattle.shm_count.specs.declared.tear_point.TearPoint.TheVariants as point
+use Rattle.shm_graph.specs.declared.{ask.{Ask.TheVariants.Load, Me.Me}, spot.Spot.{Spot, TheVariants.{Tag, Body}}}
+use Rattle.shm_graph.specs.{declared.memo.Memo.Memo, Asks.{Trail, at_of, pair}, Blocks.classes, Changes.memo_on}
+use Rattle.shm_graph.specs.{Events.Event, Laws.{Frame, framed, Stands, KeptAt}, Reach.learnt}
+use Rattle.shm_graph.specs.{Spots.{same_spot, spot_at}, Tells.is_event}
+use Rattle.shm_graph.proofs.{StepKinds.Loads.choice, Spots.Spotting.same_spot_is, Memos.MemoSteps.recovers_on}
+use Rattle.shm_steps.proofs.{BeginWords.known_here, BlockTold.dying_true, BodyLoads.tag_loaded, Covering.dying_told}
+use Rattle.shm_steps.proofs.KeptAfter.{kept_with}
 
 -- ---- what a tear-down owes
 

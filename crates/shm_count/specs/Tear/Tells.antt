@@ -1,28 +1,17 @@
 -- the event of each word step of a tear-down is the one that it tells
-use Rattle.std.proofs.Common.{◌≡◌, ℕ, refl, sym, subst, false, List}
-use Rattle.std.proofs.lemmas.Bool.{true≢false}
-use Rattle.shm_graph.specs.declared.ask.Ask.{Ask}
-use Rattle.shm_graph.specs.declared.ask.Ask.TheVariants.{Store}
-use Rattle.shm_graph.specs.declared.ask.Me.{Me}
-use Rattle.shm_graph.specs.declared.spot.Spot.{Spot}
+use Rattle.std.proofs.{Common.{◌≡◌, ℕ, refl, sym, subst, false, List}, lemmas.Bool.true≢false}
+use Rattle.shm_graph.specs.declared.{ask.{Ask.{Ask, TheVariants.Store}, Me.Me}, spot.Spot.Spot, memo.Memo.Memo}
+use Rattle.shm_graph.specs.{Spots.spot_at, Blocks.{classes, IsBlock}, Asks.{at_of, Trail, seen_of}}
+use Rattle.shm_graph.specs.{Events.{Event, Free}, Laws.{event_on, framed, Stands, Frame}, Tells.{Tells, happens_along}}
 use Rattle.shm_graph.specs.declared.spot.Spot.TheVariants as spot
-use Rattle.shm_graph.specs.declared.memo.Memo.{Memo}
-use Rattle.shm_graph.specs.Spots.{spot_at}
-use Rattle.shm_graph.specs.Blocks.{classes, IsBlock}
-use Rattle.shm_graph.specs.Asks.{at_of, Trail, seen_of}
-use Rattle.shm_graph.specs.Events.{Event, Free}
-use Rattle.shm_graph.specs.Laws.{event_on, framed, Stands, Frame}
-use Rattle.shm_graph.specs.Tells.{Tells, happens_along}
 use Rattle.shm_steps.proofs.BlockTold.{dying_block}
+use Rattle.shm_count.specs.{declared.tear_point.TearPoint.TearPoint, DyingBlocks.dying_tag_spot}
+use Rattle.shm_count.specs.Tear.Control.{word_address, tear_ask_at, is_over, tear_control, TearPointFits}
+use Rattle.shm_count.specs.Tear.{Events.{tear_event, tear_event_at, tear_start}, IsVisited, TearHolds, TearFits}
+use Rattle.shm_count.specs.Tear.Laws.{IsRunning, fit_runs}
 use Rattle.shm_count.specs.declared.point.Aim.TheVariants as aims
-use Rattle.shm_count.specs.declared.tear_point.TearPoint.{TearPoint}
 use Rattle.shm_count.specs.declared.tear_point.TearPoint.TheVariants as point
 use Rattle.shm_count.specs.Step.Tells as steps
-use Rattle.shm_count.specs.DyingBlocks.{dying_tag_spot}
-use Rattle.shm_count.specs.Tear.Control.{word_address, tear_ask_at, is_over, tear_control, TearPointFits}
-use Rattle.shm_count.specs.Tear.Events.{tear_event, tear_event_at, tear_start}
-use Rattle.shm_count.specs.Tear.{IsVisited, TearHolds, TearFits}
-use Rattle.shm_count.specs.Tear.Laws.{IsRunning, fit_runs}
 
 module _ (me : Me) (w : Spot → ℕ) (r : ℕ → Memo) (f : Frame) (tr : Trail) (st : Stands me w r f tr) (b k : ℕ) (at : IsVisited me (r me.who) (record { block = b; cleared = k })) where
   -- a zero-count block is a block of the pool

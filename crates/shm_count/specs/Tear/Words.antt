@@ -1,60 +1,34 @@
 -- what a tear-down keeps where it loads a reference word
 use Rattle.std.proofs.Common.{◌≡◌, ◌≢◌, ℕ, ◌+◌, ◌%◌, ◌^◌, ◌<◌, refl, sym, ap, ◌∙◌, subst, arith, List, [], ◌∷◌, ◌++◌, Option, Some, None, inl, inr}
-use Rattle.std.specs.Prelude.{◌==◌, if◌then◌else◌}
-use Rattle.std.specs.List.{Contains}
-use Rattle.std.proofs.lemmas.Bool.{cases_eq, eq-eqb, ne_eqb, true≢false}
-use Rattle.std.proofs.lemmas.List.{append-nil}
-use Rattle.shm_words.specs.declared.tag.Tag.{Tag as ATag}
-use Rattle.shm_words.specs.Tags.{tag_word, tag_refs}
-use Rattle.shm_words.proofs.Placing.{total_small}
-use Rattle.shm_words.proofs.Words.{tag_refs-word}
-use Rattle.shm_words.specs.Layout.{address_limit}
-use Rattle.shm_graph.specs.declared.ask.Ask.TheVariants.{Load}
-use Rattle.shm_graph.specs.declared.ask.Me.{Me}
-use Rattle.shm_graph.specs.declared.spot.Spot.{Spot}
-use Rattle.shm_graph.specs.declared.spot.Spot.TheVariants.{Home, Era, Tag, Body}
-use Rattle.shm_graph.specs.declared.memo.Memo.{Memo}
-use Rattle.shm_graph.specs.declared.memo.Op.TheVariants as op
-use Rattle.shm_graph.specs.declared.memo.Stored.{Stored}
-use Rattle.shm_graph.specs.Asks.{Trail, pair}
-use Rattle.shm_graph.specs.Blocks.{classes}
-use Rattle.shm_graph.specs.Chains.{part_set}
-use Rattle.shm_graph.specs.Changes.{called, memo_on}
-use Rattle.shm_graph.specs.Events.{Event}
-use Rattle.shm_graph.specs.Laws.{Frame, framed, Stands, KeptAt}
-use Rattle.shm_graph.specs.Ops.{cover, cover_of}
-use Rattle.shm_graph.specs.Reach.{learnt, shown}
-use Rattle.shm_graph.specs.Spots.{spot_at}
-use Rattle.shm_graph.specs.Telling.{Claim, claims, claim_of}
-use Rattle.shm_graph.specs.Views.{own_word}
-use Rattle.shm_graph.proofs.Machines.Calling.{called_part}
-use Rattle.shm_graph.proofs.Memos.LoadTold.{claim_found}
-use Rattle.shm_steps.specs.Conditions.{IsHere}
-use Rattle.shm_steps.specs.LoadNeeds.{IsCovered, IsSettled, MayLookBy, MayLook}
-use Rattle.shm_steps.proofs.BeginWords.{listed_covered, known_here}
-use Rattle.shm_steps.proofs.BeginWords as begin
-use Rattle.shm_steps.proofs.BlockTold.{dying_true}
-use Rattle.shm_steps.proofs.BodyLoads.{word_loaded}
-use Rattle.shm_steps.proofs.KeptAfter.{kept_with}
-use Rattle.shm_count.specs.declared.point.Aim.TheVariants as aims
-use Rattle.shm_count.specs.declared.point.StepPoint.TheVariants as step
-use Rattle.shm_count.specs.declared.tear_point.TearPoint.TheVariants as point
-use Rattle.shm_count.specs.declared.tear_point.TearNext.TheVariants.{Go}
-use Rattle.shm_count.specs.DyingBlocks.{dying_spot, dying_target, dying_part}
+use Rattle.std.proofs.lemmas.{Bool.{cases_eq, eq-eqb, ne_eqb, true≢false}, List.append-nil}
+use Rattle.std.specs.{Prelude.{◌==◌, if◌then◌else◌}, List.Contains}
+use Rattle.shm_words.specs.{declared.tag.Tag.Tag as ATag, Tags.{tag_word, tag_refs}, Layout.address_limit}
+use Rattle.shm_words.proofs.{Placing.total_small, Words.tag_refs-word}
+use Rattle.shm_graph.specs.declared.{ask.{Ask.TheVariants.Load, Me.Me}, spot.Spot.Spot}
+use Rattle.shm_graph.specs.declared.{spot.Spot.TheVariants.{Home, Era, Tag, Body}, memo.{Memo.Memo, Stored.Stored}}
+use Rattle.shm_graph.specs.{Asks.{Trail, pair}, Blocks.classes, Chains.part_set, Changes.{called, memo_on}}
+use Rattle.shm_graph.specs.{Events.Event, Laws.{Frame, framed, Stands, KeptAt}, Ops.{cover, cover_of}}
+use Rattle.shm_graph.specs.{Reach.{learnt, shown}, Spots.spot_at, Telling.{Claim, claims, claim_of}, Views.own_word}
 use Rattle.shm_graph.specs.Core.{core}
-use Rattle.shm_count.specs.Step.{CanStep}
+use Rattle.shm_graph.specs.declared.memo.Op.TheVariants as op
+use Rattle.shm_graph.proofs.{Machines.Calling.called_part, Memos.{LoadTold.claim_found, MemoSteps.recovers_on}}
+use Rattle.shm_steps.specs.{Conditions.IsHere, LoadNeeds.{IsCovered, IsSettled, MayLookBy, MayLook}}
+use Rattle.shm_steps.proofs.{BeginWords.{listed_covered, known_here}, BlockTold.dying_true, BodyLoads.word_loaded}
+use Rattle.shm_steps.proofs.{KeptAfter.kept_with, Cores.{room_least, here_same}}
+use Rattle.shm_steps.proofs.BeginWords as begin
+use Rattle.shm_count.specs.declared.tear_point.TearNext.TheVariants.{Go}
+use Rattle.shm_count.specs.{DyingBlocks.{dying_spot, dying_target, dying_part}, Step.CanStep}
 use Rattle.shm_count.specs.Retaining.{retains_core, slots_learnt}
-use Rattle.shm_graph.proofs.Memos.MemoSteps.{recovers_on}
-use Rattle.shm_steps.proofs.Cores.{room_least, here_same}
 use Rattle.shm_count.specs.Tear.Control.{word_address, word_or_free, word_next}
-use Rattle.shm_count.specs.Tear.Cores.{stays_core, word_core, settled_same, on_words}
-use Rattle.shm_count.specs.Tear.Events.{Visit}
-use Rattle.shm_count.specs.Tear.{Settled, CanTear, Linked, TearAt, TearHolds, NextHolds, Bool}
-use Rattle.shm_count.specs.Tear.Laws.{word_address_is}
+use Rattle.shm_count.specs.Tear.{Cores.{stays_core, word_core, settled_same, on_words}, Events.Visit}
+use Rattle.shm_count.specs.Tear.{Settled, CanTear, Linked, TearAt, TearHolds, NextHolds, Bool, Laws.word_address_is}
 use Rattle.shm_count.specs.Tear.Bound.{paid_again, paid_empty, paid_found}
 use Rattle.shm_count.specs.Tear.TagLoads.{TearKept, still_known, load_keeps, unchanged}
 use Rattle.shm_count.specs.Tear.Stacks.{walks_later, knows_learnt, linked_kept, tagged_kept}
 use Rattle.shm_count.specs.Tear.Memos.{Knows, IsTagged, IsFound}
+use Rattle.shm_count.specs.declared.point.Aim.TheVariants as aims
+use Rattle.shm_count.specs.declared.point.StepPoint.TheVariants as step
+use Rattle.shm_count.specs.declared.tear_point.TearPoint.TheVariants as point
 
 -- ---- addresses
 

@@ -1,40 +1,29 @@
 -- an up at the least empty root as a part of larger machines
-use Rattle.std.proofs.Common.{◌≡◌, ℕ, ◌+◌, refl, ◌∙◌, arith, List}
+use Rattle.std.proofs.{Common.{◌≡◌, ℕ, ◌+◌, refl, ◌∙◌, arith, List}, lemmas.Bool.cond-true}
 use Rattle.std.specs.Prelude.{Result, Ok, Err}
-use Rattle.std.proofs.lemmas.Bool.{cond-true}
-use Rattle.shm_graph.specs.declared.ask.Me.{Me}
-use Rattle.shm_graph.specs.declared.memo.Memo.{Memo}
-use Rattle.shm_graph.specs.declared.spot.Spot.TheVariants.{Root}
-use Rattle.shm_graph.specs.Asks.{Trail, IsWithin}
-use Rattle.shm_graph.specs.Bounds.{up_steps}
-use Rattle.shm_graph.specs.Events.{Event}
-use Rattle.shm_graph.specs.Laws.{Control}
+use Rattle.shm_graph.specs.{declared.{ask.Me.Me, memo.Memo.Memo, spot.Spot.TheVariants.Root}, Asks.{Trail, IsWithin}}
+use Rattle.shm_graph.specs.{Bounds.up_steps, Events.Event, Laws.Control}
 use Rattle.shm_graph.proofs.Spots.Spotting.{same_spot_self}
-use Rattle.shm_calls.specs.declared.calls.Calls.{Calls}
-use Rattle.shm_calls.specs.CallsControl.{calls_control, calls_of}
-use Rattle.shm_calls.specs.CallsPart.{MayCall, calls_part}
-use Rattle.shm_calls.specs.Parts.{Part}
-use Rattle.shm_count.specs.declared.answer.ShareFault.{ShareFault}
-use Rattle.shm_count.specs.declared.answer.ShareFault.TheVariants.{EraSpent, RootsFull, CountFull}
-use Rattle.shm_count.specs.declared.up_root.RootingState.{RootingState}
-use Rattle.shm_count.specs.Roots.{root_word}
-use Rattle.shm_count.specs.UpRoot.Control.{RootingAnswer, RootingCall, rooting, rooting_parts}
-use Rattle.shm_count.specs.UpRoot.{MayUpRoot, Rooted, UpRootLeaves, rooting_plan}
-use Rattle.shm_count.specs.UpRoot.Laws.{rooting_begin}
+use Rattle.shm_calls.specs.{declared.calls.Calls.Calls, CallsControl.{calls_control, calls_of}}
+use Rattle.shm_calls.specs.{CallsPart.{MayCall, calls_part}, Parts.Part}
+use Rattle.shm_count.specs.declared.answer.ShareFault.{ShareFault, TheVariants.{EraSpent, RootsFull, CountFull}}
+use Rattle.shm_count.specs.{declared.up_root.RootingState.RootingState, Roots.root_word}
+use Rattle.shm_count.specs.UpRoot.Control.{RootingAnswer, RootingCall, rooting, rooting_parts, rooting_steered}
+use Rattle.shm_count.specs.UpRoot.{MayUpRoot, Rooted, UpRootLeaves, rooting_plan, Laws.rooting_begin}
 
 -- its states, and its control
 abbrev pub RootingCalls : Type 0
 RootingCalls = Calls RootingState RootingCall (Result ℕ ShareFault) RootingAnswer
 
 abbrev pub up_root : Control RootingCalls (Result ℕ ShareFault)
-up_root = calls_control rooting_parts rooting_plan
+up_root = calls_control rooting_parts rooting_steered
 
 -- the part, whose laws stand in proofs/UpRootPart.antt; what it leaves is UpRootLeaves
 abbrev pub up_root_part : Part RootingCalls (Result ℕ ShareFault)
 up_root_part = calls_part rooting_parts rooting_plan
 
 -- it may be called where a block in reach is to have a root
-pub may_up_root : (me : Me) (b : ℕ) (r : Memo) → MayUpRoot me b r → MayCall rooting_parts rooting_plan (calls_of rooting_plan (rooting me b)) r
+pub may_up_root : (me : Me) (b : ℕ) (r : Memo) → MayUpRoot me b r → MayCall rooting_parts rooting_plan (calls_of rooting_steered (rooting me b)) r
 may_up_root me b r may = record { made = refl; first = refl; start = refl; knows = rooting_begin (rooting me b) r refl may }
 
 -- the root that was empty names the block

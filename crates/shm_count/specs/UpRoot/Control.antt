@@ -1,27 +1,15 @@
 -- the control of an up at the least empty root: which call comes next, and where it goes by what that call answered
-use Rattle.std.specs.Prelude.{ℕ, ◌+◌, ◌-◌, ◌^◌, ◌<◌, ◌≤◌, Bool, true, false, ◌==◌, nat_lt, if◌then◌else◌, Option, Some, None, Result, Ok, Err}
-use Rattle.shm_words.specs.declared.place.Place.TheVariants as place
+use Rattle.std.specs.Prelude.{ℕ, ◌+◌, ◌-◌, ◌^◌, ◌<◌, ◌≤◌, Bool, true, false, ◌==◌, nat_lt, if◌then◌else◌, Option, Some, None, Result, Ok, Err, []}
 use Rattle.shm_words.specs.Layout.{GeometryFits, address, address_limit}
-use Rattle.shm_count.specs.Step.Control.{first_point}
-use Rattle.shm_graph.specs.declared.ask.Ask.{Ask}
-use Rattle.shm_graph.specs.declared.ask.Ask.TheVariants.{Load}
-use Rattle.shm_graph.specs.declared.ask.Me.{Me}
-use Rattle.shm_graph.specs.Laws.{Control}
-use Rattle.shm_calls.specs.declared.or.Or.{Or}
-use Rattle.shm_calls.specs.declared.or.Or.TheVariants.{First, Second}
-use Rattle.shm_calls.specs.declared.word.Word.{Word}
-use Rattle.shm_calls.specs.Either.{or_control}
-use Rattle.shm_calls.specs.Words.{word_control}
-use Rattle.shm_count.specs.declared.answer.ShareFault.{ShareFault}
+use Rattle.shm_words.specs.declared.place.Place.TheVariants as place
+use Rattle.shm_count.specs.{Step.{Control.first_point, Machines.up_control}, declared.answer.ShareFault.ShareFault}
+use Rattle.shm_count.specs.declared.answer.UpFault.{UpFault, TheVariants.{EraSpent, CountFull}}
+use Rattle.shm_count.specs.declared.{point.{Aim.TheVariants.Up, StepState.StepState}, up_root.RootingPoint.RootingPoint}
+use Rattle.shm_count.specs.declared.up_root.{RootingPoint.TheVariants.{Era, Look, Step}, RootingState.RootingState}
 use Rattle.shm_count.specs.declared.answer.ShareFault.TheVariants as share
-use Rattle.shm_count.specs.declared.answer.UpFault.{UpFault}
-use Rattle.shm_count.specs.declared.answer.UpFault.TheVariants.{EraSpent, CountFull}
-use Rattle.shm_count.specs.declared.point.Aim.TheVariants.{Up}
-use Rattle.shm_count.specs.declared.point.StepState.{StepState}
-use Rattle.shm_count.specs.declared.up_root.RootingPoint.{RootingPoint}
-use Rattle.shm_count.specs.declared.up_root.RootingPoint.TheVariants.{Era, Look, Step}
-use Rattle.shm_count.specs.declared.up_root.RootingState.{RootingState}
-use Rattle.shm_count.specs.Step.Machines.{up_control}
+use Rattle.shm_graph.specs.{declared.ask.{Ask.{Ask, TheVariants.Load}, Me.Me}, Laws.Control}
+use Rattle.shm_calls.specs.{declared.{or.Or.{Or, TheVariants.{First, Second}}, word.Word.Word}, Either.or_control}
+use Rattle.shm_calls.specs.{Words.word_control, Steering.Steered}
 
 -- its calls, and what they answer
 abbrev pub RootingCall : Type 0
@@ -92,3 +80,16 @@ pub record RootingInRange (m : RootingState) : Type 0 where
 -- the control of its calls
 abbrev pub rooting_parts : Control RootingCall RootingAnswer
 rooting_parts = or_control word_control up_control
+
+-- what the plan does: its identity and its line, its calls, and where it goes by their answers
+abbrev pub rooting_steered : Steered RootingState RootingCall RootingAnswer (Result ℕ ShareFault)
+rooting_steered =
+    record {
+      me = λ m. m.me;
+      line = λ m. [];
+      first = λ m. is_era m.point;
+      start = λ m. record m { era = 0; root = 0; point = Era };
+      call = λ m. rooting_call m m.point;
+      after = λ m. rooting_after m m.point;
+      turns = λ m. rooting_turns m m.point;
+    }

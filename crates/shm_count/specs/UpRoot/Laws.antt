@@ -1,45 +1,27 @@
 -- what is owed of an up at the least empty root: each call leads on, to the next one or to what is left
 use Rattle.std.proofs.Common.{◌≡◌, ◌≢◌, ℕ, ◌+◌, ◌^◌, ◌<◌, refl, sym, ap, ◌∙◌, subst, arith, Bool, true, false, List, [], ◌++◌, length, inl, inr}
-use Rattle.shm_count.specs.Step.BeforeExchange.{first_going}
-use Rattle.std.specs.Prelude.{◌-◌, ◌==◌, nat_lt, if◌then◌else◌, Option, Some, None, Result, Ok, Err}
 use Rattle.std.proofs.lemmas.Bool.{cases_eq, eq-eqb, eqb-true, eqb-false, ltb-true, ltb-false}
 use Rattle.std.proofs.lemmas.List.Elements.{Contains-append_right}
-use Rattle.shm_graph.specs.Bounds.{redo_steps}
-use Rattle.shm_graph.specs.declared.ask.Me.{Me}
-use Rattle.shm_graph.specs.declared.memo.Memo.{Memo}
-use Rattle.shm_graph.specs.declared.spot.Spot.TheVariants as spot
-use Rattle.shm_graph.specs.Agents.{recovers}
-use Rattle.shm_graph.specs.Asks.{Trail, IsWithin}
-use Rattle.shm_graph.specs.Core.{core}
-use Rattle.shm_graph.specs.Events.{Event}
-use Rattle.shm_graph.specs.Laws.{Outcome}
-use Rattle.shm_graph.specs.Reach.{is_reached}
-use Rattle.shm_graph.specs.Views.{own_word, view}
-use Rattle.shm_graph.proofs.States.Holders.{reach_counted}
-use Rattle.shm_graph.proofs.States.Reached.{reached_here}
-use Rattle.shm_steps.specs.WordParts.{CountLoaded, OwnLoaded}
-use Rattle.shm_steps.proofs.Cores.{here_same}
-use Rattle.shm_steps.proofs.Words.Own.{era_load, root_load}
-use Rattle.shm_calls.specs.declared.or.Or.TheVariants.{First, Second}
-use Rattle.shm_calls.specs.CallTells.{within_more}
-use Rattle.shm_calls.specs.Either.{or_part_laws}
-use Rattle.shm_calls.specs.Parts.{IsHeld, PartLaws}
-use Rattle.shm_calls.specs.Plans.{PlanLaws, PlanStays, IsCall, Follows}
-use Rattle.shm_calls.specs.Words.{word_control, word_more, word_part_laws, WordLeaves}
-use Rattle.shm_count.specs.declared.answer.ShareFault.{ShareFault}
-use Rattle.shm_count.specs.declared.answer.ShareFault.TheVariants as share
-use Rattle.shm_count.specs.declared.answer.UpFault.TheVariants.{EraSpent, CountFull}
-use Rattle.shm_count.specs.declared.up_root.RootingPoint.{RootingPoint}
-use Rattle.shm_count.specs.declared.up_root.RootingPoint.TheVariants.{Era, Look, Step}
-use Rattle.shm_count.specs.declared.up_root.RootingState.{RootingState}
-use Rattle.shm_count.specs.CountParts.{up_part, up_part_laws}
-use Rattle.shm_count.specs.DyingBlocks.{live_room}
-use Rattle.shm_count.specs.Roots.{root_word}
-use Rattle.shm_count.specs.Step.Control.{IsInside}
-use Rattle.shm_count.specs.Step.Machines.{up_control}
-use Rattle.shm_count.specs.UpRoot.Control.{RootingAnswer, is_era, rooting_ask, rooting_call, rooting_parts}
+use Rattle.std.specs.Prelude.{◌-◌, ◌==◌, nat_lt, if◌then◌else◌, Option, Some, None, Result, Ok, Err}
+use Rattle.shm_count.specs.Step.{BeforeExchange.first_going, Control.IsInside, Machines.up_control}
+use Rattle.shm_count.specs.declared.answer.{ShareFault.ShareFault, UpFault.TheVariants.{EraSpent, CountFull}}
+use Rattle.shm_count.specs.declared.up_root.RootingPoint.{RootingPoint, TheVariants.{Era, Look, Step}}
+use Rattle.shm_count.specs.{declared.up_root.RootingState.RootingState, CountParts.{up_part, up_part_laws}}
+use Rattle.shm_count.specs.{DyingBlocks.live_room, Roots.root_word}
+use Rattle.shm_count.specs.UpRoot.Control.{RootingAnswer, is_era, rooting_ask, rooting_call, rooting_parts, rooting_steered}
 use Rattle.shm_count.specs.UpRoot.{IsLooking, MayUpRoot, RootingKnows, TookUp, UpRootLeaves, look_part, rooting_part, rooting_plan, rooting_spot, taken_part}
 use Rattle.shm_count.specs.UpRoot.Steps.{filled_core, taken_laws, untouched_core}
+use Rattle.shm_count.specs.declared.answer.ShareFault.TheVariants as share
+use Rattle.shm_graph.specs.{Bounds.redo_steps, declared.{ask.Me.Me, memo.Memo.Memo}, Agents.recovers}
+use Rattle.shm_graph.specs.{Asks.{Trail, IsWithin}, Core.core, Events.Event, Laws.Outcome, Reach.is_reached}
+use Rattle.shm_graph.specs.Views.{own_word, view}
+use Rattle.shm_graph.specs.declared.spot.Spot.TheVariants as spot
+use Rattle.shm_graph.proofs.States.{Holders.reach_counted, Reached.reached_here}
+use Rattle.shm_steps.specs.WordParts.{CountLoaded, OwnLoaded}
+use Rattle.shm_steps.proofs.{Cores.here_same, Words.Own.{era_load, root_load}}
+use Rattle.shm_calls.specs.{declared.or.Or.TheVariants.{First, Second}, CallTells.within_more, Either.or_part_laws}
+use Rattle.shm_calls.specs.{Parts.{IsHeld, PartLaws}, Plans.{PlanLaws, PlanStays, IsCall, Follows}}
+use Rattle.shm_calls.specs.Words.{word_control, word_more, word_part_laws, WordLeaves}
 
 -- what is known before the first call
 pub rooting_begin : (m : RootingState) (r : Memo) → m.root ≡ 0 → MayUpRoot m.me m.block r → RootingKnows m Era r r [] []
@@ -179,13 +161,13 @@ rooting_laws =
     stays m Era (First n) =
         let x : RootingState = record m { point = Era } in
         let q : Bool = nat_lt (2 ^ 47 - 3) n in
-        record { same_me = era_same x n (λ (z : RootingState). z.me) refl q; same_line = refl; same_start = era_same x n rooting_plan.start refl q; started = later x n q }
+        record { same_me = era_same x n (λ (z : RootingState). z.me) refl q; same_line = refl; same_start = era_same x n rooting_steered.start refl q; started = later x n q }
     stays m Look (First n) =
         let x : RootingState = record m { point = Look } in
         record {
           same_me = look_same x (λ (z : RootingState). z.me) refl refl refl (n == 0) (m.root == 15);
           same_line = refl;
-          same_start = look_same x rooting_plan.start refl refl refl (n == 0) (m.root == 15);
+          same_start = look_same x rooting_steered.start refl refl refl (n == 0) (m.root == 15);
           started = λ e. look_same x (λ (z : RootingState). is_era z.point) refl refl refl (n == 0) (m.root == 15);
         }
     stays m Step (First n) =
@@ -193,7 +175,7 @@ rooting_laws =
         record {
           same_me = look_same x (λ (z : RootingState). z.me) refl refl refl (n == 0) (m.root == 15);
           same_line = refl;
-          same_start = look_same x rooting_plan.start refl refl refl (n == 0) (m.root == 15);
+          same_start = look_same x rooting_steered.start refl refl refl (n == 0) (m.root == 15);
           started = λ e. look_same x (λ (z : RootingState). is_era z.point) refl refl refl (n == 0) (m.root == 15);
         }
     stays m Era (Second (Ok u)) = record { same_me = refl; same_line = refl; same_start = refl; started = λ e. absurd (cc) }

@@ -1,44 +1,24 @@
 -- a step up that is taken up at an own root, as a part
 use Rattle.std.proofs.Common.{◌≡◌, ℕ, ◌+◌, ◌^◌, ◌<◌, ◌≤◌, refl, sym, ap, ◌∙◌, subst, arith, Bool, true, false, List, ◌∷◌, ◌++◌, inl, inr}
-use Rattle.std.specs.Prelude.{Result, Ok, Err}
 use Rattle.std.proofs.lemmas.Bool.{and_from, false≢true, lt-ltb}
-use Rattle.shm_words.specs.declared.place.Place.TheVariants as place
+use Rattle.std.specs.Prelude.{Result, Ok, Err}
 use Rattle.shm_words.specs.Layout.{address, is_in}
+use Rattle.shm_words.specs.declared.place.Place.TheVariants as place
 use Rattle.shm_words.proofs.Placing.{address_below, address_small, total_small}
-use Rattle.shm_graph.specs.Bounds.{redo_steps}
-use Rattle.shm_count.specs.Step.BeforeExchange.{first_holds, first_same, first_era, first_asked, first_told}
-use Rattle.shm_count.specs.Step.Control.{first_point}
-use Rattle.shm_count.specs.Step.Ranges.{first_fits}
-use Rattle.shm_count.specs.Step.Refusing.{first_reads}
-use Rattle.shm_graph.specs.declared.ask.Me.{Me}
-use Rattle.shm_graph.specs.declared.memo.Memo.{Memo}
+use Rattle.shm_graph.specs.{Bounds.redo_steps, declared.{ask.Me.Me, memo.Memo.Memo, table.Part.Part}}
+use Rattle.shm_graph.specs.{declared.table.Part.TheVariants.{Loose, Table}, Asks.{Trail, IsWithin}, Core.core}
+use Rattle.shm_graph.specs.{Events.Event, Spots.spot_address, Views.own_word}
 use Rattle.shm_graph.specs.declared.spot.Spot.TheVariants as spot
-use Rattle.shm_graph.specs.declared.table.Part.{Part}
-use Rattle.shm_graph.specs.declared.table.Part.TheVariants.{Loose, Table}
-use Rattle.shm_graph.specs.Asks.{Trail, IsWithin}
-use Rattle.shm_graph.specs.Core.{core}
-use Rattle.shm_graph.specs.Events.{Event}
-use Rattle.shm_graph.specs.Spots.{spot_address}
-use Rattle.shm_graph.specs.Views.{own_word}
-use Rattle.shm_steps.specs.Raising.{is_read}
-use Rattle.shm_steps.specs.Reparting.{sight}
-use Rattle.shm_calls.specs.MappedParts.{mapped_part, mapped_part_laws}
-use Rattle.shm_calls.specs.Parts.{PartLaws, weaker_laws}
-use Rattle.shm_count.specs.declared.answer.UpFault.{UpFault}
-use Rattle.shm_count.specs.declared.answer.UpFault.TheVariants.{EraSpent, CountFull}
-use Rattle.shm_count.specs.declared.point.Aim.TheVariants.{Up}
-use Rattle.shm_count.specs.declared.point.StepState.{StepState}
-use Rattle.shm_count.specs.Slots.{Filled, Untouched}
-use Rattle.shm_count.specs.Slots.Parts.{untouched}
-use Rattle.shm_count.specs.Slots.Ups.{up_leaves}
-use Rattle.shm_count.specs.Step.Bound.{redo_bound}
-use Rattle.shm_count.specs.Step.Control.{step_control}
-use Rattle.shm_count.specs.Step.{CanStep}
-use Rattle.shm_count.specs.Step.Machines.{up_answer, up_control}
-use Rattle.shm_count.specs.Step.Parts.{part_after}
-use Rattle.shm_count.specs.StepsFrom.{FromLeaves, IsFrom, from_part, from_part_laws}
-use Rattle.shm_count.specs.UpRoot.Control.{taken_up}
+use Rattle.shm_count.specs.Step.BeforeExchange.{first_holds, first_same, first_era, first_asked, first_told}
+use Rattle.shm_count.specs.Step.{Control.{first_point, step_control}, Ranges.first_fits, Refusing.first_reads}
+use Rattle.shm_count.specs.Step.{Bound.redo_bound, CanStep, Machines.{up_answer, up_control}, Parts.part_after}
+use Rattle.shm_count.specs.declared.answer.UpFault.{UpFault, TheVariants.{EraSpent, CountFull}}
+use Rattle.shm_count.specs.{declared.point.{Aim.TheVariants.Up, StepState.StepState}, Slots.{Filled, Untouched}}
+use Rattle.shm_count.specs.Slots.{Parts.untouched, Ups.up_leaves}
+use Rattle.shm_count.specs.{StepsFrom.{FromLeaves, IsFrom, from_part, from_part_laws}, UpRoot.Control.taken_up}
 use Rattle.shm_count.specs.UpRoot.{MayTakeUp, TookUp, taken_part}
+use Rattle.shm_steps.specs.{Raising.is_read, Reparting.sight}
+use Rattle.shm_calls.specs.{MappedParts.{mapped_part, mapped_part_laws}, Parts.{PartLaws, weaker_laws}}
 
 -- no partition is read from a root
 root_unread : (part : Part) (c k : ℕ) → is_read part (spot.Root c k) ≡ false

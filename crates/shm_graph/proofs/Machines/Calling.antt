@@ -1,25 +1,14 @@
 -- a word step joins the call: what of the memo stays, and that the pool still holds
 use Rattle.std.proofs.Common.{◌≡◌, ℕ, ◌<◌, sym, ap, ◌∙◌, subst, Bool, true, false, List, [], ◌∷◌, Option}
-use Rattle.std.specs.Prelude.{None}
 use Rattle.std.proofs.lemmas.List.Elements.{All-nil, All-cons, All-filter}
+use Rattle.std.specs.{Prelude.None, List.filter}
 use Rattle.shm_words.specs.declared.geometry.Geometry.{Geometry}
-use Rattle.shm_graph.specs.declared.spot.Spot.{Spot}
-use Rattle.shm_graph.specs.declared.memo.Fact.{Fact}
-use Rattle.shm_graph.specs.declared.memo.Test.{Test}
-use Rattle.shm_graph.specs.declared.memo.Memo.{Memo}
-use Rattle.shm_graph.specs.declared.memo.Step.{Step}
-use Rattle.shm_graph.specs.declared.memo.Seen.{Seen}
-use Rattle.shm_graph.specs.declared.memo.Agent.{Agent}
-use Rattle.shm_graph.specs.Asks.{call_after}
-use Rattle.shm_graph.specs.Views.{View, view, at1}
-use Rattle.shm_graph.specs.Held.{HeldAt}
-use Rattle.std.specs.List.{filter}
-use Rattle.shm_graph.specs.Changes.{is_lane_count, called}
-use Rattle.shm_graph.specs.Agents.{with_last, stepped}
-use Rattle.shm_graph.proofs.Memos.Frames.{at1_twice}
-use Rattle.shm_graph.proofs.Runs.Lists.{at1_here}
-use Rattle.shm_graph.proofs.Memos.MemoParts.{call_set, view_here}
+use Rattle.shm_graph.specs.declared.{spot.Spot.Spot, memo.{Fact.Fact, Test.Test, Memo.Memo, Step.Step, Seen.Seen}}
+use Rattle.shm_graph.specs.{declared.memo.Agent.Agent, Asks.call_after, Views.{View, view, at1}, Held.HeldAt}
+use Rattle.shm_graph.specs.{Changes.{is_lane_count, called}, Agents.{with_last, stepped}}
+use Rattle.shm_graph.proofs.Memos.{Frames.at1_twice, MemoParts.{call_set, view_here}}
 use Rattle.shm_graph.proofs.Memos.Calls.{FactHolds, FactsHold, ZeroHolds, ZerosHold, TestHolds, MadeHold, call_held}
+use Rattle.shm_graph.proofs.Runs.Lists.{at1_here}
 
 -- what holds of the memo of a first step and of another one
 pub called_by : (P : Memo → Type 0) (m : Memo) (t : Step) → P (called m (record t { fresh = true })) → P (called m (record t { fresh = false })) → P (called m t)

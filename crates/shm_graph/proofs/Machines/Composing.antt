@@ -1,12 +1,8 @@
 -- a machine that runs another one as its part
 use Rattle.std.proofs.Common.{◌≡◌, ℕ, refl, subst}
 use Rattle.std.specs.Prelude.{Option, Some, None}
-use Rattle.shm_graph.specs.declared.spot.Spot.{Spot}
-use Rattle.shm_graph.specs.declared.ask.Me.{Me}
-use Rattle.shm_graph.specs.declared.ask.Ask.{Ask}
-use Rattle.shm_graph.specs.declared.memo.Memo.{Memo}
-use Rattle.shm_graph.specs.declared.ask.Turn.TheVariants.{More, Done}
-use Rattle.shm_graph.specs.Laws.{Frame, KeptAt, Outcome, turn_of}
+use Rattle.shm_graph.specs.declared.{spot.Spot.Spot, ask.{Me.Me, Ask.Ask, Turn.TheVariants.{More, Done}}}
+use Rattle.shm_graph.specs.{declared.memo.Memo.Memo, Laws.{Frame, KeptAt, Outcome, turn_of}}
 
 -- what follows from what holds after the part's step
 pub kept_then : (me : Me) (w : Spot → ℕ) (r : ℕ → Memo) (a : Ask) (f : Frame) (after after' : ℕ → Memo → Type 0) (p : Spot) → ((n : ℕ) (m : Memo) → after n m → after' n m) → KeptAt me w r a f after p → KeptAt me w r a f after' p

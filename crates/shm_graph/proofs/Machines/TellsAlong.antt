@@ -1,11 +1,7 @@
 -- what a machine tells of one more pair
-use Rattle.std.proofs.Common.{◌≡◌, ℕ, refl, ap, ◌∙◌, List, [], ◌∷◌, ◌++◌}
+use Rattle.std.proofs.{Common.{◌≡◌, ℕ, refl, ap, ◌∙◌, List, [], ◌∷◌, ◌++◌}, lemmas.List.Elements.filter-append}
 use Rattle.std.specs.List.{filter}
-use Rattle.std.proofs.lemmas.List.Elements.{filter-append}
-use Rattle.shm_graph.specs.declared.memo.Seen.{Seen}
-use Rattle.shm_graph.specs.Asks.{Trail}
-use Rattle.shm_graph.specs.Events.{Event}
-use Rattle.shm_graph.specs.Laws.{Control}
+use Rattle.shm_graph.specs.{declared.memo.Seen.Seen, Asks.Trail, Events.Event, Laws.Control}
 use Rattle.shm_graph.specs.Tells.{is_event, after_all, tells_along, happens_along}
 
 module _ {S A : Type 0} (k : Control S A) where

@@ -1,28 +1,18 @@
 -- the laws of a machine that runs by itself follow from its laws in any frame
 use Rattle.std.proofs.Common.{◌≡◌, ℕ, ◌<◌, ◌++◌, ◌∷◌, [], refl, sym, ap, ◌∙◌, subst, Bool, false, List, length}
 use Rattle.std.specs.Prelude.{slice_index, Option}
-use Rattle.shm_words.specs.declared.geometry.Geometry.{Geometry}
-use Rattle.shm_words.specs.Layout.{total_of}
-use Rattle.shm_graph.specs.declared.spot.Spot.{Spot}
-use Rattle.shm_graph.specs.declared.ask.Ask.{Ask}
-use Rattle.shm_graph.specs.declared.ask.Me.{Me}
-use Rattle.shm_graph.specs.declared.memo.Memo.{Memo}
-use Rattle.shm_graph.specs.declared.memo.Step.{Step}
-use Rattle.shm_graph.specs.declared.run.Account.{Account}
-use Rattle.shm_graph.specs.declared.run.Move.TheVariants.{Word}
-use Rattle.shm_graph.specs.Spots.{spot_at, classes_in, see}
-use Rattle.shm_graph.specs.Views.{at1, view}
-use Rattle.shm_graph.specs.Asks.{Trail, at_of, seen_of, pair, call_before, words_after, words_set}
-use Rattle.shm_graph.specs.Changes.{memo_on, memo_after, asked_spot}
-use Rattle.shm_graph.specs.Events.{Event}
-use Rattle.shm_graph.specs.Laws as part
+use Rattle.shm_words.specs.{declared.geometry.Geometry.Geometry, Layout.total_of}
+use Rattle.shm_graph.specs.declared.{spot.Spot.Spot, ask.{Ask.Ask, Me.Me}, memo.{Memo.Memo, Step.Step}}
+use Rattle.shm_graph.specs.{declared.run.{Account.Account, Move.TheVariants.Word}, Spots.{spot_at, classes_in, see}}
+use Rattle.shm_graph.specs.{Views.{at1, view}, Asks.{Trail, at_of, seen_of, pair, call_before, words_after, words_set}}
+use Rattle.shm_graph.specs.{Changes.{memo_on, memo_after, asked_spot}, Events.Event}
 use Rattle.shm_graph.specs.Laws.{Control, Laws, Frame, Outcome, Then, Stands, Stepped, KeptAt, frame_of, framed, step_of, event_on}
 use Rattle.shm_graph.specs.Runs.{Held, Turned, state, memos_of, accounts_after}
 use Rattle.shm_graph.specs.Whole.{fits_now, gives_now, WholeInside, WholeKeeps}
+use Rattle.shm_graph.specs.Laws as part
 use Rattle.shm_graph.proofs.Spots.Seeing.{classes-see, see-spot}
 use Rattle.shm_graph.proofs.Runs.Lists.{see-words_set, length-words_set, length-accounts_after, memos_of-after}
-use Rattle.shm_graph.proofs.Memos.MemoSteps.{memo_call}
-use Rattle.shm_graph.proofs.Machines.Composing.{outcome_then}
+use Rattle.shm_graph.proofs.{Memos.MemoSteps.memo_call, Machines.Composing.outcome_then}
 
 -- a kept step at the spot of its address, over functions, is a turn over lists
 pub turned_by : (ws : List ℕ) (es : List Account) (t : Step) (after : Memo → Type 0) → let g : Geometry = t.me.geometry in Held g ws es → t.me.who < g.clients → at_of t.ask < total_of g

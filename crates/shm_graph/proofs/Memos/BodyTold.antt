@@ -1,15 +1,9 @@
 -- the memo tells the words of pages' bodies that are stored or exchanged
-use Rattle.std.proofs.Common.{◌≡◌, ℕ, refl, sym, ap, ◌∙◌, true, eq-eqb}
-use Rattle.std.proofs.lemmas.Bool.{true≢false}
+use Rattle.std.proofs.{Common.{◌≡◌, ℕ, refl, sym, ap, ◌∙◌, true, eq-eqb}, lemmas.Bool.true≢false}
 use Rattle.shm_words.specs.declared.geometry.Geometry.{Geometry}
-use Rattle.shm_graph.specs.declared.ask.Ask.{Ask}
-use Rattle.shm_graph.specs.declared.ask.Ask.TheVariants.{Store, Exchange}
-use Rattle.shm_graph.specs.declared.spot.Spot.{Spot}
-use Rattle.shm_graph.specs.declared.spot.Spot.TheVariants.{Unused, Head}
-use Rattle.shm_graph.specs.declared.memo.Memo.{Memo}
-use Rattle.shm_graph.specs.Spots.{spot_at, is_in_body}
-use Rattle.shm_graph.specs.Ops.{cover_of, On}
-use Rattle.shm_graph.specs.Asks.{at_of}
+use Rattle.shm_graph.specs.declared.{ask.Ask.{Ask, TheVariants.{Store, Exchange}}, spot.Spot.Spot}
+use Rattle.shm_graph.specs.declared.{spot.Spot.TheVariants.{Unused, Head}, memo.Memo.Memo}
+use Rattle.shm_graph.specs.{Spots.{spot_at, is_in_body}, Ops.{cover_of, On}, Asks.at_of}
 use Rattle.shm_graph.specs.Telling.{spot_told, body_told, fixed_spot, outside_or}
 use Rattle.shm_graph.proofs.Spots.Spotting.{within_bodies, spot_in_bodies, head_at, alone}
 

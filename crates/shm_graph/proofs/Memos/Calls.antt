@@ -1,13 +1,9 @@
 -- what of a call binds changes, and no word
 use Rattle.std.proofs.Common.{ℕ, ◌<◌, List, Option}
 use Rattle.std.specs.List.{All}
-use Rattle.shm_words.specs.declared.geometry.Geometry.{Geometry}
-use Rattle.shm_words.specs.Headers.{header_of}
-use Rattle.shm_graph.specs.declared.spot.Spot.{Spot}
-use Rattle.shm_graph.specs.declared.spot.Spot.TheVariants.{Era, Root, Tail, QueueHead, Segment, Page, Head}
-use Rattle.shm_graph.specs.declared.memo.Fact.{Fact}
-use Rattle.shm_graph.specs.declared.memo.Test.{Test}
-use Rattle.shm_graph.specs.Views.{View, at1, targets, ons}
+use Rattle.shm_words.specs.{declared.geometry.Geometry.Geometry, Headers.header_of}
+use Rattle.shm_graph.specs.declared.spot.Spot.{Spot, TheVariants.{Era, Root, Tail, QueueHead, Segment, Page, Head}}
+use Rattle.shm_graph.specs.{declared.memo.{Fact.Fact, Test.Test}, Views.{View, at1, targets, ons}}
 use Rattle.shm_graph.specs.Held.{HeldAt, FactAt, ZeroAt, TestAt, MadeAt}
 use Rattle.shm_graph.proofs.Memos.Frames.{at1_all}
 

@@ -1,7 +1,6 @@
 -- what a change of one identity's part leaves
 use Rattle.std.proofs.Common.{◌≡◌, ◌≢◌, ℕ, refl, sym, true, false, Bool, cond, eqb, subst, inl, inr}
-use Rattle.std.proofs.Math.Path.{fun_ext}
-use Rattle.std.proofs.lemmas.Bool.{cases_eq}
+use Rattle.std.proofs.{Math.Path.fun_ext, lemmas.Bool.cases_eq}
 use Rattle.shm_graph.specs.Views.{at1}
 use Rattle.shm_graph.proofs.Runs.Lists.{at1_here, at1_other}
 

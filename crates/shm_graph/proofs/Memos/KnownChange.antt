@@ -1,22 +1,14 @@
 -- what is known and the value blocks of one identity change, and no word
 use Rattle.std.proofs.Common.{◌≡◌, ℕ, ◌<◌, refl, sym, ap, ◌∙◌, subst, List, ◌∷◌, false}
-use Rattle.std.specs.List.{All, filter}
 use Rattle.std.proofs.lemmas.List.Elements.{All-cons, All-filter}
+use Rattle.std.specs.List.{All, filter}
 use Rattle.shm_words.specs.declared.geometry.Geometry.{Geometry}
-use Rattle.shm_graph.specs.declared.spot.Spot.{Spot}
-use Rattle.shm_graph.specs.declared.spot.Spot.TheVariants.{Tail, QueueHead, Slot, Tag, Body}
-use Rattle.shm_graph.specs.declared.memo.Stored.{Stored}
-use Rattle.shm_graph.specs.declared.memo.Memo.{Memo}
-use Rattle.shm_graph.specs.declared.table.Part.{Part}
-use Rattle.shm_graph.specs.Tables.{contents_of}
-use Rattle.shm_graph.specs.Views.{View, view, at1, targets}
-use Rattle.shm_graph.specs.Held.{HeldAt, KnownAt, ValueAt, is_loose}
-use Rattle.shm_graph.specs.Reach.{not_at, learnt}
-use Rattle.shm_graph.specs.MemoAfterRead.{valued}
-use Rattle.shm_graph.proofs.Memos.Frames.{at1_all}
-use Rattle.shm_graph.proofs.States.Holders.{InReach}
-use Rattle.shm_graph.proofs.StepKinds.Loads.{choice}
-use Rattle.shm_graph.proofs.Memos.MemoParts.{changed_view, put_same, view_here}
+use Rattle.shm_graph.specs.declared.spot.Spot.{Spot, TheVariants.{Tail, QueueHead, Slot, Tag, Body}}
+use Rattle.shm_graph.specs.{declared.{memo.{Stored.Stored, Memo.Memo}, table.Part.Part}, Tables.contents_of}
+use Rattle.shm_graph.specs.{Views.{View, view, at1, targets}, Held.{HeldAt, KnownAt, ValueAt, is_loose}}
+use Rattle.shm_graph.specs.{Reach.{not_at, learnt}, MemoAfterRead.valued}
+use Rattle.shm_graph.proofs.Memos.{Frames.at1_all, MemoParts.{changed_view, put_same, view_here}}
+use Rattle.shm_graph.proofs.{States.Holders.InReach, StepKinds.Loads.choice}
 
 -- c knows a word as it is
 abbrev pub KnownHolds : Geometry → (Spot → ℕ) → View → ℕ → Stored → Type 0

@@ -1,28 +1,18 @@
 -- the memo tells the spot of a word of a body that is read
 use Rattle.std.proofs.Common.{◌≡◌, ◌≢◌, ℕ, ◌+◌, ◌-◌, ◌/◌, ◌%◌, zero, suc, ◌<◌, refl, sym, ap, ◌∙◌, subst, arith, Bool, true, false, ltb, eqb, inl, inr, ◌⊎◌, List, [], ◌∷◌, Option, Some, None}
-use Rattle.std.specs.Prelude.{slice_index_or}
-use Rattle.std.specs.List.{All, Contains}
 use Rattle.std.proofs.lemmas.Bool.{cases_Bool, and_parts, eqb-true, eq-eqb, ltb-true, cond-true, cond-false, false≢true, true≢false}
 use Rattle.std.proofs.lemmas.List.Elements.{All-head, All-tail, Contains-append_cases}
-use Rattle.shm_words.specs.declared.geometry.Geometry.{Geometry}
-use Rattle.shm_words.specs.Classes.{IsClass}
-use Rattle.shm_words.specs.Layout.{bodies}
+use Rattle.std.specs.{Prelude.slice_index_or, List.{All, Contains}}
+use Rattle.shm_words.specs.{declared.geometry.Geometry.Geometry, Classes.IsClass, Layout.bodies}
 use Rattle.shm_words.specs.Tags.{tag_refs, tag_plain}
 use Rattle.shm_words.proofs.Classing.{class_room}
-use Rattle.shm_graph.specs.declared.ask.Ask.TheVariants.{Load}
-use Rattle.shm_graph.specs.declared.spot.Spot.{Spot}
-use Rattle.shm_graph.specs.declared.spot.Spot.TheVariants.{Head, Tag, Body}
-use Rattle.shm_graph.specs.declared.memo.Memo.{Memo}
-use Rattle.shm_graph.specs.Spots.{spot_at, class_at, is_in_body}
-use Rattle.shm_graph.specs.Blocks.{classes, IsBlock}
-use Rattle.shm_graph.specs.Views.{View, view}
-use Rattle.shm_graph.specs.Held.{HeldAt}
+use Rattle.shm_graph.specs.declared.{ask.Ask.TheVariants.Load, spot.Spot.{Spot, TheVariants.{Head, Tag, Body}}}
+use Rattle.shm_graph.specs.{declared.memo.Memo.Memo, Spots.{spot_at, class_at, is_in_body}, Blocks.{classes, IsBlock}}
+use Rattle.shm_graph.specs.{Views.{View, view}, Held.HeldAt}
 use Rattle.shm_graph.specs.Telling.{Claim, claims, covers, claim_in, claim_of, word_of_block, spot_claimed, spot_told}
 use Rattle.shm_graph.proofs.Spots.Spotting.{block_within, tag_spot, body_spot, head_at, body_block}
-use Rattle.shm_graph.proofs.States.Holders.{held_live_block}
-use Rattle.shm_graph.proofs.StepKinds.Loads.{choice}
-use Rattle.shm_graph.proofs.States.Claims.{ClaimSound, claims_sound}
-use Rattle.shm_graph.proofs.Memos.BodyTold.{told_in_body}
+use Rattle.shm_graph.proofs.States.{Holders.held_live_block, Claims.{ClaimSound, claims_sound}}
+use Rattle.shm_graph.proofs.{StepKinds.Loads.choice, Memos.BodyTold.told_in_body}
 
 -- some claim of the memo covers the address
 abbrev pub IsClaimed : Bool → ℕ → Memo → ℕ → Type 0

@@ -1,22 +1,14 @@
 -- a block joins the looks
 use Rattle.std.proofs.Common.{Bool, ◌≡◌, ◌≢◌, ℕ, ◌<◌, sym, ◌∙◌, subst, arith, List, [], ◌∷◌, ◌++◌, ◌⊎◌, inl, inr, Option}
-use Rattle.std.specs.Prelude.{None, Some}
 use Rattle.std.proofs.lemmas.List.Elements.{All-weaker, Contains-append_left, Contains-append_right, Contains-append_cases}
-use Rattle.shm_words.specs.declared.geometry.Geometry.{Geometry}
-use Rattle.shm_words.specs.declared.header.Header.{Header}
-use Rattle.shm_words.specs.Headers.{header_of}
+use Rattle.std.specs.Prelude.{None, Some}
+use Rattle.shm_words.specs.{declared.{geometry.Geometry.Geometry, header.Header.Header}, Headers.header_of}
 use Rattle.shm_words.specs.Tags.{tag_author}
-use Rattle.shm_graph.specs.declared.spot.Spot.{Spot}
-use Rattle.shm_graph.specs.declared.spot.Spot.TheVariants.{Home, Root, Tail, QueueHead, Slot, Tag, Body, Head}
-use Rattle.shm_graph.specs.declared.memo.Look.{Look}
-use Rattle.shm_graph.specs.declared.memo.Stored.{Stored}
-use Rattle.shm_graph.specs.Tables.{contents_of}
-use Rattle.shm_graph.specs.Ops.{slot_of}
+use Rattle.shm_graph.specs.declared.spot.Spot.{Spot, TheVariants.{Home, Root, Tail, QueueHead, Slot, Tag, Body, Head}}
+use Rattle.shm_graph.specs.{declared.memo.{Look.Look, Stored.Stored}, Tables.contents_of, Ops.slot_of}
 use Rattle.shm_graph.specs.Views.{View, at1, targets}
 use Rattle.shm_graph.specs.Held.{HeldAt, LooksSound, LookAt, InLooks, SlotOf, KnownAt, ValueAt, named_by, reach_of}
-use Rattle.shm_graph.proofs.Memos.Frames.{at1_all}
-use Rattle.shm_graph.proofs.Runs.Lists.{at1_other}
-use Rattle.shm_graph.proofs.States.HomeTarget.{home_target}
+use Rattle.shm_graph.proofs.{Memos.Frames.at1_all, Runs.Lists.at1_other, States.HomeTarget.home_target}
 
 -- ---- a longer reach
 

@@ -1,23 +1,10 @@
 -- the parts of the memos once one memo has changed
-use Rattle.std.proofs.Common.{◌≡◌, ℕ, Bool, false, refl, sym, ap, ◌∙◌, eqb, List, Option, []}
+use Rattle.std.proofs.{Common.{◌≡◌, ℕ, Bool, false, refl, sym, ap, ◌∙◌, eqb, List, Option, []}, Math.Path.fun_ext}
 use Rattle.std.specs.Prelude.{slice_index, slice_index_or}
-use Rattle.std.proofs.Math.Path.{fun_ext}
-use Rattle.shm_graph.specs.declared.spot.Spot.{Spot}
-use Rattle.shm_graph.specs.declared.memo.Status.{Status}
-use Rattle.shm_graph.specs.declared.memo.Op.{Op}
-use Rattle.shm_graph.specs.declared.memo.Stored.{Stored}
-use Rattle.shm_graph.specs.declared.memo.Look.{Look}
-use Rattle.shm_graph.specs.declared.memo.Making.{Making}
-use Rattle.shm_graph.specs.declared.memo.Fact.{Fact}
-use Rattle.shm_graph.specs.declared.memo.Test.{Test}
-use Rattle.shm_graph.specs.declared.memo.Seen.{Seen}
-use Rattle.shm_graph.specs.declared.memo.Agent.{Agent}
-use Rattle.shm_graph.specs.declared.memo.Memo.{Memo}
-use Rattle.shm_graph.specs.declared.table.Part.{Part}
-use Rattle.shm_graph.specs.Views.{View, view, at1}
-use Rattle.shm_graph.specs.Changes.{with_end, with_call}
-use Rattle.shm_graph.proofs.Memos.Frames.{cond_same, at1_same, at1_twice}
-use Rattle.shm_graph.proofs.Runs.Lists.{at1_here, at1_part}
+use Rattle.shm_graph.specs.declared.{spot.Spot.Spot, memo.{Status.Status, Op.Op, Stored.Stored, Look.Look}}
+use Rattle.shm_graph.specs.declared.memo.{Making.Making, Fact.Fact, Test.Test, Seen.Seen, Agent.Agent, Memo.Memo}
+use Rattle.shm_graph.specs.{declared.table.Part.Part, Views.{View, view, at1}, Changes.{with_end, with_call}}
+use Rattle.shm_graph.proofs.{Memos.Frames.{cond_same, at1_same, at1_twice}, Runs.Lists.{at1_here, at1_part}}
 
 -- a part in which the memos x and y of c agree
 pub same_part : {T : Type 0} (f : Memo → T) (r : ℕ → Memo) (c : ℕ) (x y : Memo) → f y ≡ f x → ◌≡◌ {A = ℕ → T} (λ d. f (at1 r c y d)) (λ d. f (at1 r c x d))

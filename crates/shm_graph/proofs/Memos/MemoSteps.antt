@@ -1,18 +1,11 @@
 -- what a word step, a death and a beginning leave of a memo's call and of its agents
 use Rattle.std.proofs.Common.{◌≡◌, ◌≢◌, ◌+◌, arith, ◌++◌, ◌∷◌, [], refl, sym, ap, ◌∙◌, true, false, Bool, cond, ◌&&◌, List}
-use Rattle.std.specs.Prelude.{Option, Some, None}
 use Rattle.std.proofs.lemmas.Bool.{true≢false}
-use Rattle.shm_graph.specs.declared.spot.Spot.{Spot}
-use Rattle.shm_graph.specs.declared.memo.Status.{Status as AStatus}
-use Rattle.shm_graph.specs.declared.memo.Status.TheVariants.{Gone}
-use Rattle.shm_graph.specs.declared.memo.Agent.{Agent}
-use Rattle.shm_graph.specs.declared.memo.Kind.{Kind}
-use Rattle.shm_graph.specs.declared.memo.Memo.{Memo}
-use Rattle.shm_graph.specs.declared.memo.Step.{Step}
-use Rattle.shm_graph.specs.Asks.{call_after}
+use Rattle.std.specs.Prelude.{Option, Some, None}
+use Rattle.shm_graph.specs.declared.{spot.Spot.Spot, memo.{Status.{Status as AStatus, TheVariants.Gone}, Agent.Agent}}
+use Rattle.shm_graph.specs.{declared.memo.{Kind.Kind, Memo.Memo, Step.Step}, Asks.call_after}
 use Rattle.shm_graph.specs.Agents.{last_agent, with_last, acts_by, acts, recovers_by, recovers, is_recoverer, stepped, ended, fallen, died, entered, is_gone, steps_made, steps_of}
-use Rattle.shm_graph.specs.Changes.{called, memo_on}
-use Rattle.shm_graph.specs.Runs.{fell_by}
+use Rattle.shm_graph.specs.{Changes.{called, memo_on}, Runs.fell_by}
 
 -- ---- the call
 

@@ -1,19 +1,11 @@
 -- the events of an identity's steps in a run are those that its memo tells
 use Rattle.std.proofs.Common.{◌≡◌, ◌≢◌, ℕ, ◌<◌, List, [], ◌∷◌, length, refl, sym, ap, ◌∙◌, subst, Bool, true, inl, inr}
+use Rattle.std.proofs.lemmas.{List.get_or-set_other, Bool.{cases_eq, eq-eqb, ne_eqb}}
 use Rattle.std.specs.Prelude.{slice_set}
-use Rattle.std.proofs.lemmas.List.{get_or-set_other}
-use Rattle.std.proofs.lemmas.Bool.{cases_eq, eq-eqb, ne_eqb}
 use Rattle.shm_words.specs.declared.geometry.Geometry.{Geometry}
-use Rattle.shm_graph.specs.declared.ask.Me.{Me}
-use Rattle.shm_graph.specs.declared.memo.Memo.{Memo}
-use Rattle.shm_graph.specs.declared.memo.Step.{Step}
-use Rattle.shm_graph.specs.declared.run.Account.{Account}
-use Rattle.shm_graph.specs.declared.run.Move.{Move}
-use Rattle.shm_graph.specs.declared.run.Move.TheVariants.{Word, Dies, Begins}
-use Rattle.shm_graph.specs.Spots.{spot_at, classes_in}
-use Rattle.shm_graph.specs.Asks.{Trail, at_of}
-use Rattle.shm_graph.specs.Changes.{memo_after, asked_spot}
-use Rattle.shm_graph.specs.Laws.{event_on}
+use Rattle.shm_graph.specs.declared.{ask.Me.Me, memo.{Memo.Memo, Step.Step}, run.{Account.Account, Move.Move}}
+use Rattle.shm_graph.specs.{declared.run.Move.TheVariants.{Word, Dies, Begins}, Spots.{spot_at, classes_in}}
+use Rattle.shm_graph.specs.{Asks.{Trail, at_of}, Changes.{memo_after, asked_spot}, Laws.event_on}
 use Rattle.shm_graph.specs.Runs.{State, memos_of, moved, account_at, account_after, account_died, account_entered, Leads}
 use Rattle.shm_graph.specs.CallEvents.{steps_of_call, events_of, steps_in, events_in, IsUnbroken}
 use Rattle.shm_graph.proofs.Runs.Lists.{account_here, length-accounts_after, length-changed}

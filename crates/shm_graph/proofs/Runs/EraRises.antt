@@ -2,31 +2,17 @@
 use Rattle.std.proofs.Common.{◌≡◌, ◌≢◌, ℕ, ◌+◌, ◌<◌, ◌≤◌, refl, sym, ap, ◌∙◌, subst, arith, inl, inr, Bool, true, false, cond, eqb, ◌&&◌, List, [], ◌∷◌}
 use Rattle.std.proofs.lemmas.Bool.{and_from, cases_eq, cond-true, eq-eqb, eqb-true, false≢true}
 use Rattle.shm_words.specs.declared.geometry.Geometry.{Geometry}
-use Rattle.shm_graph.specs.declared.ask.Ask.{Ask}
-use Rattle.shm_graph.specs.declared.ask.Ask.TheVariants.{Load, Store, Exchange}
-use Rattle.shm_graph.specs.declared.memo.Memo.{Memo}
-use Rattle.shm_graph.specs.declared.memo.Step.{Step}
-use Rattle.shm_graph.specs.declared.run.Account.{Account}
-use Rattle.shm_graph.specs.declared.run.Move.{Move}
-use Rattle.shm_graph.specs.declared.run.Move.TheVariants.{Word, Dies, Begins}
-use Rattle.shm_graph.specs.declared.run.Start.{Start}
-use Rattle.shm_graph.specs.declared.spot.Spot.{Spot}
-use Rattle.shm_graph.specs.declared.spot.Spot.TheVariants.{Era}
-use Rattle.shm_graph.specs.Agents.{acts, steps_made}
-use Rattle.shm_graph.specs.Asks.{at_of, words_after}
-use Rattle.shm_graph.specs.Controllers.{IsEraRaised}
-use Rattle.shm_graph.specs.Held.{HeldAt}
-use Rattle.shm_graph.specs.Histories.{IsTaken}
+use Rattle.shm_graph.specs.declared.{ask.Ask.{Ask, TheVariants.{Load, Store, Exchange}}, memo.{Memo.Memo, Step.Step}}
+use Rattle.shm_graph.specs.declared.run.{Account.Account, Move.{Move, TheVariants.{Word, Dies, Begins}}, Start.Start}
+use Rattle.shm_graph.specs.{declared.spot.Spot.{Spot, TheVariants.Era}, Agents.{acts, steps_made}}
+use Rattle.shm_graph.specs.{Asks.{at_of, words_after}, Controllers.IsEraRaised, Held.HeldAt, Histories.IsTaken}
 use Rattle.shm_graph.specs.Runs.{Held, Leads, State, account_after, account_at, account_died, account_entered, first_memo, first_state, memos_of, moved}
-use Rattle.shm_graph.specs.Spots.{classes_in, same_spot, see, spot_at, upd}
-use Rattle.shm_graph.specs.Views.{View, own_word, view}
+use Rattle.shm_graph.specs.{Spots.{classes_in, same_spot, see, spot_at, upd}, Views.{View, own_word, view}}
 use Rattle.shm_graph.specs.Changes.{asked_spot, memo_after}
 use Rattle.shm_graph.proofs.Memos.MemoSteps.{steps_died, steps_entered, steps_on}
 use Rattle.shm_graph.proofs.Runs.Lists.{account_part, length-changed, memos_of-changed, see-words_set}
-use Rattle.shm_graph.proofs.Runs.CallEventsOf.{memo_here, memo_other}
-use Rattle.shm_graph.proofs.Runs.Running.{Leads-held, Leads-keeps, view-at1}
-use Rattle.shm_graph.proofs.Runs.TurnsTaken.{turn_others}
-use Rattle.shm_graph.proofs.Spots.Spotting.{same_spot_is}
+use Rattle.shm_graph.proofs.Runs.{CallEventsOf.{memo_here, memo_other}, Running.{Leads-held, Leads-keeps, view-at1}}
+use Rattle.shm_graph.proofs.{Runs.TurnsTaken.turn_others, Spots.Spotting.same_spot_is}
 use Rattle.shm_graph.proofs.States.FirstHeld.{first_memo_of, nobody_acts}
 
 -- ---- one turn

@@ -1,26 +1,14 @@
 -- a run goes on by a step of a machine that keeps its law, by a death and by a beginning
 use Rattle.std.proofs.Common.{◌≡◌, ◌≢◌, ℕ, ◌<◌, List, [], ◌∷◌, ◌++◌, length, refl, sym, ap, ◌∙◌, subst, true, false, inl, inr}
+use Rattle.std.proofs.lemmas.{List.get_or_past, Bool.{cases_lt, false≢true}}
 use Rattle.std.specs.Prelude.{slice_index, Some, None}
-use Rattle.std.proofs.lemmas.List.{get_or_past}
-use Rattle.std.proofs.lemmas.Bool.{cases_lt, false≢true}
-use Rattle.shm_words.specs.declared.geometry.Geometry.{Geometry}
-use Rattle.shm_words.specs.Layout.{total_of}
-use Rattle.shm_graph.specs.declared.ask.Me.{Me}
-use Rattle.shm_graph.specs.declared.memo.Status.TheVariants.{Gone}
-use Rattle.shm_graph.specs.declared.memo.Memo.{Memo}
-use Rattle.shm_graph.specs.declared.memo.Step.{Step}
-use Rattle.shm_graph.specs.declared.run.Account.{Account}
-use Rattle.shm_graph.specs.declared.run.Move.{Move}
-use Rattle.shm_graph.specs.declared.run.Move.TheVariants.{Word}
-use Rattle.shm_graph.specs.Asks.{Trail, at_of, seen_of}
-use Rattle.shm_graph.specs.Agents.{acts}
-use Rattle.shm_graph.specs.Changes.{asked_spot}
-use Rattle.shm_graph.specs.Laws.{Control, Steady, Outcome, Back, step_of, is_some}
+use Rattle.shm_words.specs.{declared.geometry.Geometry.Geometry, Layout.total_of}
+use Rattle.shm_graph.specs.declared.{ask.Me.Me, memo.{Status.TheVariants.Gone, Memo.Memo, Step.Step}}
+use Rattle.shm_graph.specs.{declared.run.{Account.Account, Move.{Move, TheVariants.Word}}, Asks.{Trail, at_of, seen_of}}
+use Rattle.shm_graph.specs.{Agents.acts, Changes.asked_spot, Laws.{Control, Steady, Outcome, Back, step_of, is_some}}
 use Rattle.shm_graph.specs.Runs.{Held, State, state, moved, Turned, Leads, memos_of, account_at, account_after, accounts_after}
 use Rattle.shm_graph.specs.Whole.{gives_now, WholeInside, WholeKeeps, WholeKept, Learns}
-use Rattle.shm_graph.proofs.Runs.Lists.{account_here}
-use Rattle.shm_graph.proofs.Memos.MemoSteps.{acts-on, acts-here}
-use Rattle.shm_graph.proofs.Runs.Running.{Leads-more}
+use Rattle.shm_graph.proofs.{Runs.{Lists.account_here, Running.Leads-more}, Memos.MemoSteps.{acts-on, acts-here}}
 
 -- ---- deaths and beginnings
 

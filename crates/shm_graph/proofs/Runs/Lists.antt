@@ -1,27 +1,17 @@
 -- steps on lists of words and of accounts are steps on spots and memos
 use Rattle.std.proofs.Common.{◌≡◌, ◌≢◌, ℕ, ◌<◌, refl, sym, ap, ◌∙◌, true, false, Bool, cond, eqb, subst, inl, inr, List, length, get_or, ◌⊎◌}
-use Rattle.std.specs.Prelude.{slice_index, slice_set}
-use Rattle.std.proofs.Math.ListN.{set, length-set}
-use Rattle.std.proofs.Math.Path.{fun_ext}
+use Rattle.std.proofs.Math.{ListN.{set, length-set}, Path.fun_ext}
 use Rattle.std.proofs.lemmas.List.{get_or-set_same, get_or-set_other, set-get_or, set_past}
 use Rattle.std.proofs.lemmas.Bool.{cases_Bool, cases_eq, cases_lt, eq-eqb, ne_eqb, eqb-true, false≢true, cond-true, cond-false}
-use Rattle.shm_words.specs.declared.geometry.Geometry.{Geometry}
-use Rattle.shm_words.specs.Layout.{total_of}
-use Rattle.shm_graph.specs.declared.spot.Spot.{Spot}
-use Rattle.shm_graph.specs.declared.spot.Spot.TheVariants.{Page}
-use Rattle.shm_graph.specs.declared.ask.Ask.{Ask}
-use Rattle.shm_graph.specs.declared.ask.Ask.TheVariants.{Load, Store, Exchange}
-use Rattle.shm_graph.specs.declared.memo.Step.{Step}
-use Rattle.shm_graph.specs.declared.run.Account.{Account}
-use Rattle.shm_graph.specs.Spots.{upd, spot_at, classes_in, see}
-use Rattle.shm_graph.specs.Views.{View, at1}
-use Rattle.shm_graph.specs.Held.{HeldAt}
+use Rattle.std.specs.Prelude.{slice_index, slice_set}
+use Rattle.shm_words.specs.{declared.geometry.Geometry.Geometry, Layout.total_of}
+use Rattle.shm_graph.specs.declared.{spot.Spot.{Spot, TheVariants.Page}, ask.Ask.Ask}
+use Rattle.shm_graph.specs.declared.{ask.Ask.TheVariants.{Load, Store, Exchange}, memo.Step.Step, run.Account.Account}
+use Rattle.shm_graph.specs.{Spots.{upd, spot_at, classes_in, see}, Views.{View, at1}, Held.HeldAt}
 use Rattle.shm_graph.specs.Controllers.{IsController, IsOpen, IsAllowed}
 use Rattle.shm_graph.specs.Asks.{at_of, word_after, words_after, words_set}
 use Rattle.shm_graph.specs.Runs.{account_at, account_after, accounts_after, memos_of, changed}
-use Rattle.shm_graph.proofs.Spots.Storing.{is_page}
-use Rattle.shm_graph.proofs.Spots.ClassStoring.{see-set_any}
-use Rattle.shm_graph.proofs.Spots.Seeing.{see_at}
+use Rattle.shm_graph.proofs.Spots.{Storing.is_page, ClassStoring.see-set_any, Seeing.see_at}
 
 -- ---- a function with one value changed
 

@@ -1,30 +1,18 @@
 -- the events of a call of a machine that runs by itself are those that it tells
 use Rattle.std.proofs.Common.{◌≡◌, ℕ, ◌<◌, List, [], ◌∷◌, length, refl, sym, ap, ◌∙◌, subst, false, inl, inr}
-use Rattle.std.specs.Prelude.{None, slice_index}
 use Rattle.std.proofs.lemmas.Bool.{cases_eq, eq-eqb, ne_eqb, cond-true, cond-false}
+use Rattle.std.specs.Prelude.{None, slice_index}
 use Rattle.shm_words.specs.declared.geometry.Geometry.{Geometry}
-use Rattle.shm_graph.specs.declared.spot.Spot.{Spot}
-use Rattle.shm_graph.specs.declared.ask.Ask.{Ask}
-use Rattle.shm_graph.specs.declared.ask.Me.{Me}
-use Rattle.shm_graph.specs.declared.memo.Memo.{Memo}
-use Rattle.shm_graph.specs.declared.memo.Seen.{Seen}
-use Rattle.shm_graph.specs.declared.memo.Step.{Step}
-use Rattle.shm_graph.specs.declared.run.Account.{Account}
-use Rattle.shm_graph.specs.declared.run.Move.{Move}
-use Rattle.shm_graph.specs.declared.run.Move.TheVariants.{Word, Dies, Begins}
-use Rattle.shm_graph.specs.Spots.{spot_at, classes_in, see}
-use Rattle.shm_graph.specs.Asks.{Trail, at_of, seen_of, call_before}
-use Rattle.shm_graph.specs.Changes.{memo_after}
-use Rattle.shm_graph.specs.Events.{Event}
+use Rattle.shm_graph.specs.declared.{spot.Spot.Spot, ask.{Ask.Ask, Me.Me}, memo.{Memo.Memo, Seen.Seen, Step.Step}}
+use Rattle.shm_graph.specs.declared.run.{Account.Account, Move.{Move, TheVariants.{Word, Dies, Begins}}}
+use Rattle.shm_graph.specs.{Spots.{spot_at, classes_in, see}, Asks.{Trail, at_of, seen_of, call_before}}
+use Rattle.shm_graph.specs.{Changes.memo_after, Events.Event}
 use Rattle.shm_graph.specs.Laws.{Control, Laws, Frame, Stands, frame_of, framed, step_of, event_on}
 use Rattle.shm_graph.specs.Runs.{Held, State, moved, memos_of, account_at, account_after, account_died, account_entered, Leads}
-use Rattle.shm_graph.specs.CallEvents.{steps_in, events_in, IsUnbroken}
-use Rattle.shm_graph.specs.Whole.{fits_now}
+use Rattle.shm_graph.specs.{CallEvents.{steps_in, events_in, IsUnbroken}, Whole.fits_now}
 use Rattle.shm_graph.specs.Tells.{Tells, GoesOn, machine_steps, tells_along}
-use Rattle.shm_graph.proofs.Spots.Seeing.{classes-see, see-spot}
-use Rattle.shm_graph.proofs.Runs.Lists.{length-accounts_after, length-changed}
-use Rattle.shm_graph.proofs.Machines.Composing.{outcome_none}
-use Rattle.shm_graph.proofs.Runs.CallEventsOf.{memo_other, memo_here}
+use Rattle.shm_graph.proofs.{Spots.Seeing.{classes-see, see-spot}, Runs.Lists.{length-accounts_after, length-changed}}
+use Rattle.shm_graph.proofs.{Runs.CallEventsOf.{memo_other, memo_here}, Machines.Composing.outcome_none}
 use Rattle.shm_graph.proofs.Machines.Wholes.{whole_inside, whole_keeps}
 
 -- the identity of a pool

@@ -2,13 +2,8 @@
 use Rattle.std.proofs.Common.{◌≡◌, ℕ, ◌<◌, List, [], ◌∷◌, ◌++◌, length, refl, sym, ap, ◌∙◌, subst, false}
 use Rattle.std.proofs.Math.Path.{fun_ext}
 use Rattle.shm_words.specs.declared.geometry.Geometry.{Geometry}
-use Rattle.shm_graph.specs.declared.memo.Kind.{Kind}
-use Rattle.shm_graph.specs.declared.memo.Memo.{Memo}
-use Rattle.shm_graph.specs.declared.run.Account.{Account}
-use Rattle.shm_graph.specs.declared.run.Move.{Move}
-use Rattle.shm_graph.specs.declared.run.Move.TheVariants.{Dies, Begins}
-use Rattle.shm_graph.specs.Spots.{see}
-use Rattle.shm_graph.specs.Views.{View, at1, view}
+use Rattle.shm_graph.specs.declared.{memo.{Kind.Kind, Memo.Memo}, run.{Account.Account, Move.Move}}
+use Rattle.shm_graph.specs.{declared.run.Move.TheVariants.{Dies, Begins}, Spots.see, Views.{View, at1, view}}
 use Rattle.shm_graph.specs.Held.{HeldAt}
 use Rattle.shm_graph.specs.Runs.{Held, State, moved, IsMove, Turned, Leads, changed, account_died, account_entered, memos_of, account_at}
 use Rattle.shm_graph.proofs.Runs.Lists.{at1_part_same, memos_of-changed, length-changed}

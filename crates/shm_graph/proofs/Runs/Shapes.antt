@@ -4,9 +4,7 @@ use Rattle.std.proofs.lemmas.Bool.{cases_eq, cond-true}
 use Rattle.shm_words.specs.declared.geometry.Geometry.{Geometry}
 use Rattle.shm_words.specs.Tags.{tag_author, tag_plain, tag_refs, tag_shape, shape_author}
 use Rattle.shm_words.proofs.Words.{live_not_zero}
-use Rattle.shm_graph.specs.declared.spot.Spot.{Spot}
-use Rattle.shm_graph.specs.declared.spot.Spot.TheVariants.{Head, Tag}
-use Rattle.shm_graph.specs.Blocks.{IsLive, headers}
+use Rattle.shm_graph.specs.{declared.spot.Spot.{Spot, TheVariants.{Head, Tag}}, Blocks.{IsLive, headers}}
 use Rattle.shm_graph.specs.Events.{Event, Nothing, Alloc, Up, Down, ChangeUp, ChangeDown, Free, Graph, Happens, graph_of}
 use Rattle.shm_graph.specs.Views.{View, at1}
 use Rattle.shm_graph.proofs.Runs.Lists.{at1_here, at1_other}

@@ -1,42 +1,24 @@
 -- what follows of the turns of a run
 use Rattle.std.proofs.Common.{◌≡◌, ◌≢◌, ℕ, ◌<◌, ◌≤◌, refl, sym, ap, ◌∙◌, subst, arith, inl, inr, ◌⊎◌, true, eqb, ltb, cond}
-use Rattle.std.specs.Prelude.{Option, Some, None}
 use Rattle.std.proofs.lemmas.Bool.{cases_Bool, cond-true, cond-false, eqb-true, ltb-true}
-use Rattle.shm_words.specs.declared.geometry.Geometry.{Geometry}
-use Rattle.shm_words.specs.Layout.{total_of}
+use Rattle.std.specs.Prelude.{Option, Some, None}
+use Rattle.shm_words.specs.{declared.geometry.Geometry.Geometry, Layout.total_of}
 use Rattle.shm_words.specs.Tags.{tag_author, tag_plain, tag_refs}
 use Rattle.shm_words.proofs.Words.{live_not_zero}
-use Rattle.shm_graph.specs.declared.ask.Ask.{Ask}
-use Rattle.shm_graph.specs.declared.ask.Ask.TheVariants.{Load, Store, Exchange}
-use Rattle.shm_graph.specs.declared.memo.Agent.{Agent}
-use Rattle.shm_graph.specs.declared.memo.Fate.{Fate}
-use Rattle.shm_graph.specs.declared.memo.Fate.TheVariants.{Acts, Ended, Died}
-use Rattle.shm_graph.specs.declared.memo.Kind.TheVariants.{Client, Recoverer}
-use Rattle.shm_graph.specs.declared.memo.Status.{Status as AStatus}
-use Rattle.shm_graph.specs.declared.memo.Status.TheVariants.{New, Gone}
-use Rattle.shm_graph.specs.declared.memo.Step.{Step}
-use Rattle.shm_graph.specs.declared.run.Move.TheVariants.{Word, Begins}
-use Rattle.shm_graph.specs.declared.spot.Spot.{Spot}
+use Rattle.shm_graph.specs.declared.{ask.Ask.{Ask, TheVariants.{Load, Store, Exchange}}, memo.{Agent.Agent, Fate.Fate}}
+use Rattle.shm_graph.specs.declared.memo.{Fate.TheVariants.{Acts, Ended, Died}, Kind.TheVariants.{Client, Recoverer}}
+use Rattle.shm_graph.specs.declared.memo.{Status.{Status as AStatus, TheVariants.{New, Gone}}, Step.Step}
+use Rattle.shm_graph.specs.declared.{run.Move.TheVariants.{Word, Begins}, spot.Spot.Spot}
 use Rattle.shm_graph.specs.declared.spot.Spot.TheVariants.{Status, Latch, Segment, Head, Tag, Body, Era}
-use Rattle.shm_graph.specs.Agents.{last_agent}
-use Rattle.shm_graph.specs.Asks.{at_of, words_after}
-use Rattle.shm_graph.specs.Blocks.{IsLive, classes, headers}
+use Rattle.shm_graph.specs.{Agents.last_agent, Asks.{at_of, words_after}, Blocks.{IsLive, classes, headers}}
 use Rattle.shm_graph.specs.Controllers.{IsController, IsAllowed, IsOpen, IsRowShown}
 use Rattle.shm_graph.specs.Events.{Event, Alloc, Up, ChangeUp, Free, Happens, IsCounted, graph_of}
-use Rattle.shm_graph.specs.Held.{CountSound, status_word}
-use Rattle.shm_graph.specs.Histories.{IsTaken, event_at}
-use Rattle.shm_graph.specs.Laws.{Stepped}
-use Rattle.shm_graph.specs.Ops.{indegree}
-use Rattle.shm_graph.specs.References.{words_of}
-use Rattle.shm_graph.specs.Runs.{IsWordTurn, State, fell_by, is_dead, memos_of, moved}
-use Rattle.shm_graph.specs.Sound.{IsSound}
-use Rattle.shm_graph.specs.Spots.{classes_in, same_spot, see, spot_at, upd}
+use Rattle.shm_graph.specs.{Held.{CountSound, status_word}, Histories.{IsTaken, event_at}, Laws.Stepped, Ops.indegree}
+use Rattle.shm_graph.specs.{References.words_of, Runs.{IsWordTurn, State, fell_by, is_dead, memos_of, moved}}
+use Rattle.shm_graph.specs.{Sound.IsSound, Spots.{classes_in, same_spot, see, spot_at, upd}}
 use Rattle.shm_graph.specs.Views.{View, held_overs, targets, view}
-use Rattle.shm_graph.proofs.States.Counting.{has_place, indegree_has, target_not_spare}
-use Rattle.shm_graph.proofs.Runs.Going.{acts_within}
-use Rattle.shm_graph.proofs.Runs.Shapes.{alloc_author, tag_stays}
-use Rattle.shm_graph.proofs.States.HeldSound.{held_state_sound}
-use Rattle.shm_graph.proofs.Runs.Lists.{see-words_set}
+use Rattle.shm_graph.proofs.States.{Counting.{has_place, indegree_has, target_not_spare}, HeldSound.held_state_sound}
+use Rattle.shm_graph.proofs.Runs.{Going.acts_within, Shapes.{alloc_author, tag_stays}, Lists.see-words_set}
 use Rattle.shm_graph.proofs.Spots.Spotting.{in_pool, same_spot_is}
 
 -- ---- words of others

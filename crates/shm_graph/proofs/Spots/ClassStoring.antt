@@ -1,19 +1,15 @@
 -- the store of a page's class: the spots of its blocks are there from then on
 use Rattle.std.proofs.Common.{◌≡◌, ◌≢◌, Bool, ◌&&◌, eqb, ℕ, ◌<◌, List, length, get_or, sym, ap, ◌∙◌, true, false, refl, inl, inr, cond, arith}
-use Rattle.std.proofs.Math.ListN.{set}
-use Rattle.std.proofs.Math.Path.{fun_ext}
-use Rattle.std.proofs.lemmas.List.{get_or-set_same, get_or-set_other}
+use Rattle.std.proofs.{Math.{ListN.set, Path.fun_ext}, lemmas.List.{get_or-set_same, get_or-set_other}}
 use Rattle.std.proofs.lemmas.Bool.{cases_Bool, cond-true, cond-false, false≢true, and_from, eq-eqb, and_parts, eqb-true}
 use Rattle.shm_words.specs.declared.geometry.Geometry.{Geometry}
+use Rattle.shm_words.specs.Layout.{GeometryFits, total_of, bodies, place_at, is_in}
 use Rattle.shm_words.specs.declared.place.Place.TheVariants as place
 use Rattle.shm_words.specs.Layout as layout
-use Rattle.shm_words.specs.Layout.{GeometryFits, total_of, bodies, place_at, is_in}
 use Rattle.shm_words.proofs.Placing.{place-address, address-place, in_place}
-use Rattle.shm_graph.specs.declared.spot.Spot.{Spot}
-use Rattle.shm_graph.specs.declared.spot.Spot.TheVariants.{Page, Unused}
+use Rattle.shm_graph.specs.declared.spot.Spot.{Spot, TheVariants.{Page, Unused}}
 use Rattle.shm_graph.specs.Spots.{same_spot, spot_at, spot_address, upd, classes_in, see}
-use Rattle.shm_graph.proofs.Spots.Fixed.{fixed_place}
-use Rattle.shm_graph.proofs.Spots.Seeing.{see_at, see_page}
+use Rattle.shm_graph.proofs.Spots.{Fixed.fixed_place, Seeing.{see_at, see_page}}
 use Rattle.shm_graph.proofs.Spots.PageSpots.{IsOfPage, class_with, page_spot, fixed_stays}
 use Rattle.shm_graph.proofs.Spots.Storing.{see_by, see_by-set, is_page, see-set}
 

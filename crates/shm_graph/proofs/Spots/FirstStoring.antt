@@ -1,16 +1,12 @@
 -- how the first words are stored
 use Rattle.std.proofs.Common.{◌≡◌, ℕ, ◌+◌, ◌<◌, refl, sym, ap, ◌∙◌, arith, subst, inl, inr, List, length, get_or, set, replicate, length-set, true, lt-ltb}
-use Rattle.std.specs.Prelude.{◌==◌, ◌&&◌, nat_lt, if◌then◌else◌}
 use Rattle.std.proofs.lemmas.List.{ext_get_or, get_or-set_same, get_or-set_other, get_or-replicate, length-replicate}
-use Rattle.std.proofs.lemmas.Bool.{cases_eq, ne_eqb, and_from}
-use Rattle.std.proofs.lemmas.Bool.Decides.{nat_tests}
-use Rattle.shm_words.specs.declared.place.Place.{Place}
-use Rattle.shm_words.specs.declared.place.Place.TheVariants.{Era}
-use Rattle.shm_words.specs.declared.geometry.Geometry.{Geometry}
+use Rattle.std.proofs.lemmas.Bool.{cases_eq, ne_eqb, and_from, Decides.nat_tests}
+use Rattle.std.specs.Prelude.{◌==◌, ◌&&◌, nat_lt, if◌then◌else◌}
+use Rattle.shm_words.specs.declared.{place.Place.{Place, TheVariants.Era}, geometry.Geometry.Geometry}
 use Rattle.shm_words.specs.Layout.{GeometryFits, place_at, address, is_in, total_of}
 use Rattle.shm_words.proofs.Placing.{place-address, address_below, address-place, in_place}
-use Rattle.shm_graph.specs.declared.run.Start.{Start}
-use Rattle.shm_graph.specs.Runs.{first_word, first_words, words_from}
+use Rattle.shm_graph.specs.{declared.run.Start.Start, Runs.{first_word, first_words, words_from}}
 use Rattle.shm_graph.proofs.States.FirstHeld.{length-words_from, at-words_from}
 
 -- all words are 0, but the own eras of the identities below n

@@ -1,14 +1,11 @@
 -- a page gets its class: which spots stay and which are new
 use Rattle.std.proofs.Common.{◌≡◌, Bool, ◌&&◌, eqb, ℕ, ◌-◌, ◌/◌, ◌%◌, ◌<◌, ◌≤◌, sym, ap, ◌∙◌, true, false, refl, inl, inr, ◌⊎◌, cond, subst}
 use Rattle.std.proofs.lemmas.Bool.{cases_lt, cases_Bool, and_parts, eqb-true, true≢false}
-use Rattle.shm_words.specs.declared.geometry.Geometry.{Geometry}
-use Rattle.shm_words.specs.declared.place.Place.{Place}
-use Rattle.shm_words.specs.declared.place.Place.TheVariants as place
+use Rattle.shm_words.specs.declared.{geometry.Geometry.Geometry, place.Place.Place}
 use Rattle.shm_words.specs.Layout.{total_of, bodies, place_at}
-use Rattle.shm_graph.specs.declared.spot.Spot.{Spot}
-use Rattle.shm_graph.specs.declared.spot.Spot.TheVariants.{Unused}
-use Rattle.shm_graph.specs.Spots.{spot_of, spot_at, class_at, is_in_body}
-use Rattle.shm_graph.specs.Blocks.{IsBlock}
+use Rattle.shm_words.specs.declared.place.Place.TheVariants as place
+use Rattle.shm_graph.specs.declared.spot.Spot.{Spot, TheVariants.Unused}
+use Rattle.shm_graph.specs.{Spots.{spot_of, spot_at, class_at, is_in_body}, Blocks.IsBlock}
 use Rattle.shm_graph.proofs.Spots.Spotting.{block_in_body, spot_past, spot_in_bodies, spot_before_bodies, block_within}
 
 abbrev pub is_unused : Spot → Bool

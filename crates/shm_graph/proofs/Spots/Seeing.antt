@@ -1,14 +1,12 @@
 -- the words at the spots of a pool
 use Rattle.std.proofs.Common.{◌≡◌, ◌≢◌, ℕ, ◌<◌, List, get_or, sym, ap, ◌∙◌, true, false, refl, inl, inr, subst}
 use Rattle.std.proofs.lemmas.Bool.{cases_Bool, cond-true, cond-false, false≢true, true≢false}
-use Rattle.shm_words.specs.declared.geometry.Geometry.{Geometry}
-use Rattle.shm_words.specs.declared.place.Place.{Place}
+use Rattle.shm_words.specs.declared.{geometry.Geometry.Geometry, place.Place.Place}
+use Rattle.shm_words.specs.Layout.{GeometryFits, total_of, place_at, is_in}
 use Rattle.shm_words.specs.declared.place.Place.TheVariants as place
 use Rattle.shm_words.specs.Layout as layout
-use Rattle.shm_words.specs.Layout.{GeometryFits, total_of, place_at, is_in}
 use Rattle.shm_words.proofs.Placing.{place-address, in_place}
-use Rattle.shm_graph.specs.declared.spot.Spot.{Spot}
-use Rattle.shm_graph.specs.declared.spot.Spot.TheVariants.{Page}
+use Rattle.shm_graph.specs.declared.spot.Spot.{Spot, TheVariants.Page}
 use Rattle.shm_graph.specs.Spots.{same_spot, spot_of, spot_at, spot_address, IsAt, classes_in, see, is_in_body}
 use Rattle.shm_graph.specs.Blocks.{classes}
 use Rattle.shm_graph.proofs.Spots.Spotting.{same_spot_self, same_spot_is, same_spot_not, address-spot, spot_is_at, block_in_body, is_below}

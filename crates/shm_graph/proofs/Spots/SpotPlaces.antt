@@ -1,13 +1,10 @@
 -- the places of spots, and the spots of places
 use Rattle.std.proofs.Common.{◌≡◌, ◌≢◌, ℕ, ◌+◌, ◌*◌, ◌%◌, ◌<◌, ◌≤◌, true, Bool, refl, sym, ap, subst, arith, inl, inr, List}
-use Rattle.std.proofs.lemmas.Bool.{cases_lt}
-use Rattle.std.proofs.lemmas.Bool.Decides.{nat_tests}
-use Rattle.shm_words.specs.declared.geometry.Geometry.{Geometry}
-use Rattle.shm_words.specs.declared.place.Place.{Place}
+use Rattle.std.proofs.lemmas.Bool.{cases_lt, Decides.nat_tests}
+use Rattle.shm_words.specs.declared.{geometry.Geometry.Geometry, place.Place.Place}
 use Rattle.shm_words.specs.declared.place.Place.TheVariants as place
 use Rattle.shm_words.specs.Layout as layout
-use Rattle.shm_words.proofs.Placing.{place-address, in_place}
-use Rattle.shm_words.proofs.Regions.{body_at}
+use Rattle.shm_words.proofs.{Placing.{place-address, in_place}, Regions.body_at}
 use Rattle.shm_graph.specs.declared.spot.Spot.{Spot}
 use Rattle.shm_graph.specs.declared.spot.Spot.TheVariants.{Status, Redo, RedoMore, Hold, Latch, Home, Era, Root, Tail, QueueHead, Slot, Segment, Page, Head}
 use Rattle.shm_graph.specs.Spots.{block_spot, spot_of, spot_at, spot_address, IsAt, classes_in, see}

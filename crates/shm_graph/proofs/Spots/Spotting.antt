@@ -1,14 +1,11 @@
 -- the spot of an address and the address of a spot
 use Rattle.std.proofs.Common.{◌≡◌, ◌≢◌, ◌&&◌, eqb, ℕ, ◌+◌, ◌-◌, ◌*◌, ◌/◌, ◌%◌, ◌<◌, ◌≤◌, sym, ap, ◌∙◌, arith, true, false, refl, inl, inr, cond, subst}
 use Rattle.std.proofs.lemmas.Bool.{cases_lt, cases_Bool, and_parts, and_from, eqb-true, eq-eqb, true≢false, false≢true, ne_eqb}
-use Rattle.std.proofs.lemmas.Bool.Decides.{nat_tests}
-use Rattle.std.proofs.lemmas.Nat.{mod-mul-add}
-use Rattle.shm_words.specs.declared.geometry.Geometry.{Geometry}
-use Rattle.shm_words.specs.declared.place.Place.{Place}
+use Rattle.std.proofs.lemmas.{Bool.Decides.nat_tests, Nat.mod-mul-add}
+use Rattle.shm_words.specs.declared.{geometry.Geometry.Geometry, place.Place.Place}
+use Rattle.shm_words.specs.{Layout.{total_of, bodies, place_at}, Classes.IsClass}
 use Rattle.shm_words.specs.declared.place.Place.TheVariants as place
 use Rattle.shm_words.specs.Layout as layout
-use Rattle.shm_words.specs.Layout.{total_of, bodies, place_at}
-use Rattle.shm_words.specs.Classes.{IsClass}
 use Rattle.shm_words.proofs.Placing.{address-place}
 use Rattle.shm_graph.specs.declared.spot.Spot.{Spot}
 use Rattle.shm_graph.specs.declared.spot.Spot.TheVariants.{Spare, Status, Redo, RedoMore, Hold, Latch, Home, Era, Root, Tail, QueueHead, Slot, Segment, Page, Unused, Head, Tag, Body}

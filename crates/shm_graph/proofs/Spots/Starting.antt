@@ -1,18 +1,15 @@
 -- what is seen in the first words of a pool
 use Rattle.std.proofs.Common.{◌≡◌, ℕ, ◌<◌, List, get_or, sym, ap, ◌∙◌, true, false, Bool, ◌&&◌, cond, eqb, ltb, refl, inl, inr, ◌⊎◌}
-use Rattle.std.specs.Prelude.{◌==◌, nat_lt, if◌then◌else◌}
 use Rattle.std.proofs.Math.Path.{fun_ext}
 use Rattle.std.proofs.lemmas.Bool.{cases_Bool, cases_eq, cond-true, and_parts, and_from, eqb-true, false≢true}
-use Rattle.shm_words.specs.declared.geometry.Geometry.{Geometry}
-use Rattle.shm_words.specs.declared.place.Place.{Place}
-use Rattle.shm_words.specs.declared.place.Place.TheVariants as place
+use Rattle.std.specs.Prelude.{◌==◌, nat_lt, if◌then◌else◌}
+use Rattle.shm_words.specs.declared.{geometry.Geometry.Geometry, place.Place.Place}
 use Rattle.shm_words.specs.Layout.{GeometryFits, total_of, place_at}
+use Rattle.shm_words.specs.declared.place.Place.TheVariants as place
 use Rattle.shm_graph.specs.declared.spot.Spot.{Spot}
 use Rattle.shm_graph.specs.declared.spot.Spot.TheVariants.{Spare, Status, Redo, RedoMore, Hold, Latch, Home, Era, Root, Tail, QueueHead, Slot, Segment, Page, Unused, Head, Tag, Body}
-use Rattle.shm_graph.specs.Runs.{first_word}
-use Rattle.shm_graph.specs.Spots.{spot_of, spot_at, spot_address, IsAt, classes_in, see, is_in_body}
-use Rattle.shm_graph.proofs.Spots.Spotting.{at_below}
-use Rattle.shm_graph.proofs.Spots.Fixed.{place_of, fixed_place, fixed_is_at, fixed_in}
+use Rattle.shm_graph.specs.{Runs.first_word, Spots.{spot_of, spot_at, spot_address, IsAt, classes_in, see, is_in_body}}
+use Rattle.shm_graph.proofs.Spots.{Spotting.at_below, Fixed.{place_of, fixed_place, fixed_is_at, fixed_in}}
 use Rattle.shm_graph.proofs.Spots.Seeing.{see_there, see_absent, seen_is_at}
 
 -- the first words by spot: all are 0, but the own eras

@@ -1,16 +1,12 @@
 -- a store to the list of words is one at a spot
 use Rattle.std.proofs.Common.{◌≡◌, ◌≢◌, ℕ, ◌<◌, List, length, get_or, sym, ap, ◌∙◌, true, false, Bool, cond, inl, inr, arith}
-use Rattle.std.proofs.Math.ListN.{set}
-use Rattle.std.proofs.Math.Path.{fun_ext}
-use Rattle.std.proofs.lemmas.List.{get_or-set_same, get_or-set_other}
+use Rattle.std.proofs.{Math.{ListN.set, Path.fun_ext}, lemmas.List.{get_or-set_same, get_or-set_other}}
 use Rattle.std.proofs.lemmas.Bool.{cases_Bool, cond-true, cond-false, true≢false, false≢true}
-use Rattle.shm_words.specs.declared.geometry.Geometry.{Geometry}
+use Rattle.shm_words.specs.{declared.geometry.Geometry.Geometry, Layout.{total_of, place_at, is_in}}
 use Rattle.shm_words.specs.declared.place.Place.TheVariants as place
-use Rattle.shm_words.specs.Layout.{total_of, place_at, is_in}
 use Rattle.shm_words.specs.Layout as layout
 use Rattle.shm_words.proofs.Placing.{place-address}
-use Rattle.shm_graph.specs.declared.spot.Spot.{Spot}
-use Rattle.shm_graph.specs.declared.spot.Spot.TheVariants.{Page}
+use Rattle.shm_graph.specs.declared.spot.Spot.{Spot, TheVariants.Page}
 use Rattle.shm_graph.specs.Spots.{same_spot, spot_of, spot_at, spot_address, upd, classes_in, see}
 use Rattle.shm_graph.proofs.Spots.Spotting.{same_spot_self, same_spot_is, address-spot, spot_is_at}
 

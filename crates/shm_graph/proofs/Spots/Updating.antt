@@ -1,8 +1,6 @@
 -- the words after a store at one spot
-use Rattle.std.proofs.Common.{◌≡◌, ℕ, sym, false, inl, inr, subst}
-use Rattle.std.proofs.lemmas.Bool.{cases_Bool, cond-true, cond-false}
-use Rattle.shm_graph.specs.declared.spot.Spot.{Spot}
-use Rattle.shm_graph.specs.Spots.{same_spot, upd}
+use Rattle.std.proofs.{Common.{◌≡◌, ℕ, sym, false, inl, inr, subst}, lemmas.Bool.{cases_Bool, cond-true, cond-false}}
+use Rattle.shm_graph.specs.{declared.spot.Spot.Spot, Spots.{same_spot, upd}}
 use Rattle.shm_graph.proofs.Spots.Spotting.{same_spot_self, same_spot_is}
 
 pub upd_here : (w : Spot → ℕ) (p : Spot) (x : ℕ) → upd w p x p ≡ x

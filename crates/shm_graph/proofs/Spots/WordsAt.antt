@@ -1,21 +1,14 @@
 -- what the words of a pool say at an address: headers, tags, references, pages
 use Rattle.std.proofs.Common.{◌≡◌, ℕ, ◌+◌, ◌<◌, ◌≤◌, List, get_or, sym, ap, ◌∙◌, ltb, true, false, refl, inl, inr, arith}
+use Rattle.std.proofs.lemmas.Bool.{cond-true, cond-false, lt-ltb, le-ltb, cases_lt, Decides.nat_tests}
 use Rattle.std.specs.Prelude.{Option, Some, None}
-use Rattle.std.proofs.lemmas.Bool.{cond-true, cond-false, lt-ltb, le-ltb, cases_lt}
-use Rattle.std.proofs.lemmas.Bool.Decides.{nat_tests}
-use Rattle.shm_words.specs.declared.geometry.Geometry.{Geometry}
-use Rattle.shm_words.specs.declared.place.Place.{Place}
+use Rattle.shm_words.specs.declared.{geometry.Geometry.Geometry, place.Place.Place}
+use Rattle.shm_words.specs.{Layout.{total_of, address, is_in, place_at}, Headers.header_of, Tags.tag_refs}
 use Rattle.shm_words.specs.declared.place.Place.TheVariants as place
-use Rattle.shm_words.specs.Layout.{total_of, address, is_in, place_at}
-use Rattle.shm_words.specs.Headers.{header_of}
-use Rattle.shm_words.specs.Tags.{tag_refs}
-use Rattle.shm_graph.specs.declared.spot.Spot.{Spot}
-use Rattle.shm_graph.specs.declared.spot.Spot.TheVariants.{Home, Root, Slot, Head, Tag, Body}
-use Rattle.shm_graph.specs.Spots.{spot_at, spot_address, classes_in, see}
-use Rattle.shm_graph.specs.Blocks.{IsBlock}
+use Rattle.shm_graph.specs.declared.spot.Spot.{Spot, TheVariants.{Home, Root, Slot, Head, Tag, Body}}
+use Rattle.shm_graph.specs.{Spots.{spot_at, spot_address, classes_in, see}, Blocks.IsBlock}
 use Rattle.shm_graph.specs.References.{Words, reference, references, words_of}
-use Rattle.shm_graph.proofs.Spots.Spotting.{head_at, is_below, body_block, block_within}
-use Rattle.shm_graph.proofs.Spots.Seeing.{see_at, see_absent}
+use Rattle.shm_graph.proofs.Spots.{Spotting.{head_at, is_below, body_block, block_within}, Seeing.{see_at, see_absent}}
 
 -- a block's header
 pub head_word : (g : Geometry) (ws : List ℕ) (a b : ℕ) → spot_at g (classes_in g ws) a ≡ Head b → see g ws (Head a) ≡ get_or ws b 0

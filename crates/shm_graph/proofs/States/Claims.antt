@@ -1,28 +1,19 @@
 -- what a memo tells of blocks is so, and with it the spot of a word of a body that is read
 use Rattle.std.proofs.Common.{◌≡◌, ◌≢◌, ℕ, ◌+◌, ◌<◌, refl, sym, ap, ◌∙◌, subst, true, false, inl, inr, ◌⊎◌, List, [], ◌∷◌, ◌++◌, map, Option, Some, None}
-use Rattle.std.specs.List.{All, Contains}
 use Rattle.std.proofs.lemmas.Bool.{false≢true}
 use Rattle.std.proofs.lemmas.List.Elements.{All-nil, All-cons, All-head, All-tail, All-append, All-map, All-weaker, All-contains_itself}
-use Rattle.shm_words.specs.declared.geometry.Geometry.{Geometry}
-use Rattle.shm_words.specs.Tags.{tag_author, tag_refs, tag_plain}
-use Rattle.shm_graph.specs.declared.spot.Spot.{Spot}
-use Rattle.shm_graph.specs.declared.spot.Spot.TheVariants.{Home, Tail, QueueHead, Tag, Body}
-use Rattle.shm_graph.specs.declared.memo.Stored.{Stored}
-use Rattle.shm_graph.specs.declared.memo.Look.{Look}
-use Rattle.shm_graph.specs.declared.memo.Memo.{Memo}
-use Rattle.shm_graph.specs.Blocks.{headers, IsLive}
-use Rattle.shm_graph.specs.declared.table.Entry.{Entry as AnEntry}
-use Rattle.shm_graph.specs.Tables.{Contents, contents_of, HasShape, IsPartition}
-use Rattle.shm_graph.specs.Views.{View, view, targets}
-use Rattle.shm_graph.specs.Held.{HeldAt, LooksSound, LookAt, InLooks, named_by, is_loose}
+use Rattle.std.specs.List.{All, Contains}
+use Rattle.shm_words.specs.{declared.geometry.Geometry.Geometry, Tags.{tag_author, tag_refs, tag_plain}}
+use Rattle.shm_graph.specs.declared.spot.Spot.{Spot, TheVariants.{Home, Tail, QueueHead, Tag, Body}}
+use Rattle.shm_graph.specs.declared.{memo.{Stored.Stored, Look.Look, Memo.Memo}, table.Entry.Entry as AnEntry}
+use Rattle.shm_graph.specs.{Blocks.{headers, IsLive}, Tables.{Contents, contents_of, HasShape, IsPartition}}
+use Rattle.shm_graph.specs.{Views.{View, view, targets}, Held.{HeldAt, LooksSound, LookAt, InLooks, named_by, is_loose}}
 use Rattle.shm_graph.specs.Reach.{reached_blocks}
 use Rattle.shm_graph.specs.Telling.{Claim, bare, tag_claim, tag_claims, Role, Directory, Entry, Value, Other, Played, role_in, roles_from, roles, shaped, role_claim, claims}
-use Rattle.shm_graph.proofs.States.Holders.{InReach, held_live_not_zero, reach_counted}
-use Rattle.shm_graph.proofs.Memos.KnownChange.{KnownHolds, ValueHolds}
 use Rattle.shm_graph.specs.MemoAfterRead.{is_entry}
-use Rattle.shm_graph.proofs.StepKinds.Loads.{choice}
-use Rattle.shm_graph.proofs.States.Reached.{all_reached}
+use Rattle.shm_graph.proofs.States.{Holders.{InReach, held_live_not_zero, reach_counted}, Reached.all_reached}
 use Rattle.shm_graph.proofs.States.Roles.{Plays, IsPlayed, chain_shape, partition_of, roles_blocks, roles_play, latch_inside, role_plays, next_entry, reference_live}
+use Rattle.shm_graph.proofs.{Memos.KnownChange.{KnownHolds, ValueHolds}, StepKinds.Loads.choice}
 
 -- both facts hold of each element
 all_both : {X : Type 0} (P Q : X → Type 0) (xs : List X) → All P xs → All Q xs → All (λ x. P x × Q x) xs

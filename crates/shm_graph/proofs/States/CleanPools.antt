@@ -1,18 +1,13 @@
 -- what follows from what is clean
 use Rattle.std.proofs.Common.{◌≡◌, ◌≢◌, ℕ, zero, suc, ◌<◌, refl, sym, ap, ◌∙◌, subst, arith, inl, inr, Bool, true, false, cond, List}
-use Rattle.std.specs.Prelude.{◌==◌}
 use Rattle.std.proofs.lemmas.Bool.{cases_eq, cases_Bool, cond-true, cond-false, eq-eqb, ne_eqb}
-use Rattle.shm_words.specs.declared.geometry.Geometry.{Geometry}
-use Rattle.shm_words.specs.Layout.{GeometryFits, total_of}
+use Rattle.std.specs.Prelude.{◌==◌}
+use Rattle.shm_words.specs.{declared.geometry.Geometry.Geometry, Layout.{GeometryFits, total_of}}
 use Rattle.shm_words.proofs.Words.{live_not_zero}
-use Rattle.shm_graph.specs.declared.spot.Spot.{Spot}
-use Rattle.shm_graph.specs.declared.spot.Spot.TheVariants.{Head, Status}
-use Rattle.shm_graph.specs.Spots.{see, spot_at}
+use Rattle.shm_graph.specs.{declared.spot.Spot.{Spot, TheVariants.{Head, Status}}, Spots.{see, spot_at}}
 use Rattle.shm_graph.specs.Blocks.{IsLive, classes, headers}
-use Rattle.shm_graph.specs.References.{sum_below, one_if, references, references_to, references_in_all}
-use Rattle.shm_graph.specs.Clean.{IsClean}
-use Rattle.shm_graph.proofs.Spots.Seeing.{seen_stands}
-use Rattle.shm_graph.proofs.Spots.Spotting.{in_pool, is_at_block}
+use Rattle.shm_graph.specs.{References.{sum_below, one_if, references, references_to, references_in_all}, Clean.IsClean}
+use Rattle.shm_graph.proofs.Spots.{Seeing.seen_stands, Spotting.{in_pool, is_at_block}}
 use Rattle.shm_graph.proofs.Spots.Sums.{sum_none, sum_one, sum_each, sum_swap}
 
 -- a number that a function takes somewhere, where it is counted at all

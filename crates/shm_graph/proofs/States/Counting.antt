@@ -1,14 +1,11 @@
 -- targets while steps are in progress: which word has one, and that it counts
 use Rattle.std.proofs.Common.{◌≡◌, ◌≢◌, ℕ, zero, suc, ◌<◌, ◌≤◌, refl, ap, ◌∙◌, arith, true, false, Bool, cond, eqb, ltb, subst, inl, inr}
 use Rattle.std.proofs.lemmas.Bool.{cases_eq, cases_Bool, eq-eqb}
-use Rattle.shm_words.specs.declared.geometry.Geometry.{Geometry}
-use Rattle.shm_words.specs.Layout.{total_of}
+use Rattle.shm_words.specs.{declared.geometry.Geometry.Geometry, Layout.total_of}
 use Rattle.shm_graph.specs.declared.spot.Spot.{Spot}
 use Rattle.shm_graph.specs.declared.spot.Spot.TheVariants.{Spare, Redo, RedoMore, Home, Era, Root, Slot, Page, Body}
-use Rattle.shm_graph.specs.declared.memo.First.{First}
-use Rattle.shm_graph.specs.declared.memo.First.TheVariants.{Begun, Committed, Written}
-use Rattle.shm_graph.specs.declared.memo.ChangeStage.TheVariants.{Raising, Lowering}
-use Rattle.shm_graph.specs.declared.memo.Op.{Op}
+use Rattle.shm_graph.specs.declared.memo.First.{First, TheVariants.{Begun, Committed, Written}}
+use Rattle.shm_graph.specs.declared.memo.{ChangeStage.TheVariants.{Raising, Lowering}, Op.Op}
 use Rattle.shm_graph.specs.declared.memo.Op.TheVariants.{Nothing, Alloc, Up, Down, Change}
 use Rattle.shm_graph.specs.Spots.{same_spot, spot_at, spot_address, IsAt}
 use Rattle.shm_graph.specs.References.{sum_below, one_if, references_to, Words, words_of}

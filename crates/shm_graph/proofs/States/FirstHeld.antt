@@ -1,33 +1,20 @@
 -- the first state of a pool holds
 use Rattle.std.proofs.Common.{◌≡◌, ◌≢◌, ℕ, zero, suc, ◌+◌, ◌%◌, ◌^◌, ◌<◌, ◌≤◌, refl, sym, ap, ◌∙◌, arith, true, false, Bool, cond, eqb, ltb, lt-ltb, le-ltb, eq-eqb, eqb-true, subst, ◌&&◌, List, [], ◌∷◌, lit<, length, get_or, replicate, map, inl, inr}
-use Rattle.std.specs.Prelude.{nat_eq}
-use Rattle.std.specs.List.{All, Contains, IsDistinct}
-use Rattle.std.proofs.Math.Path.{fun_ext}
-use Rattle.std.proofs.lemmas.List.{get_or-replicate, get_or_past, length-replicate}
-use Rattle.std.proofs.lemmas.List.Elements.{All-nil}
-use Rattle.std.proofs.lemmas.Bool.{true≢false, ne_eqb, and_parts, and_from, cases_lt}
-use Rattle.shm_words.specs.declared.geometry.Geometry.{Geometry}
-use Rattle.shm_words.specs.Headers.{header_of}
+use Rattle.std.proofs.{Math.Path.fun_ext, lemmas.List.{get_or-replicate, get_or_past, length-replicate}}
+use Rattle.std.proofs.lemmas.{List.Elements.All-nil, Bool.{true≢false, ne_eqb, and_parts, and_from, cases_lt}}
+use Rattle.std.specs.{Prelude.nat_eq, List.{All, Contains, IsDistinct}}
+use Rattle.shm_words.specs.{declared.geometry.Geometry.Geometry, Headers.header_of}
 use Rattle.shm_words.specs.Layout.{GeometryFits, total_of, place_at}
 use Rattle.shm_words.proofs.Words.{header_of_zero, redo_zero}
 use Rattle.shm_graph.specs.declared.spot.Spot.{Spot}
 use Rattle.shm_graph.specs.declared.spot.Spot.TheVariants.{Spare, Status, Redo, RedoMore, Hold, Latch, Home, Era, Root, Tail, QueueHead, Slot, Segment, Page, Unused, Head, Tag, Body}
-use Rattle.shm_graph.specs.declared.memo.Memo.{Memo}
-use Rattle.shm_graph.specs.declared.table.Entry.{Entry}
-use Rattle.shm_graph.specs.declared.run.Start.{Start}
-use Rattle.shm_graph.specs.declared.run.Account.{Account}
-use Rattle.shm_graph.specs.Spots.{IsAt, see}
-use Rattle.shm_graph.specs.Agents.{acts}
-use Rattle.shm_graph.specs.Ops.{covered}
-use Rattle.shm_graph.specs.Ops.Cover.{Quiet}
-use Rattle.shm_graph.specs.References.{words_of}
-use Rattle.shm_graph.specs.Tables.{Contents, IsPartition}
-use Rattle.shm_graph.specs.Views.{view, targets, own_word, owner_is}
+use Rattle.shm_graph.specs.declared.{memo.Memo.Memo, table.Entry.Entry, run.{Start.Start, Account.Account}}
+use Rattle.shm_graph.specs.{Spots.{IsAt, see}, Agents.acts, Ops.{covered, Cover.Quiet}, References.words_of}
+use Rattle.shm_graph.specs.{Tables.{Contents, IsPartition}, Views.{view, targets, own_word, owner_is}}
 use Rattle.shm_graph.specs.Held.{HeldAt, FirstNames, PartTie, LaneSound}
-use Rattle.shm_graph.specs.Runs as runs
 use Rattle.shm_graph.specs.Runs.{Held, EraFits, first_word, first_part, first_memo, first_account, accounts_from, memos_of, words_from}
-use Rattle.shm_graph.proofs.Spots.Fixed.{fixed_is_at}
-use Rattle.shm_graph.proofs.Spots.Starting.{first_words, IsFirst, see-first}
+use Rattle.shm_graph.specs.Runs as runs
+use Rattle.shm_graph.proofs.Spots.{Fixed.fixed_is_at, Starting.{first_words, IsFirst, see-first}}
 
 -- ---- lists
 

@@ -1,22 +1,15 @@
 -- what follows of an identity that is gone in a sound state
 use Rattle.std.proofs.Common.{◌≡◌, ◌≢◌, ℕ, ◌+◌, ◌%◌, ◌<◌, refl, sym, ap, ◌∙◌, subst, arith, inl, inr, true, List}
-use Rattle.std.specs.Prelude.{Option, Some, None, slice_index}
 use Rattle.std.proofs.lemmas.Bool.{cases_eq, cases_lt}
-use Rattle.shm_words.specs.declared.geometry.Geometry.{Geometry}
-use Rattle.shm_words.specs.declared.header.Header.{Header}
-use Rattle.shm_graph.specs.declared.memo.Op.TheVariants.{Nothing}
-use Rattle.shm_graph.specs.declared.memo.Status.{Status as AStatus}
-use Rattle.shm_graph.specs.declared.memo.Status.TheVariants.{New, Live, Dead, Gone}
-use Rattle.shm_graph.specs.declared.spot.Spot.{Spot}
+use Rattle.std.specs.Prelude.{Option, Some, None, slice_index}
+use Rattle.shm_words.specs.declared.{geometry.Geometry.Geometry, header.Header.Header}
+use Rattle.shm_graph.specs.declared.memo.{Op.TheVariants.Nothing, Status.Status as AStatus}
+use Rattle.shm_graph.specs.declared.{memo.Status.TheVariants.{New, Live, Dead, Gone}, spot.Spot.Spot}
 use Rattle.shm_graph.specs.declared.spot.Spot.TheVariants.{Spare, Status, Hold, Latch, Era, Root, Tail, QueueHead, Slot, Segment}
-use Rattle.shm_graph.specs.Blocks.{IsLive, headers}
-use Rattle.shm_graph.specs.Controllers.{IsController}
-use Rattle.shm_graph.specs.Held.{EraSound, Committing, LaneSound, status_word}
-use Rattle.shm_graph.specs.Ops.{cover_of, on_of, slot_of}
-use Rattle.shm_graph.specs.Sound.{IsGone, IsSound}
-use Rattle.shm_graph.specs.Views.{View, ons, targets}
-use Rattle.shm_graph.proofs.Spots.Spotting.{same_spot_not}
-use Rattle.shm_graph.proofs.States.Counting.{cover_slot, covered_none}
+use Rattle.shm_graph.specs.{Blocks.{IsLive, headers}, Controllers.IsController}
+use Rattle.shm_graph.specs.{Held.{EraSound, Committing, LaneSound, status_word}, Ops.{cover_of, on_of, slot_of}}
+use Rattle.shm_graph.specs.{Sound.{IsGone, IsSound}, Views.{View, ons, targets}}
+use Rattle.shm_graph.proofs.{Spots.Spotting.same_spot_not, States.Counting.{cover_slot, covered_none}}
 
 -- the status word 3 is that of gone
 word_gone : (s : AStatus) → status_word s ≡ 3 → s ≡ Gone

@@ -3,20 +3,14 @@ use Rattle.std.proofs.Common.{◌≡◌, ◌≢◌, ℕ, zero, suc, ◌%◌, ◌
 use Rattle.std.proofs.lemmas.Bool.{cases_Bool, cond-true, cond-false, eq-eqb, true≢false, false≢true}
 use Rattle.std.proofs.lemmas.List.Elements.{All-get_or}
 use Rattle.shm_words.specs.declared.geometry.Geometry.{Geometry}
-use Rattle.shm_graph.specs.declared.spot.Spot.{Spot}
-use Rattle.shm_graph.specs.declared.spot.Spot.TheVariants.{Tail, QueueHead, Slot}
+use Rattle.shm_graph.specs.declared.spot.Spot.{Spot, TheVariants.{Tail, QueueHead, Slot}}
 use Rattle.shm_graph.specs.declared.memo.First.TheVariants.{Begun, Committed, Written}
-use Rattle.shm_graph.specs.declared.memo.ChangeStage.TheVariants.{Raising, Lowering}
-use Rattle.shm_graph.specs.declared.memo.Op.{Op}
-use Rattle.shm_graph.specs.declared.memo.Op.TheVariants.{Nothing, Alloc, Up, Down, Change}
-use Rattle.shm_graph.specs.Spots.{same_spot}
-use Rattle.shm_graph.specs.Ops.{Cover, cover, cover_of, covered, slot_of}
-use Rattle.shm_graph.specs.Ops.Cover.{On}
-use Rattle.shm_graph.specs.Tables.{contents_of}
+use Rattle.shm_graph.specs.declared.memo.{ChangeStage.TheVariants.{Raising, Lowering}, Op.Op}
+use Rattle.shm_graph.specs.{declared.memo.Op.TheVariants.{Nothing, Alloc, Up, Down, Change}, Spots.same_spot}
+use Rattle.shm_graph.specs.{Ops.{Cover, cover, cover_of, covered, slot_of, Cover.On}, Tables.contents_of}
 use Rattle.shm_graph.specs.Views.{View, targets}
 use Rattle.shm_graph.specs.Held.{HeldAt, Allowed, ValueAt, is_loose, is_root, is_slot, is_slot_to}
-use Rattle.shm_graph.proofs.States.HomeTarget.{cover_never}
-use Rattle.shm_graph.proofs.States.Holders.{InReach, one_holder, step_holds}
+use Rattle.shm_graph.proofs.States.{HomeTarget.cover_never, Holders.{InReach, one_holder, step_holds}}
 use Rattle.shm_graph.proofs.Memos.KnownChange.{KnownHolds, ValueHolds}
 
 -- the slot of the next item from s to c, which was sent and not taken

@@ -1,19 +1,13 @@
 -- a state that holds is sound
 use Rattle.std.proofs.Common.{◌≡◌, ◌≢◌, ℕ, ◌+◌, ◌<◌, refl, sym, ◌∙◌, arith, inl, inr, ◌⊎◌, true, List}
-use Rattle.std.proofs.lemmas.Bool.{eq-eqb}
-use Rattle.std.proofs.lemmas.List.Elements.{All-get_or}
+use Rattle.std.proofs.lemmas.{Bool.eq-eqb, List.Elements.All-get_or}
 use Rattle.shm_words.specs.declared.geometry.Geometry.{Geometry}
 use Rattle.shm_words.proofs.Words.{live_not_zero}
 use Rattle.shm_graph.specs.declared.spot.Spot.{Spot}
 use Rattle.shm_graph.specs.declared.spot.Spot.TheVariants.{Spare, Status, Redo, RedoMore, Hold, Latch, Home, Era, Root, Tail, QueueHead, Slot, Segment, Page, Head, Tag, Body}
-use Rattle.shm_graph.specs.declared.memo.Status.TheVariants.{Gone}
-use Rattle.shm_graph.specs.declared.run.Account.{Account}
-use Rattle.shm_graph.specs.Spots.{see}
-use Rattle.shm_graph.specs.Blocks.{headers}
-use Rattle.shm_graph.specs.Views.{View, view}
-use Rattle.shm_graph.specs.Held.{HeldAt}
-use Rattle.shm_graph.specs.Controllers.{IsController, IsOwnFree, IsOwnDying, IsOwnSlot}
-use Rattle.shm_graph.specs.Sound.{IsSound, IsGone}
+use Rattle.shm_graph.specs.{declared.{memo.Status.TheVariants.Gone, run.Account.Account}, Spots.see, Blocks.headers}
+use Rattle.shm_graph.specs.{Views.{View, view}, Held.HeldAt}
+use Rattle.shm_graph.specs.{Controllers.{IsController, IsOwnFree, IsOwnDying, IsOwnSlot}, Sound.{IsSound, IsGone}}
 use Rattle.shm_graph.specs.Runs.{Held, memos_of}
 use Rattle.shm_graph.proofs.States.Holders.{Holds, one_holder, step_holds, reach_counted}
 

@@ -1,18 +1,13 @@
 -- who holds a slot or a latch, and that a block that is named or in reach is live and counted
 use Rattle.std.proofs.Common.{◌≡◌, ◌≢◌, ℕ, ◌+◌, ◌%◌, ◌<◌, refl, sym, ◌∙◌, arith, true, subst, inl, inr, ◌⊎◌, List, [], ◌∷◌, Option, Some}
-use Rattle.std.specs.List.{All}
 use Rattle.std.proofs.lemmas.List.Elements.{All-nil, All-cons, All-contains}
-use Rattle.shm_words.specs.declared.geometry.Geometry.{Geometry}
-use Rattle.shm_words.specs.Headers.{header_of}
-use Rattle.shm_words.specs.Tags.{tag_author}
+use Rattle.std.specs.List.{All}
+use Rattle.shm_words.specs.{declared.geometry.Geometry.Geometry, Headers.header_of, Tags.tag_author}
 use Rattle.shm_words.proofs.Words.{live_not_zero}
 use Rattle.shm_graph.specs.declared.spot.Spot.{Spot}
 use Rattle.shm_graph.specs.declared.spot.Spot.TheVariants.{Spare, Home, Root, Tail, QueueHead, Slot, Head, Tag, Body}
-use Rattle.shm_graph.specs.declared.memo.Op.{Op}
-use Rattle.shm_graph.specs.declared.memo.Op.TheVariants.{Nothing}
-use Rattle.shm_graph.specs.declared.memo.Look.{Look}
-use Rattle.shm_graph.specs.Blocks.{classes, headers, IsBlock, IsLive}
-use Rattle.shm_graph.specs.Ops.{slot_of, is_op}
+use Rattle.shm_graph.specs.declared.memo.{Op.{Op, TheVariants.Nothing}, Look.Look}
+use Rattle.shm_graph.specs.{Blocks.{classes, headers, IsBlock, IsLive}, Ops.{slot_of, is_op}}
 use Rattle.shm_graph.specs.Views.{View, targets, held_overs}
 use Rattle.shm_graph.specs.Held.{HeldAt, SlotOf, reach_of, named_by, InLooks, LookAt, LooksSound}
 use Rattle.shm_graph.proofs.Spots.Spotting.{is_at_block, in_pool}

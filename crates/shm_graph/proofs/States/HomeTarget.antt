@@ -2,19 +2,12 @@
 use Rattle.std.proofs.Common.{◌≡◌, ◌≢◌, ℕ, zero, suc, ◌<◌, refl, sym, ap, ◌∙◌, subst, arith, inl, inr}
 use Rattle.std.proofs.lemmas.Bool.{cases_Bool, cond-true, cond-false, true≢false, false≢true}
 use Rattle.shm_words.specs.declared.geometry.Geometry.{Geometry}
-use Rattle.shm_graph.specs.declared.spot.Spot.{Spot}
-use Rattle.shm_graph.specs.declared.spot.Spot.TheVariants.{Home, Redo, RedoMore, Era, Page}
-use Rattle.shm_graph.specs.declared.memo.First.{First}
+use Rattle.shm_graph.specs.declared.{spot.Spot.{Spot, TheVariants.{Home, Redo, RedoMore, Era, Page}}, memo.First.First}
 use Rattle.shm_graph.specs.declared.memo.First.TheVariants.{Begun, Committed, Written}
-use Rattle.shm_graph.specs.declared.memo.ChangeStage.TheVariants.{Raising, Lowering}
-use Rattle.shm_graph.specs.declared.memo.Op.{Op}
-use Rattle.shm_graph.specs.declared.memo.Op.TheVariants.{Nothing, Alloc, Up, Down, Change}
-use Rattle.shm_graph.specs.Spots.{same_spot}
-use Rattle.shm_graph.specs.References.{words_of}
-use Rattle.shm_graph.specs.Ops.{Cover, cover, cover_of, cover_from, covered, word_at}
-use Rattle.shm_graph.specs.Ops.Cover.{On}
-use Rattle.shm_graph.specs.Views.{View, targets}
-use Rattle.shm_graph.specs.Held.{HeldAt, OpTie, Allowed, is_root, is_home}
+use Rattle.shm_graph.specs.declared.memo.{ChangeStage.TheVariants.{Raising, Lowering}, Op.Op}
+use Rattle.shm_graph.specs.{declared.memo.Op.TheVariants.{Nothing, Alloc, Up, Down, Change}, Spots.same_spot}
+use Rattle.shm_graph.specs.{References.words_of, Ops.{Cover, cover, cover_of, cover_from, covered, word_at, Cover.On}}
+use Rattle.shm_graph.specs.{Views.{View, targets}, Held.{HeldAt, OpTie, Allowed, is_root, is_home}}
 use Rattle.shm_graph.proofs.Spots.Spotting.{same_spot_is}
 
 -- what each of the first identities leaves

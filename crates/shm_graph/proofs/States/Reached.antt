@@ -1,26 +1,18 @@
 -- what a memo shows of reach is so: the blocks that it says its identity names or has in reach are those of the targets
 use Rattle.std.proofs.Common.{◌≡◌, ◌≢◌, ℕ, zero, suc, ◌%◌, ◌<◌, refl, sym, ap, ◌∙◌, subst, true, not, ltb, ◌&&◌, inl, inr, ◌⊎◌, List, [], ◌∷◌, ◌++◌, map}
-use Rattle.std.specs.List.{All, Contains, filter}
 use Rattle.std.proofs.lemmas.Bool.{and_parts, eqb-true, eq-eqb, ltb-true, false≢true}
 use Rattle.std.proofs.lemmas.List.Elements.{All-nil, All-cons, All-head, All-tail, All-append, All-map, All-contains, All-contains_itself, All-weaker}
 use Rattle.std.proofs.lemmas.Map.Views.{Contains-from_any}
+use Rattle.std.specs.List.{All, Contains, filter}
 use Rattle.shm_words.specs.declared.geometry.Geometry.{Geometry}
-use Rattle.shm_graph.specs.declared.spot.Spot.{Spot}
-use Rattle.shm_graph.specs.declared.spot.Spot.TheVariants.{Home, Root, Tail, QueueHead, Slot}
-use Rattle.shm_graph.specs.declared.memo.Stored.{Stored}
-use Rattle.shm_graph.specs.declared.memo.Look.{Look}
-use Rattle.shm_graph.specs.declared.memo.Memo.{Memo}
-use Rattle.shm_graph.specs.Blocks.{classes}
-use Rattle.shm_graph.specs.Ops.{cover, cover_of, slot_of}
-use Rattle.shm_graph.specs.Views.{View, view, targets, own_word}
+use Rattle.shm_graph.specs.declared.spot.Spot.{Spot, TheVariants.{Home, Root, Tail, QueueHead, Slot}}
+use Rattle.shm_graph.specs.{declared.memo.{Stored.Stored, Look.Look, Memo.Memo}, Blocks.classes}
+use Rattle.shm_graph.specs.{Ops.{cover, cover_of, slot_of}, Views.{View, view, targets, own_word}}
 use Rattle.shm_graph.specs.Held.{HeldAt, InLooks, named_by}
 use Rattle.shm_graph.specs.Reach.{shown, roots_below, in_slot, in_slots, not_zero, named_blocks, reached_blocks, is_named, is_reached}
-use Rattle.shm_graph.proofs.Spots.Spotting.{same_spot_not}
-use Rattle.shm_graph.proofs.Spots.SpotPlaces.{at_is_in}
-use Rattle.shm_graph.proofs.States.Counting.{cover_slot, covered_alone}
-use Rattle.shm_graph.proofs.States.Holders.{InReach, one_holder, step_holds}
-use Rattle.shm_graph.proofs.States.HeadSlot.{IsHead, head_target}
-use Rattle.shm_graph.proofs.Memos.KnownChange.{KnownHolds}
+use Rattle.shm_graph.proofs.Spots.{Spotting.same_spot_not, SpotPlaces.at_is_in}
+use Rattle.shm_graph.proofs.States.{Counting.{cover_slot, covered_alone}, Holders.{InReach, one_holder, step_holds}}
+use Rattle.shm_graph.proofs.{States.HeadSlot.{IsHead, head_target}, Memos.KnownChange.KnownHolds}
 use Rattle.shm_graph.proofs.StepKinds.Loads.{choice}
 
 -- ---- lists

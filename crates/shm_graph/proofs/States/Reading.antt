@@ -1,18 +1,12 @@
 -- the words of live blocks in a clean pool
 use Rattle.std.proofs.Common.{◌≡◌, ℕ, ◌+◌, ◌<◌, ◌≤◌, List, get_or, sym, ap, ◌∙◌, subst, arith, inl, inr}
 use Rattle.std.proofs.lemmas.Bool.{cond-true, lt-ltb}
-use Rattle.shm_words.specs.declared.geometry.Geometry.{Geometry}
-use Rattle.shm_words.specs.Layout.{GeometryFits, total_of}
-use Rattle.shm_words.specs.Classes.{IsClass}
-use Rattle.shm_words.specs.Headers.{header_of}
-use Rattle.shm_words.specs.Tags.{tag_refs, tag_plain}
+use Rattle.shm_words.specs.{declared.geometry.Geometry.Geometry, Layout.{GeometryFits, total_of}, Classes.IsClass}
+use Rattle.shm_words.specs.{Headers.header_of, Tags.{tag_refs, tag_plain}}
 use Rattle.shm_words.proofs.Words.{live_not_zero, tag_fields}
 use Rattle.shm_graph.specs.declared.spot.Spot.TheVariants.{Head, Tag, Body}
-use Rattle.shm_graph.specs.Spots.{spot_address, class_at, classes_in, see}
-use Rattle.shm_graph.specs.Blocks.{IsBlock, IsLive, headers}
-use Rattle.shm_graph.specs.References.{references, refs_of}
-use Rattle.shm_graph.specs.Clean.{IsClean}
-use Rattle.shm_graph.specs.Tables.{HasShape, contents_of}
+use Rattle.shm_graph.specs.{Spots.{spot_address, class_at, classes_in, see}, Blocks.{IsBlock, IsLive, headers}}
+use Rattle.shm_graph.specs.{References.{references, refs_of}, Clean.IsClean, Tables.{HasShape, contents_of}}
 use Rattle.shm_graph.proofs.Spots.Spotting.{block_within, in_block, body_spot}
 use Rattle.shm_graph.proofs.Spots.Seeing.{seen_is_at, see_at, classes-see}
 

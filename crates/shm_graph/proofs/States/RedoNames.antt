@@ -1,14 +1,11 @@
 -- what the words of a redo record name
-use Rattle.std.proofs.Common.{◌≡◌, ℕ, Bool, true, false, refl, sym, ap, ◌∙◌, subst, inl, inr}
+use Rattle.std.proofs.{Common.{◌≡◌, ℕ, Bool, true, false, refl, sym, ap, ◌∙◌, subst, inl, inr}, lemmas.Bool.true≢false}
 use Rattle.std.specs.Prelude.{Some}
-use Rattle.std.proofs.lemmas.Bool.{true≢false}
-use Rattle.shm_words.specs.declared.geometry.Geometry.{Geometry}
-use Rattle.shm_words.specs.declared.redo.Redo.{Redo as ARedo}
-use Rattle.shm_words.specs.declared.redo.Redo.TheVariants as redos
+use Rattle.shm_words.specs.declared.{geometry.Geometry.Geometry, redo.Redo.Redo as ARedo}
 use Rattle.shm_words.specs.Redos.{redo_of, redo_first, redo_second, RedoFits}
+use Rattle.shm_words.specs.declared.redo.Redo.TheVariants as redos
 use Rattle.shm_words.proofs.Words.{second_told, redo_of-word, redo_of-words, redo_mixed, with_before}
-use Rattle.shm_graph.specs.Blocks.{IsBlock}
-use Rattle.shm_graph.specs.Held.{RedoTie, MayName, IsBefore, IsSecond, FirstNames, Names}
+use Rattle.shm_graph.specs.{Blocks.IsBlock, Held.{RedoTie, MayName, IsBefore, IsSecond, FirstNames, Names}}
 
 -- the block before is one that the first word names, or in format 2 the second word
 before_named : (g : Geometry) (class : ℕ → ℕ → ℕ) (more a : ℕ) → (g.wide ≡ true → a ≡ more) → (g.wide ≡ false → IsBlock g class a) → IsSecond g class more → IsBefore g class a

@@ -1,27 +1,16 @@
 -- what was read of a table is so: in a pool for tables each block of the looks is what its word tells
 use Rattle.std.proofs.Common.{◌≡◌, ◌≢◌, ℕ, ◌<◌, sym, ap, ◌∙◌, subst, arith, false, cond, ltb, eqb, inl, inr, ◌⊎◌, List, [], ◌∷◌, Some}
-use Rattle.std.specs.Prelude.{slice_index_or}
-use Rattle.std.specs.List.{All}
 use Rattle.std.proofs.lemmas.Bool.{cases_Bool, eqb-true, ltb-true, cond-false, true≢false}
 use Rattle.std.proofs.lemmas.List.Elements.{All-cons, All-head, All-tail}
-use Rattle.shm_words.specs.declared.geometry.Geometry.{Geometry}
-use Rattle.shm_words.specs.Tags.{tag_author, tag_refs}
-use Rattle.shm_graph.specs.declared.spot.Spot.{Spot}
-use Rattle.shm_graph.specs.declared.spot.Spot.TheVariants.{Home, Latch, Tag, Body}
-use Rattle.shm_graph.specs.declared.memo.Look.{Look}
-use Rattle.shm_graph.specs.declared.table.Entry.{Entry}
-use Rattle.shm_graph.specs.declared.table.Part.{Part}
-use Rattle.shm_graph.specs.declared.table.Part.TheVariants.{Loose, Table}
-use Rattle.shm_graph.specs.Blocks.{classes, headers, IsLive}
-use Rattle.shm_graph.specs.References.{words_of, refs_of}
-use Rattle.shm_graph.specs.Ops.{cover_of, covered}
+use Rattle.std.specs.{Prelude.slice_index_or, List.All}
+use Rattle.shm_words.specs.{declared.geometry.Geometry.Geometry, Tags.{tag_author, tag_refs}}
+use Rattle.shm_graph.specs.declared.{spot.Spot.{Spot, TheVariants.{Home, Latch, Tag, Body}}, memo.Look.Look}
+use Rattle.shm_graph.specs.declared.table.{Entry.Entry, Part.{Part, TheVariants.{Loose, Table}}}
+use Rattle.shm_graph.specs.{Blocks.{classes, headers, IsLive}, References.{words_of, refs_of}, Ops.{cover_of, covered}}
 use Rattle.shm_graph.specs.Tables.{Contents, contents_of, HasShape, IsEntry, IsChain, IsPartition}
-use Rattle.shm_graph.specs.Views.{View, targets}
-use Rattle.shm_graph.specs.Held.{HeldAt, PartTie, LookAt, LooksSound, InLooks, is_loose}
+use Rattle.shm_graph.specs.{Views.{View, targets}, Held.{HeldAt, PartTie, LookAt, LooksSound, InLooks, is_loose}}
 use Rattle.shm_graph.specs.Telling.{Role, Directory, Entry as AnEntry, Value, Other, role_read, Played, role_in, role_from, roles_from}
-use Rattle.shm_graph.proofs.Spots.SpotPlaces.{at_is_in}
-use Rattle.shm_graph.proofs.States.Holders.{held_live_not_zero}
-use Rattle.shm_graph.proofs.StepKinds.Loads.{choice}
+use Rattle.shm_graph.proofs.{Spots.SpotPlaces.at_is_in, States.Holders.held_live_not_zero, StepKinds.Loads.choice}
 
 -- a block begins a chain of a's, or is an entry of one
 abbrev pub ChainAt : Contents → ℕ → ℕ → Type 0

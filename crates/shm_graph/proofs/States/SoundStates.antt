@@ -1,30 +1,19 @@
 -- what follows from what is sound
 use Rattle.std.proofs.Common.{◌≡◌, ◌≢◌, ℕ, ◌+◌, ◌%◌, ◌<◌, ◌≤◌, refl, sym, ap, ◌∙◌, subst, arith, inl, inr, true, List}
+use Rattle.std.proofs.lemmas.{Bool.cases_eq, List.Elements.All-get_or}
 use Rattle.std.specs.Prelude.{Option, Some, slice_index, take}
-use Rattle.std.proofs.lemmas.Bool.{cases_eq}
-use Rattle.std.proofs.lemmas.List.Elements.{All-get_or}
-use Rattle.shm_words.specs.declared.geometry.Geometry.{Geometry}
-use Rattle.shm_words.specs.declared.header.Header.{Header}
+use Rattle.shm_words.specs.declared.{geometry.Geometry.Geometry, header.Header.Header}
+use Rattle.shm_words.specs.{Layout.{GeometryFits, total_of}, Redos.redo_of}
 use Rattle.shm_words.specs.declared.redo.Redo.TheVariants as redos
-use Rattle.shm_words.specs.Layout.{GeometryFits, total_of}
-use Rattle.shm_words.specs.Redos.{redo_of}
-use Rattle.shm_graph.specs.declared.memo.First.{First}
-use Rattle.shm_graph.specs.declared.memo.ChangeStage.TheVariants.{Raising}
-use Rattle.shm_graph.specs.declared.memo.Op.{Op}
-use Rattle.shm_graph.specs.declared.memo.Op.TheVariants.{Up, Down, Change}
-use Rattle.shm_graph.specs.declared.spot.Spot.{Spot}
-use Rattle.shm_graph.specs.declared.spot.Spot.TheVariants.{Redo, RedoMore, Era, Head, Page, Tail, QueueHead, Slot, Unused}
-use Rattle.shm_graph.specs.Spots.{see, spot_at, spot_address}
-use Rattle.shm_graph.specs.Blocks.{IsLive, classes, headers}
-use Rattle.shm_graph.specs.References.{words_of, references_to}
-use Rattle.shm_graph.specs.Ops.{indegree}
-use Rattle.shm_graph.specs.Views.{View, targets, held_overs, ons}
-use Rattle.shm_graph.specs.Held.{CountSound, EraSound, IsUnusedLane, LaneSound, OpTie, Shown, odd}
-use Rattle.shm_graph.specs.Sound.{IsSound}
 use Rattle.shm_words.proofs.Words.{live_not_zero}
-use Rattle.shm_graph.proofs.States.Counting.{has_place, indegree_has, target_not_spare}
+use Rattle.shm_graph.specs.declared.memo.{First.First, ChangeStage.TheVariants.Raising, Op.Op}
+use Rattle.shm_graph.specs.declared.{memo.Op.TheVariants.{Up, Down, Change}, spot.Spot.Spot}
+use Rattle.shm_graph.specs.declared.spot.Spot.TheVariants.{Redo, RedoMore, Era, Head, Page, Tail, QueueHead, Slot, Unused}
+use Rattle.shm_graph.specs.{Spots.{see, spot_at, spot_address}, Blocks.{IsLive, classes, headers}}
+use Rattle.shm_graph.specs.{References.{words_of, references_to}, Ops.indegree, Views.{View, targets, held_overs, ons}}
+use Rattle.shm_graph.specs.{Held.{CountSound, EraSound, IsUnusedLane, LaneSound, OpTie, Shown, odd}, Sound.IsSound}
+use Rattle.shm_graph.proofs.States.{Counting.{has_place, indegree_has, target_not_spare}, StillClean.indegree_still}
 use Rattle.shm_graph.proofs.Spots.Seeing.{see_at, seen_stands, classes-see}
-use Rattle.shm_graph.proofs.States.StillClean.{indegree_still}
 
 -- ---- references
 

@@ -1,28 +1,17 @@
 -- a state that holds and in which nobody is at work is clean
 use Rattle.std.proofs.Common.{◌≡◌, ◌≢◌, ℕ, ◌+◌, ◌<◌, ◌≤◌, refl, sym, ap, ◌∙◌, arith, subst, inl, inr, ◌⊎◌, cond, eqb, ltb, List, []}
-use Rattle.std.proofs.Math.Path.{fun_ext}
-use Rattle.std.proofs.lemmas.Bool.{cases_eq, cases_Bool, ne_eqb}
-use Rattle.shm_words.specs.declared.geometry.Geometry.{Geometry}
-use Rattle.shm_words.specs.Classes.{IsClass}
+use Rattle.std.proofs.{Math.Path.fun_ext, lemmas.Bool.{cases_eq, cases_Bool, ne_eqb}}
+use Rattle.shm_words.specs.{declared.geometry.Geometry.Geometry, Classes.IsClass}
 use Rattle.shm_words.specs.Tags.{tag_refs, tag_plain, tag_author, tag_link}
-use Rattle.shm_words.proofs.Words.{tag_from_fields}
-use Rattle.shm_words.proofs.Classing.{class_room}
-use Rattle.shm_graph.specs.declared.spot.Spot.{Spot}
-use Rattle.shm_graph.specs.declared.spot.Spot.TheVariants.{Status, Home, Root, Slot, Page, Head, Tag, Body}
-use Rattle.shm_graph.specs.declared.memo.Status.TheVariants.{New, Gone}
-use Rattle.shm_graph.specs.declared.memo.Op.TheVariants.{Nothing}
-use Rattle.shm_graph.specs.declared.run.Account.{Account}
-use Rattle.shm_graph.specs.Spots.{class_at, see}
-use Rattle.shm_graph.specs.Blocks.{classes, headers, IsLive}
+use Rattle.shm_words.proofs.{Words.tag_from_fields, Classing.class_room}
+use Rattle.shm_graph.specs.declared.spot.Spot.{Spot, TheVariants.{Status, Home, Root, Slot, Page, Head, Tag, Body}}
+use Rattle.shm_graph.specs.declared.{memo.{Status.TheVariants.{New, Gone}, Op.TheVariants.Nothing}, run.Account.Account}
+use Rattle.shm_graph.specs.{Spots.{class_at, see}, Blocks.{classes, headers, IsLive}}
 use Rattle.shm_graph.specs.References.{sum_below, one_if, words_of, references, references_to}
 use Rattle.shm_graph.specs.Ops.{cover, cover_of, covered, held_over_of, indegree}
-use Rattle.shm_graph.specs.Views.{View, view, targets, held_overs}
-use Rattle.shm_graph.specs.Held.{HeldAt, status_word}
-use Rattle.shm_graph.specs.Clean.{IsClean, TagSuits}
-use Rattle.shm_graph.specs.Runs.{Held, memos_of}
-use Rattle.shm_graph.proofs.Spots.Sums.{sum_none}
-use Rattle.shm_graph.proofs.States.Counting.{covered_none}
-use Rattle.shm_graph.proofs.States.Holders.{held_live_not_zero}
+use Rattle.shm_graph.specs.{Views.{View, view, targets, held_overs}, Held.{HeldAt, status_word}}
+use Rattle.shm_graph.specs.{Clean.{IsClean, TagSuits}, Runs.{Held, memos_of}}
+use Rattle.shm_graph.proofs.{Spots.Sums.sum_none, States.{Counting.covered_none, Holders.held_live_not_zero}}
 
 -- where no change holds a reference over, the references are those of words
 pub indegree_still : (g : Geometry) (class : ℕ → ℕ → ℕ) (t : Spot → ℕ) (l : ℕ → ℕ) (b : ℕ) → b ≢ 0 → ((c : ℕ) → c < g.clients → l c ≡ 0) → indegree g class t l b ≡ references_to g class t b

@@ -1,29 +1,16 @@
 -- the laws of the kinds of word step at spots of no body, as machines use them
-use Rattle.std.proofs.Common.{◌≡◌, ℕ, refl, sym, ap, ◌∙◌, false, subst}
+use Rattle.std.proofs.{Common.{◌≡◌, ℕ, refl, sym, ap, ◌∙◌, false, subst}, lemmas.Bool.true≢false}
 use Rattle.shm_words.specs.declared.geometry.Geometry.{Geometry}
-use Rattle.std.proofs.lemmas.Bool.{true≢false}
-use Rattle.shm_graph.specs.declared.ask.Ask.{Ask}
-use Rattle.shm_graph.specs.declared.ask.Ask.TheVariants.{Store}
-use Rattle.shm_graph.specs.declared.ask.Me.{Me}
-use Rattle.shm_graph.specs.declared.spot.Spot.{Spot}
-use Rattle.shm_graph.specs.declared.spot.Spot.TheVariants.{Status, Unused}
-use Rattle.shm_graph.specs.declared.memo.Memo.{Memo}
-use Rattle.shm_graph.specs.declared.memo.Status.TheVariants as status
-use Rattle.shm_graph.specs.Spots.{spot_at, upd, is_in_body}
-use Rattle.shm_graph.specs.Blocks.{classes}
-use Rattle.shm_graph.specs.Views.{view, at1}
-use Rattle.shm_graph.specs.Held.{HeldAt}
-use Rattle.shm_graph.specs.Asks.{Trail, at_of, seen_of, words_after}
-use Rattle.shm_graph.specs.Changes.{memo_on, called}
-use Rattle.shm_graph.specs.Telling.{spot_told, body_told, outside_or}
-use Rattle.shm_graph.specs.Ops.{cover_of, held_over_of}
-use Rattle.shm_graph.specs.Events.{graph_of, IsSame}
-use Rattle.shm_graph.specs.Controllers.{IsAllowed, IsEraRaised}
+use Rattle.shm_graph.specs.declared.{ask.{Ask.{Ask, TheVariants.Store}, Me.Me}, spot.Spot.Spot}
+use Rattle.shm_graph.specs.declared.{spot.Spot.TheVariants.{Status, Unused}, memo.Memo.Memo}
+use Rattle.shm_graph.specs.{Spots.{spot_at, upd, is_in_body}, Blocks.classes, Views.{view, at1}, Held.HeldAt}
+use Rattle.shm_graph.specs.{Asks.{Trail, at_of, seen_of, words_after}, Changes.{memo_on, called}}
+use Rattle.shm_graph.specs.{Telling.{spot_told, body_told, outside_or}, Ops.{cover_of, held_over_of}}
+use Rattle.shm_graph.specs.{Events.{graph_of, IsSame}, Controllers.{IsAllowed, IsEraRaised}}
 use Rattle.shm_graph.specs.Laws.{Frame, framed, Stands, KeptAt}
-use Rattle.shm_graph.proofs.Memos.MemoParts.{status_set}
-use Rattle.shm_graph.proofs.Machines.Calling.{called_held, called_part}
-use Rattle.shm_graph.proofs.StepKinds.StatusStore.{status_held}
-use Rattle.shm_graph.proofs.StepKinds.SameGraph.{same_graph, nothing_happens, no_row}
+use Rattle.shm_graph.specs.declared.memo.Status.TheVariants as status
+use Rattle.shm_graph.proofs.{Memos.MemoParts.status_set, Machines.Calling.{called_held, called_part}}
+use Rattle.shm_graph.proofs.StepKinds.{StatusStore.status_held, SameGraph.{same_graph, nothing_happens, no_row}}
 use Rattle.shm_graph.proofs.Spots.PageSpots.{fixed_stays}
 
 -- the memo tells each spot of no body

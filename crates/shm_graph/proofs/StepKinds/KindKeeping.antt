@@ -1,23 +1,11 @@
 -- from the law of a kind of step over views to the step that a machine asks for
 use Rattle.std.proofs.Common.{◌≡◌, ◌≢◌, ℕ, refl, sym, ap, ◌∙◌, subst, Bool, true, false, cond, eqb, List, [], ◌∷◌, ◌++◌}
 use Rattle.std.proofs.lemmas.Bool.{eq-eqb, true≢false}
-use Rattle.shm_graph.specs.declared.ask.Ask.{Ask}
-use Rattle.shm_graph.specs.declared.ask.Ask.TheVariants.{Exchange}
-use Rattle.shm_graph.specs.declared.ask.Me.{Me}
-use Rattle.shm_graph.specs.declared.spot.Spot.{Spot}
-use Rattle.shm_graph.specs.declared.spot.Spot.TheVariants.{Head}
-use Rattle.shm_graph.specs.declared.memo.Op.{Op}
-use Rattle.shm_graph.specs.declared.memo.Memo.{Memo}
-use Rattle.shm_graph.specs.declared.memo.Seen.{Seen}
-use Rattle.shm_graph.specs.declared.memo.Step.{Step}
-use Rattle.shm_graph.specs.Spots.{upd}
-use Rattle.shm_graph.specs.Views.{View, view, at1}
-use Rattle.shm_graph.specs.Held.{HeldAt}
-use Rattle.shm_graph.specs.Asks.{Trail, seen_of, words_after, call_before}
-use Rattle.shm_graph.specs.Changes.{called, test_before, changed_by, memo_on}
-use Rattle.shm_graph.specs.MemoAfterRead.{read_on}
-use Rattle.shm_graph.specs.MemoAfterExchange.{exchanged_on}
-use Rattle.shm_graph.specs.Telling.{spot_told}
+use Rattle.shm_graph.specs.declared.{ask.{Ask.{Ask, TheVariants.Exchange}, Me.Me}, spot.Spot.{Spot, TheVariants.Head}}
+use Rattle.shm_graph.specs.{declared.memo.{Op.Op, Memo.Memo, Seen.Seen, Step.Step}, Spots.upd, Views.{View, view, at1}}
+use Rattle.shm_graph.specs.{Held.HeldAt, Asks.{Trail, seen_of, words_after, call_before}}
+use Rattle.shm_graph.specs.{Changes.{called, test_before, changed_by, memo_on}, MemoAfterRead.read_on}
+use Rattle.shm_graph.specs.{MemoAfterExchange.exchanged_on, Telling.spot_told}
 use Rattle.shm_graph.specs.Events.{Event, Nothing, graph_of, Happens}
 use Rattle.shm_graph.specs.Controllers.{IsAllowed, IsEraRaised, IsRowShown}
 use Rattle.shm_graph.specs.Laws.{Frame, framed, Stands, Ends, KeptAt, event_on, event_by, event_of}

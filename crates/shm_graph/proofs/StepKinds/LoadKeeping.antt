@@ -1,41 +1,23 @@
 -- loads of the fixed part, and exchanges there that fail, as machines use them
 use Rattle.std.proofs.Common.{◌≡◌, ◌≢◌, ℕ, ◌<◌, refl, sym, ap, ◌∙◌, subst, arith, true, false, not, Bool, cond, eqb, ◌&&◌, List, [], ◌∷◌, ◌++◌, Option}
-use Rattle.std.specs.Prelude.{None, Some}
-use Rattle.std.specs.List.{list_any}
 use Rattle.std.proofs.lemmas.Bool.{eq-eqb, ne_eqb, eqb-true, and_parts, false≢true, true≢false}
+use Rattle.std.specs.{Prelude.{None, Some}, List.list_any}
 use Rattle.shm_words.specs.declared.geometry.Geometry.{Geometry}
-use Rattle.shm_graph.specs.declared.ask.Ask.TheVariants.{Load, Exchange}
-use Rattle.shm_graph.specs.declared.ask.Me.{Me}
-use Rattle.shm_graph.specs.declared.spot.Spot.{Spot}
+use Rattle.shm_graph.specs.declared.{ask.{Ask.TheVariants.{Load, Exchange}, Me.Me}, spot.Spot.Spot}
 use Rattle.shm_graph.specs.declared.spot.Spot.TheVariants.{Hold, Home, Era, Tail, QueueHead, Slot, Page, Head, Tag, Body}
-use Rattle.shm_graph.specs.declared.memo.Agent.{Agent}
-use Rattle.shm_graph.specs.declared.memo.Fact.TheVariants.{Counter, Class}
-use Rattle.shm_graph.specs.declared.memo.Memo.{Memo}
-use Rattle.shm_graph.specs.declared.memo.Step.{Step}
-use Rattle.shm_graph.specs.declared.memo.Op.{Op}
-use Rattle.shm_graph.specs.declared.memo.Op.TheVariants.{Nothing}
-use Rattle.shm_graph.specs.Spots.{spot_at, upd, is_in_body}
-use Rattle.shm_graph.specs.Blocks.{classes}
-use Rattle.shm_graph.specs.Views.{view, at1}
-use Rattle.shm_graph.specs.Held.{HeldAt}
-use Rattle.shm_graph.specs.Ops.{IsUncommitted, cover_of, held_over_of}
-use Rattle.shm_graph.specs.Asks.{Trail}
-use Rattle.shm_graph.specs.Changes.{called, test_before, with_call, with_end, memo_on}
-use Rattle.shm_graph.specs.Reach.{learnt}
-use Rattle.shm_graph.proofs.StepKinds.SlotRead.{slot_held}
+use Rattle.shm_graph.specs.declared.memo.{Agent.Agent, Fact.TheVariants.{Counter, Class}, Memo.Memo, Step.Step, Op.Op}
+use Rattle.shm_graph.specs.{declared.memo.Op.TheVariants.Nothing, Spots.{spot_at, upd, is_in_body}, Blocks.classes}
+use Rattle.shm_graph.specs.{Views.{view, at1}, Held.HeldAt, Ops.{IsUncommitted, cover_of, held_over_of}, Asks.Trail}
+use Rattle.shm_graph.specs.{Changes.{called, test_before, with_call, with_end, memo_on}, Reach.learnt}
 use Rattle.shm_graph.specs.MemoAfterRead.{is_head_slot, valued, read_on, row_read, home_read, is_held}
 use Rattle.shm_graph.specs.MemoAfterExchange.{exchanged_on}
-use Rattle.shm_graph.specs.Agents.{recovers, last_agent, recovers_by, with_last, stepped}
-use Rattle.shm_graph.specs.Events.{graph_of, IsSame}
+use Rattle.shm_graph.specs.{Agents.{recovers, last_agent, recovers_by, with_last, stepped}, Events.{graph_of, IsSame}}
 use Rattle.shm_graph.specs.Laws.{MayEnd, Frame, framed, Stands, KeptAt}
-use Rattle.shm_graph.proofs.Runs.Lists.{at1_here}
-use Rattle.shm_graph.proofs.Memos.MemoParts.{op_set, looks_set, end_view}
+use Rattle.shm_graph.proofs.StepKinds.{SlotRead.slot_held, Loads.{choice, row_held, page_held}}
+use Rattle.shm_graph.proofs.StepKinds.{OpEnd.{uncommitted_quiet, op_ended}, SameGraph.{era_lost, same_graph}}
+use Rattle.shm_graph.proofs.{StepKinds.Keeping.fixed_kept, Runs.Lists.at1_here}
+use Rattle.shm_graph.proofs.Memos.{MemoParts.{op_set, looks_set, end_view}, Looking.home_held}
 use Rattle.shm_graph.proofs.Machines.Calling.{called_held, called_part, fact_held}
-use Rattle.shm_graph.proofs.StepKinds.Loads.{choice, row_held, page_held}
-use Rattle.shm_graph.proofs.Memos.Looking.{home_held}
-use Rattle.shm_graph.proofs.StepKinds.OpEnd.{uncommitted_quiet, op_ended}
-use Rattle.shm_graph.proofs.StepKinds.SameGraph.{era_lost, same_graph}
-use Rattle.shm_graph.proofs.StepKinds.Keeping.{fixed_kept}
 
 -- ---- the agent stays what it is
 

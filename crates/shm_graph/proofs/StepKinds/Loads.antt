@@ -1,23 +1,14 @@
 -- a word of the fixed part is read: rows, tails, heads and pages
 use Rattle.std.proofs.Common.{◌≡◌, ◌≢◌, ℕ, ◌+◌, ◌<◌, ◌≤◌, refl, sym, ap, ◌∙◌, subst, arith, Bool, true, false, not, cond, eqb, ltb, ◌&&◌, inl, inr, ◌∷◌, Option}
-use Rattle.std.specs.Prelude.{None, Some}
-use Rattle.std.specs.List.{list_any}
 use Rattle.std.proofs.lemmas.Bool.{cases_eq, eq-eqb, ne_eqb, eqb-true, ltb-true, and_parts}
 use Rattle.std.proofs.lemmas.Map.Views.{Contains-from_any}
+use Rattle.std.specs.{Prelude.{None, Some}, List.list_any}
 use Rattle.shm_words.specs.declared.geometry.Geometry.{Geometry}
-use Rattle.shm_graph.specs.declared.spot.Spot.{Spot}
-use Rattle.shm_graph.specs.declared.spot.Spot.TheVariants.{Era, Page}
-use Rattle.shm_graph.specs.declared.memo.Fact.TheVariants.{Counter, Class}
-use Rattle.shm_graph.specs.declared.memo.Test.{Test}
-use Rattle.shm_graph.specs.declared.memo.Memo.{Memo}
-use Rattle.shm_graph.specs.declared.memo.Step.{Step}
-use Rattle.shm_graph.specs.Views.{view, at1, own_word, ons}
-use Rattle.shm_graph.specs.Held.{HeldAt, TestAt}
-use Rattle.shm_graph.specs.Changes.{called, test_before}
-use Rattle.shm_graph.specs.MemoAfterRead.{next_row, test_on, row_read, page_read}
-use Rattle.shm_graph.specs.Agents.{recovers}
-use Rattle.shm_graph.proofs.Memos.Calls.{TestHolds}
-use Rattle.shm_graph.proofs.Machines.Calling.{called_part, called_held, fact_held, zero_held}
+use Rattle.shm_graph.specs.declared.{spot.Spot.{Spot, TheVariants.{Era, Page}}, memo.Fact.TheVariants.{Counter, Class}}
+use Rattle.shm_graph.specs.{declared.memo.{Test.Test, Memo.Memo, Step.Step}, Views.{view, at1, own_word, ons}}
+use Rattle.shm_graph.specs.{Held.{HeldAt, TestAt}, Changes.{called, test_before}}
+use Rattle.shm_graph.specs.{MemoAfterRead.{next_row, test_on, row_read, page_read}, Agents.recovers}
+use Rattle.shm_graph.proofs.{Memos.Calls.TestHolds, Machines.Calling.{called_part, called_held, fact_held, zero_held}}
 
 -- what holds of both values of a choice
 pub choice : {T : Type 0} (P : T → Type 0) (b : Bool) (x y : T) → (b ≡ true → P x) → (b ≡ false → P y) → P (cond b x y)

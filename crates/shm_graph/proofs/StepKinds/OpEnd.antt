@@ -1,31 +1,20 @@
 -- a step that was not committed ends, with no word
 use Rattle.std.proofs.Common.{◌≡◌, ◌≢◌, ℕ, ◌+◌, ◌%◌, ◌<◌, refl, sym, ap, ◌∙◌, subst, arith, true, false, inl, inr, Option, []}
-use Rattle.std.specs.Prelude.{None}
-use Rattle.std.specs.List.{All}
-use Rattle.std.proofs.Math.Path.{fun_ext}
-use Rattle.std.proofs.lemmas.Bool.{cases_eq, cases_Bool, false≢true}
-use Rattle.shm_words.specs.declared.geometry.Geometry.{Geometry}
-use Rattle.shm_words.specs.Headers.{header_of}
-use Rattle.shm_words.specs.Tags.{tag_author}
+use Rattle.std.proofs.{Math.Path.fun_ext, lemmas.Bool.{cases_eq, cases_Bool, false≢true}}
+use Rattle.std.specs.{Prelude.None, List.All}
+use Rattle.shm_words.specs.{declared.geometry.Geometry.Geometry, Headers.header_of, Tags.tag_author}
+use Rattle.shm_words.proofs.Words.{kind_told, change_told}
 use Rattle.shm_graph.specs.declared.spot.Spot.{Spot}
 use Rattle.shm_graph.specs.declared.spot.Spot.TheVariants.{Home, Redo, RedoMore, Era, Root, Tail, QueueHead, Slot, Page, Head, Tag, Body}
 use Rattle.shm_graph.specs.declared.memo.First.TheVariants.{Begun, Committed, Written}
-use Rattle.shm_graph.specs.declared.memo.ChangeStage.TheVariants.{Raising, Lowering}
-use Rattle.shm_graph.specs.declared.memo.Op.{Op}
-use Rattle.shm_graph.specs.declared.memo.Op.TheVariants.{Nothing, Alloc, Up, Down, Change}
-use Rattle.shm_graph.specs.declared.memo.Stored.{Stored}
-use Rattle.shm_graph.specs.Spots.{same_spot}
-use Rattle.shm_graph.specs.Tables.{contents_of, HasShape}
-use Rattle.shm_graph.specs.References.{words_of}
+use Rattle.shm_graph.specs.declared.memo.{ChangeStage.TheVariants.{Raising, Lowering}, Op.Op}
+use Rattle.shm_graph.specs.declared.memo.{Op.TheVariants.{Nothing, Alloc, Up, Down, Change}, Stored.Stored}
+use Rattle.shm_graph.specs.{Spots.same_spot, Tables.{contents_of, HasShape}, References.words_of}
 use Rattle.shm_graph.specs.Ops.{IsUncommitted, cover, cover_of, held_over_of, on_of, slot_of, up_slot, target, word_at, is_op}
-use Rattle.shm_graph.specs.Ops.Cover.{Quiet}
-use Rattle.shm_graph.specs.Views.{View, at1, targets, ons, held_overs}
+use Rattle.shm_graph.specs.{Ops.Cover.Quiet, Views.{View, at1, targets, ons, held_overs}}
 use Rattle.shm_graph.specs.Held.{HeldAt, FactAt, SlotOf, reach_of, named_by, OpTie, OwnSound, IdleSound, TailSound, Allowed, CountSound, EraSound, LooksSound, LaneSound, KnownAt, TestAt, IsUnusedLane, PartTie, ValueAt, MadeAt, is_loose, odd}
-use Rattle.shm_words.proofs.Words.{kind_told, change_told}
-use Rattle.shm_graph.proofs.Memos.Frames.{at1_all}
-use Rattle.shm_graph.proofs.Spots.Spotting.{same_spot_is, same_spot_self}
-use Rattle.shm_graph.proofs.States.Counting.{cover_slot, cover_idle, covered_none}
-use Rattle.shm_graph.proofs.States.Holders.{apart_slots, Holds}
+use Rattle.shm_graph.proofs.{Memos.Frames.at1_all, Spots.Spotting.{same_spot_is, same_spot_self}}
+use Rattle.shm_graph.proofs.States.{Counting.{cover_slot, cover_idle, covered_none}, Holders.{apart_slots, Holds}}
 
 -- such a step does nothing to the references
 pub uncommitted_quiet : (o : Op) → IsUncommitted o → (cover_of o ≡ Quiet) × (held_over_of o ≡ 0) × (on_of o ≡ None)

@@ -1,21 +1,12 @@
 -- steps that leave the graph of references
-use Rattle.std.proofs.Common.{◌≡◌, ◌≢◌, ℕ, ap, sym, subst, ◌∙◌, false, refl}
-use Rattle.std.proofs.lemmas.Bool.{true≢false}
-use Rattle.shm_words.specs.declared.geometry.Geometry.{Geometry}
-use Rattle.shm_words.specs.Headers.{header_of}
-use Rattle.shm_graph.specs.declared.ask.Ask.{Ask}
-use Rattle.shm_graph.specs.declared.ask.Ask.TheVariants.{Load, Store, Exchange}
-use Rattle.shm_graph.specs.declared.spot.Spot.{Spot}
-use Rattle.shm_graph.specs.declared.spot.Spot.TheVariants.{Era, Head, Tag}
-use Rattle.shm_graph.specs.declared.memo.Memo.{Memo}
-use Rattle.shm_graph.specs.declared.memo.Step.{Step}
-use Rattle.shm_graph.specs.Views.{view, at1}
-use Rattle.shm_graph.specs.References.{Words, words_of}
+use Rattle.std.proofs.{Common.{◌≡◌, ◌≢◌, ℕ, ap, sym, subst, ◌∙◌, false, refl}, lemmas.Bool.true≢false}
+use Rattle.shm_words.specs.{declared.geometry.Geometry.Geometry, Headers.header_of}
+use Rattle.shm_graph.specs.declared.{ask.Ask.{Ask, TheVariants.{Load, Store, Exchange}}, spot.Spot.Spot}
+use Rattle.shm_graph.specs.declared.{spot.Spot.TheVariants.{Era, Head, Tag}, memo.{Memo.Memo, Step.Step}}
+use Rattle.shm_graph.specs.{Views.{view, at1}, References.{Words, words_of}}
 use Rattle.shm_graph.specs.Ops.{Cover, cover_of, held_over_of, target}
-use Rattle.shm_graph.specs.Events.{Nothing, Graph, graph_of, IsSame, Happens}
-use Rattle.shm_graph.specs.Controllers.{IsEraRaised, IsRowShown}
-use Rattle.shm_graph.specs.Laws.{event_by}
-use Rattle.shm_graph.specs.Spots.{is_in_body}
+use Rattle.shm_graph.specs.{Events.{Nothing, Graph, graph_of, IsSame, Happens}, Controllers.{IsEraRaised, IsRowShown}}
+use Rattle.shm_graph.specs.{Laws.event_by, Spots.is_in_body}
 use Rattle.shm_graph.proofs.Memos.MemoParts.{part_stays}
 
 -- no header, no tag and no reference word changed, and the step in progress covers and holds over what it did

@@ -1,29 +1,16 @@
 -- a head slot of a queue is read
 use Rattle.std.proofs.Common.{◌≡◌, ◌≢◌, ℕ, ◌%◌, ◌<◌, refl, sym, ap, ◌∙◌, subst, arith, true, not, eqb, ltb, ◌&&◌, List}
-use Rattle.std.specs.Prelude.{slice_index}
-use Rattle.std.specs.List.{list_any}
-use Rattle.std.proofs.lemmas.Bool.{and_parts, eq-eqb, eqb-true, ltb-true, false≢true}
-use Rattle.std.proofs.lemmas.List.Elements.{All-get_or}
+use Rattle.std.proofs.lemmas.{Bool.{and_parts, eq-eqb, eqb-true, ltb-true, false≢true}, List.Elements.All-get_or}
 use Rattle.std.proofs.lemmas.List.Folds.{Any-from_list_any}
+use Rattle.std.specs.{Prelude.slice_index, List.list_any}
 use Rattle.shm_words.specs.declared.geometry.Geometry.{Geometry}
-use Rattle.shm_graph.specs.declared.spot.Spot.{Spot}
-use Rattle.shm_graph.specs.declared.spot.Spot.TheVariants.{Tail, QueueHead, Slot}
-use Rattle.shm_graph.specs.declared.memo.Fact.{Fact}
-use Rattle.shm_graph.specs.declared.memo.Fact.TheVariants.{Counter}
-use Rattle.shm_graph.specs.declared.memo.Memo.{Memo}
-use Rattle.shm_graph.specs.declared.memo.Step.{Step}
-use Rattle.shm_graph.specs.Blocks.{classes}
-use Rattle.shm_graph.specs.Views.{view, at1, own_word}
-use Rattle.shm_graph.specs.Held.{HeldAt}
-use Rattle.shm_graph.specs.Changes.{called}
-use Rattle.shm_graph.specs.Reach.{learnt}
+use Rattle.shm_graph.specs.declared.{spot.Spot.{Spot, TheVariants.{Tail, QueueHead, Slot}}, memo.Fact.Fact}
+use Rattle.shm_graph.specs.{declared.memo.{Fact.TheVariants.Counter, Memo.Memo, Step.Step}, Blocks.classes}
+use Rattle.shm_graph.specs.{Views.{view, at1, own_word}, Held.HeldAt, Changes.called, Reach.learnt}
 use Rattle.shm_graph.specs.MemoAfterRead.{slot_read, is_head_slot, is_tail_above, valued}
-use Rattle.shm_graph.proofs.Spots.SpotPlaces.{at_is_in}
-use Rattle.shm_graph.proofs.Memos.MemoParts.{view_here}
-use Rattle.shm_graph.proofs.Memos.Calls.{FactHolds, FactsHold}
-use Rattle.shm_graph.proofs.Machines.Calling.{after_call}
-use Rattle.shm_graph.proofs.StepKinds.Loads.{choice}
+use Rattle.shm_graph.proofs.{Spots.SpotPlaces.at_is_in, Memos.{MemoParts.view_here, Calls.{FactHolds, FactsHold}}}
 use Rattle.shm_graph.proofs.Memos.KnownChange.{KnownHolds, ValueHolds, memo_known, learnt_all, valued_all}
+use Rattle.shm_graph.proofs.{Machines.Calling.after_call, StepKinds.Loads.choice}
 use Rattle.shm_graph.proofs.States.HeadSlot.{IsHead, head_known, head_value}
 
 -- a tail that was read above x is above x

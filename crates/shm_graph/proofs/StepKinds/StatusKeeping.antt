@@ -1,34 +1,18 @@
 -- the stores of the statuses dead and gone, as machines use them
-use Rattle.std.proofs.Common.{◌≡◌, ◌<◌, ℕ, refl, sym, ap, ◌∙◌, subst, List, [], Option}
-use Rattle.std.specs.Prelude.{None}
-use Rattle.std.specs.List.{All}
-use Rattle.std.proofs.lemmas.List.Elements.{All-nil}
+use Rattle.std.proofs.{Common.{◌≡◌, ◌<◌, ℕ, refl, sym, ap, ◌∙◌, subst, List, [], Option}, lemmas.List.Elements.All-nil}
+use Rattle.std.specs.{Prelude.None, List.All}
 use Rattle.shm_words.specs.declared.geometry.Geometry.{Geometry}
-use Rattle.shm_graph.specs.declared.ask.Ask.TheVariants.{Store}
-use Rattle.shm_graph.specs.declared.ask.Me.{Me}
-use Rattle.shm_graph.specs.declared.spot.Spot.{Spot}
+use Rattle.shm_graph.specs.declared.{ask.{Ask.TheVariants.Store, Me.Me}, spot.Spot.Spot}
 use Rattle.shm_graph.specs.declared.spot.Spot.TheVariants.{Status, Segment, Page, Head, Tag, Body, Slot, Tail, QueueHead}
-use Rattle.shm_graph.specs.declared.memo.Memo.{Memo}
-use Rattle.shm_graph.specs.declared.memo.Stored.{Stored}
-use Rattle.shm_graph.specs.declared.memo.Making.{Making}
-use Rattle.shm_graph.specs.declared.memo.Status.TheVariants as status
-use Rattle.shm_graph.specs.Spots.{spot_at, upd}
-use Rattle.shm_graph.specs.Blocks.{classes}
-use Rattle.shm_graph.specs.Tables.{contents_of}
-use Rattle.shm_graph.specs.Views.{View, view, at1, targets}
-use Rattle.shm_graph.specs.Held.{HeldAt, Fresh, KnownAt, ValueAt, MakingTie, reach_of}
-use Rattle.shm_graph.specs.Asks.{Trail}
-use Rattle.shm_graph.specs.Changes.{called, with_end}
-use Rattle.shm_graph.specs.Agents.{with_status}
-use Rattle.shm_graph.specs.Ops.{cover_of, held_over_of}
+use Rattle.shm_graph.specs.{declared.memo.{Memo.Memo, Stored.Stored, Making.Making}, Spots.{spot_at, upd}}
+use Rattle.shm_graph.specs.{Blocks.classes, Tables.contents_of, Views.{View, view, at1, targets}}
+use Rattle.shm_graph.specs.{Held.{HeldAt, Fresh, KnownAt, ValueAt, MakingTie, reach_of}, Asks.Trail}
+use Rattle.shm_graph.specs.{Changes.{called, with_end}, Agents.with_status, Ops.{cover_of, held_over_of}}
 use Rattle.shm_graph.specs.Laws.{Frame, framed, Stands, KeptAt, GoneNow}
-use Rattle.shm_graph.proofs.Memos.Frames.{at1_all}
-use Rattle.shm_graph.proofs.Runs.Lists.{at1_here}
-use Rattle.shm_graph.proofs.Memos.MemoParts.{changed_view, put_same, status_set}
-use Rattle.shm_graph.proofs.Machines.Calling.{called_held, called_part, called_by}
-use Rattle.shm_graph.proofs.StepKinds.StatusStore.{status_held}
-use Rattle.shm_graph.proofs.StepKinds.SameGraph.{same_graph}
-use Rattle.shm_graph.proofs.StepKinds.Keeping.{fixed_kept}
+use Rattle.shm_graph.specs.declared.memo.Status.TheVariants as status
+use Rattle.shm_graph.proofs.Memos.{Frames.at1_all, MemoParts.{changed_view, put_same, status_set}}
+use Rattle.shm_graph.proofs.{Runs.Lists.at1_here, Machines.Calling.{called_held, called_part, called_by}}
+use Rattle.shm_graph.proofs.StepKinds.{StatusStore.status_held, SameGraph.same_graph, Keeping.fixed_kept}
 
 -- what a dead agent prepared and knew is forgotten
 abbrev forgets : Memo → Memo

@@ -1,18 +1,13 @@
 -- the store of the own status
 use Rattle.std.proofs.Common.{◌≡◌, ◌≢◌, ℕ, ◌^◌, ◌<◌, refl, sym, ◌∙◌, true, inl, inr, arith, lit<}
-use Rattle.std.proofs.lemmas.Bool.{cases_eq, eq-eqb, ne_eqb}
-use Rattle.std.proofs.lemmas.Bool.Decides.{nat_tests}
+use Rattle.std.proofs.lemmas.Bool.{cases_eq, eq-eqb, ne_eqb, Decides.nat_tests}
 use Rattle.shm_words.specs.declared.geometry.Geometry.{Geometry}
 use Rattle.shm_graph.specs.declared.spot.Spot.{Spot}
 use Rattle.shm_graph.specs.declared.spot.Spot.TheVariants.{Status, Redo, RedoMore, Hold, Home, Era, Root, Tail, QueueHead, Page}
-use Rattle.shm_graph.specs.declared.memo.Status.{Status as AStatus}
-use Rattle.shm_graph.specs.declared.memo.Status.TheVariants as status
-use Rattle.shm_graph.specs.Spots.{upd, IsAt}
-use Rattle.shm_graph.specs.Views.{View, at1, owner_is}
+use Rattle.shm_graph.specs.{declared.memo.Status.Status as AStatus, Spots.{upd, IsAt}, Views.{View, at1, owner_is}}
 use Rattle.shm_graph.specs.Held.{HeldAt, Fresh, Gone, status_word}
-use Rattle.shm_graph.proofs.Memos.Frames.{at1_all}
-use Rattle.shm_graph.proofs.Spots.Updating.{upd_all}
-use Rattle.shm_graph.proofs.Spots.Fixed.{fixed_is_at}
+use Rattle.shm_graph.specs.declared.memo.Status.TheVariants as status
+use Rattle.shm_graph.proofs.{Memos.Frames.at1_all, Spots.{Updating.upd_all, Fixed.fixed_is_at}}
 
 -- a status word is no own word
 not_own : (w : Spot → ℕ) (c x d : ℕ) (q : Spot) → owner_is d q ≡ true → upd w (Status c) x q ≡ w q

@@ -1,34 +1,24 @@
 -- the control of a drain: which call comes next, and where it goes by what that call answered
 use Rattle.std.specs.Prelude.{ℕ, ◌+◌, ◌%◌, ◌^◌, ◌<◌, Bool, true, false, ◌==◌, nat_lt, if◌then◌else◌, Option, Some, None, Result, Ok, Err, List, codes}
-use Rattle.shm_words.specs.declared.place.Place.TheVariants as place
 use Rattle.shm_words.specs.Layout.{GeometryFits, address}
-use Rattle.shm_graph.specs.declared.ask.Ask.{Ask}
-use Rattle.shm_graph.specs.declared.ask.Ask.TheVariants.{Load}
-use Rattle.shm_graph.specs.declared.ask.Me.{Me}
-use Rattle.shm_graph.specs.Laws.{Control}
-use Rattle.shm_calls.specs.declared.calls.Calls.{Calls}
-use Rattle.shm_calls.specs.declared.or.Or.{Or}
-use Rattle.shm_calls.specs.declared.or.Or.TheVariants.{First, Second}
-use Rattle.shm_calls.specs.declared.word.Word.{Word}
-use Rattle.shm_calls.specs.CallsControl.{calls_control, calls_of}
-use Rattle.shm_calls.specs.Either.{or_control}
-use Rattle.shm_calls.specs.Words.{word_control}
+use Rattle.shm_words.specs.declared.place.Place.TheVariants as place
+use Rattle.shm_graph.specs.{declared.ask.{Ask.{Ask, TheVariants.Load}, Me.Me}, Laws.Control}
+use Rattle.shm_calls.specs.declared.{calls.Calls.Calls, or.Or.{Or, TheVariants.{First, Second}}, word.Word.Word}
+use Rattle.shm_calls.specs.{CallsControl.{calls_control, calls_of}, Either.or_control, Words.word_control}
+use Rattle.shm_calls.specs.Steering.{Steered}
 use Rattle.shm_count.specs.declared.answer.EraSpent.{EraSpent}
-use Rattle.shm_queue.specs.declared.answer.TakeFault.{TakeFault}
-use Rattle.shm_queue.specs.declared.answer.TakeFault.TheVariants as fault
-use Rattle.shm_queue.specs.declared.drain.DrainPoint.{DrainPoint}
-use Rattle.shm_queue.specs.declared.drain.DrainPoint.TheVariants.{Status, Item}
-use Rattle.shm_queue.specs.declared.drain.DrainState.{DrainState}
+use Rattle.shm_queue.specs.declared.{answer.TakeFault.TakeFault, drain.DrainPoint.DrainPoint}
+use Rattle.shm_queue.specs.declared.drain.{DrainPoint.TheVariants.{Status, Item}, DrainState.DrainState}
 use Rattle.shm_queue.specs.declared.take.TakeState.{TakeState}
-use Rattle.shm_queue.specs.Take.Control.{TakeCall, TakeAnswer, take_parts, taking}
-use Rattle.shm_queue.specs.Take.{take_plan}
+use Rattle.shm_queue.specs.Take.Control.{TakeCall, TakeAnswer, take_parts, taking, take_steered}
+use Rattle.shm_queue.specs.declared.answer.TakeFault.TheVariants as fault
 
 -- a take as a call, and its control
 abbrev pub TakeCalls : Type 0
 TakeCalls = Calls TakeState TakeCall (Result (Unit {0}) TakeFault) TakeAnswer
 
 abbrev pub take_control : Control TakeCalls (Result (Unit {0}) TakeFault)
-take_control = calls_control take_parts take_plan
+take_control = calls_control take_parts take_steered
 
 -- its calls, and what they answer
 abbrev pub DrainCall : Type 0
@@ -50,7 +40,7 @@ drain_ask m = Load (address m.me.geometry (place.Status m.me.who))
 
 abbrev pub drain_call_at : DrainState → DrainPoint → DrainCall
 drain_call_at m Status = First (record { me = m.me; ask = drain_ask m; over = false })
-drain_call_at m Item = Second (calls_of take_plan (taking m.me m.from))
+drain_call_at m Item = Second (calls_of take_steered (taking m.me m.from))
 
 -- the first sender, and the one after s
 abbrev pub first_from : ℕ → ℕ
@@ -91,3 +81,16 @@ pub record DrainInRange (m : DrainState) : Type 0 where
 -- the control of its calls
 abbrev pub drain_parts : Control DrainCall DrainAnswer
 drain_parts = or_control word_control take_control
+
+-- what the plan does: its identity and its line, its calls, and where it goes by their answers
+abbrev pub drain_steered : Steered DrainState DrainCall DrainAnswer (Result ℕ EraSpent)
+drain_steered =
+    record {
+      me = λ m. m.me;
+      line = λ m. drain_line;
+      first = λ m. is_status m.point;
+      start = λ m. record m { from = 0; taken = 0; point = Status };
+      call = λ m. drain_call_at m m.point;
+      after = drain_after;
+      turns = drain_turns;
+    }

@@ -1,21 +1,13 @@
 -- items that are taken one after the other: what is left of the memo, and their events
 use Rattle.std.proofs.Common.{◌≡◌, ◌≢◌, ℕ, ◌+◌, refl, sym, ap, ◌∙◌, subst, arith, append_assoc, append-nil, Bool, true, false, cond, eqb, ◌&&◌, List, [], ◌∷◌, ◌++◌, length, inl, inr}
+use Rattle.std.proofs.lemmas.{Bool.{cases_eq, cond-false, cond-true, eq-eqb, ne_eqb}, List.length-append}
 use Rattle.std.specs.Prelude.{slice_index, slice_index_or}
-use Rattle.std.proofs.lemmas.Bool.{cases_eq, cond-false, cond-true, eq-eqb, ne_eqb}
-use Rattle.std.proofs.lemmas.List.{length-append}
-use Rattle.shm_graph.specs.declared.ask.Me.{Me}
-use Rattle.shm_graph.specs.declared.spot.Spot.TheVariants.{Era, QueueHead}
-use Rattle.shm_graph.specs.declared.memo.Memo.{Memo}
-use Rattle.shm_graph.specs.declared.memo.Op.TheVariants.{Nothing}
-use Rattle.shm_graph.specs.Core.{core}
-use Rattle.shm_graph.specs.Events.{Event}
-use Rattle.shm_graph.specs.Spots.{same_spot}
+use Rattle.shm_graph.specs.declared.{ask.Me.Me, spot.Spot.TheVariants.{Era, QueueHead}, memo.Memo.Memo}
+use Rattle.shm_graph.specs.{declared.memo.Op.TheVariants.Nothing, Core.core, Events.Event, Spots.same_spot}
 use Rattle.shm_graph.specs.Views.{own_word}
 use Rattle.shm_steps.proofs.Items.{put_at}
-use Rattle.shm_count.specs.Roots.{rest}
-use Rattle.shm_count.specs.Tear.Events.{frees}
-use Rattle.shm_queue.specs.Drain.{Drained, ItemsEvents, TakenItem, blocks_from}
-use Rattle.shm_queue.specs.Take.{Received, TakeEvents}
+use Rattle.shm_count.specs.{Roots.rest, Tear.Events.frees}
+use Rattle.shm_queue.specs.{Drain.{Drained, ItemsEvents, TakenItem, blocks_from}, Take.{Received, TakeEvents}}
 
 -- ---- lists of items
 

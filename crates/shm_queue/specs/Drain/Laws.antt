@@ -1,44 +1,26 @@
 -- what is owed of a drain: each call leads on, to the next one or to what is left
 use Rattle.std.proofs.Common.{◌≡◌, ◌≢◌, ℕ, ◌+◌, ◌*◌, ◌^◌, ◌<◌, ◌≤◌, ◌⊎◌, refl, sym, ap, ◌∙◌, subst, arith, append-nil, Bool, true, false, List, [], ◌∷◌, ◌++◌, length, inl, inr}
-use Rattle.std.specs.Prelude.{◌==◌, nat_lt, if◌then◌else◌, Option, Some, None, Result, Ok, Err}
-use Rattle.std.specs.List.{Contains}
-use Rattle.std.proofs.Math.Nat.{mod-eq_of_lt}
-use Rattle.std.proofs.lemmas.Bool.{cases_eq, eqb-false, eqb-true}
-use Rattle.std.proofs.lemmas.Bool.Decides.{nat_tests}
+use Rattle.std.proofs.{Math.Nat.mod-eq_of_lt, lemmas.Bool.{cases_eq, eqb-false, eqb-true, Decides.nat_tests}}
 use Rattle.std.proofs.lemmas.List.{length-append}
-use Rattle.shm_queue.specs.Costs.{items_sum, tear_sum}
-use Rattle.shm_graph.specs.declared.spot.Spot.TheVariants.{QueueHead, Tail}
-use Rattle.shm_graph.specs.declared.memo.Fact.TheVariants.{Counter}
-use Rattle.shm_graph.specs.declared.memo.Memo.{Memo}
-use Rattle.shm_graph.specs.Asks.{Trail, IsWithin}
-use Rattle.shm_graph.specs.Bounds.{tear_steps, redo_steps}
-use Rattle.shm_graph.specs.Core.{core}
-use Rattle.shm_graph.specs.Events.{Event}
-use Rattle.shm_graph.specs.Laws.{Outcome}
-use Rattle.shm_graph.specs.Views.{own_word}
-use Rattle.shm_steps.specs.WordParts.{StatusLoaded}
-use Rattle.shm_steps.proofs.Cores.{here_same}
-use Rattle.shm_steps.proofs.Words.Own.{status_load}
-use Rattle.shm_calls.specs.declared.or.Or.TheVariants.{First, Second}
-use Rattle.shm_calls.specs.CallTells.{within_more}
-use Rattle.shm_calls.specs.CallsPart.{calls_part, calls_part_laws}
-use Rattle.shm_calls.specs.Either.{or_part, or_part_laws}
-use Rattle.shm_calls.specs.Grown.{Grows, grown_laws}
-use Rattle.shm_calls.specs.Parts.{IsHeld}
-use Rattle.shm_calls.specs.Plans.{PlanLaws, PlanStays, IsCall, Follows}
-use Rattle.shm_calls.specs.Words.{word_control, word_part, word_part_laws, WordLeaves}
-use Rattle.shm_count.specs.declared.answer.EraSpent.{EraSpent}
-use Rattle.shm_count.specs.Tear.Events.{frees}
-use Rattle.shm_queue.specs.declared.answer.TakeFault.TheVariants as fault
-use Rattle.shm_queue.specs.declared.drain.DrainPoint.{DrainPoint}
-use Rattle.shm_queue.specs.declared.drain.DrainPoint.TheVariants.{Status, Item}
-use Rattle.shm_queue.specs.declared.drain.DrainState.{DrainState}
-use Rattle.shm_queue.specs.Drain.Control.{DrainAnswer, drain_ask, drain_call_at, drain_parts, draining, first_from, is_status, next_from, take_control, turned, turned_answer}
+use Rattle.std.specs.{Prelude.{◌==◌, nat_lt, if◌then◌else◌, Option, Some, None, Result, Ok, Err}, List.Contains}
+use Rattle.shm_queue.specs.{Costs.{items_sum, tear_sum}, declared.drain.DrainPoint.DrainPoint}
+use Rattle.shm_queue.specs.declared.drain.{DrainPoint.TheVariants.{Status, Item}, DrainState.DrainState}
+use Rattle.shm_queue.specs.Drain.Control.{DrainAnswer, drain_ask, drain_call_at, drain_parts, draining, first_from, is_status, next_from, take_control, turned, turned_answer, drain_steered}
 use Rattle.shm_queue.specs.Drain.{AreEmpty, Drained, DrainKnows, DrainLeaves, IsDraining, ItemsEvents, MayDrain, TakenItem, drain_part, drain_plan}
 use Rattle.shm_queue.specs.Drain.Items.{drained_core, drained_more, drained_none, events_more, frees_append, same_head}
-use Rattle.shm_queue.specs.QueueWords.{head_low}
-use Rattle.shm_queue.specs.Take.Control.{take_parts, taking}
+use Rattle.shm_queue.specs.{QueueWords.head_low, Take.Control.{take_parts, taking}}
 use Rattle.shm_queue.specs.Take.{MayTakeFrom, TakeDone, TakeEmpty, TakeRefused, take_plan}
+use Rattle.shm_queue.specs.declared.answer.TakeFault.TheVariants as fault
+use Rattle.shm_graph.specs.declared.{spot.Spot.TheVariants.{QueueHead, Tail}, memo.Fact.TheVariants.Counter}
+use Rattle.shm_graph.specs.{declared.memo.Memo.Memo, Asks.{Trail, IsWithin}, Bounds.{tear_steps, redo_steps}, Core.core}
+use Rattle.shm_graph.specs.{Events.Event, Laws.Outcome, Views.own_word}
+use Rattle.shm_steps.specs.WordParts.{StatusLoaded}
+use Rattle.shm_steps.proofs.{Cores.here_same, Words.Own.status_load}
+use Rattle.shm_calls.specs.{declared.or.Or.TheVariants.{First, Second}, CallTells.within_more}
+use Rattle.shm_calls.specs.{CallsPart.{calls_part, calls_part_laws}, Either.{or_part, or_part_laws}}
+use Rattle.shm_calls.specs.{Grown.{Grows, grown_laws}, Parts.IsHeld, Plans.{PlanLaws, PlanStays, IsCall, Follows}}
+use Rattle.shm_calls.specs.Words.{word_control, word_part, word_part_laws, WordLeaves}
+use Rattle.shm_count.specs.{declared.answer.EraSpent.EraSpent, Tear.Events.frees}
 
 -- ---- senders
 
@@ -99,8 +81,8 @@ later : (m : DrainState) (s : ℕ) (q : Bool) → ◌≡◌ {A = Option (Result 
 later m s true e = refl
 later m s false e = absurd (cc)
 
-turn_stays : (m : DrainState) (s : ℕ) → (drain_plan.me (turned m s) ≡ m.me) × (drain_plan.start (turned m s) ≡ drain_plan.start m) × (turned_answer m s ≡ None → drain_plan.first (turned m s) ≡ false)
-turn_stays m s = (same m s (λ (x : DrainState). x.me) refl refl (nat_lt s m.me.geometry.clients), same m s drain_plan.start refl refl (nat_lt s m.me.geometry.clients), later m s (nat_lt s m.me.geometry.clients))
+turn_stays : (m : DrainState) (s : ℕ) → (drain_steered.me (turned m s) ≡ m.me) × (drain_steered.start (turned m s) ≡ drain_steered.start m) × (turned_answer m s ≡ None → drain_steered.first (turned m s) ≡ false)
+turn_stays m s = (same m s (λ (x : DrainState). x.me) refl refl (nat_lt s m.me.geometry.clients), same m s drain_steered.start refl refl (nat_lt s m.me.geometry.clients), later m s (nat_lt s m.me.geometry.clients))
 
 stays : (m : DrainState) (b : DrainAnswer) → PlanStays drain_parts drain_plan m b
 stays m (First n) = let t = turn_stays m (first_from m.me.who) in record { same_me = t.0; same_line = refl; same_start = t.1; started = t.2 }

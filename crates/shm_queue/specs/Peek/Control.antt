@@ -1,26 +1,15 @@
 -- the control of a peek: which call comes next, and where it goes by what that call answered
-use Rattle.std.specs.Prelude.{ℕ, ◌%◌, ◌<◌, Bool, true, false, ◌==◌, if◌then◌else◌, Option, Some, None, Result, Ok, Err}
-use Rattle.shm_words.specs.declared.place.Place.TheVariants as place
+use Rattle.std.specs.Prelude.{ℕ, ◌%◌, ◌<◌, Bool, true, false, ◌==◌, if◌then◌else◌, Option, Some, None, Result, Ok, Err, []}
 use Rattle.shm_words.specs.Layout.{GeometryFits, address, address_limit}
+use Rattle.shm_words.specs.declared.place.Place.TheVariants as place
+use Rattle.shm_graph.specs.{declared.ask.Me.Me, Laws.Control}
 use Rattle.shm_graph.specs.declared.ask.Ask.TheVariants as ask
-use Rattle.shm_graph.specs.declared.ask.Me.{Me}
-use Rattle.shm_graph.specs.Laws.{Control}
-use Rattle.shm_calls.specs.declared.or.Or.{Or}
-use Rattle.shm_calls.specs.declared.or.Or.TheVariants.{First, Second}
-use Rattle.shm_calls.specs.declared.word.Word.{Word}
-use Rattle.shm_calls.specs.CallsControl.{calls_of}
-use Rattle.shm_calls.specs.Either.{or_control}
-use Rattle.shm_calls.specs.Words.{word_control}
-use Rattle.shm_count.specs.declared.answer.Made.{Made}
-use Rattle.shm_count.specs.declared.answer.ShareFault.{ShareFault}
-use Rattle.shm_count.specs.UpRoot.Control.{rooting}
-use Rattle.shm_count.specs.UpRoot.{rooting_plan}
-use Rattle.shm_count.specs.UpRoot.AsPart.{RootingCalls, up_root}
-use Rattle.shm_queue.specs.declared.answer.PeekFault.{PeekFault}
-use Rattle.shm_queue.specs.declared.answer.PeekFault.TheVariants.{Empty}
-use Rattle.shm_queue.specs.declared.peek.PeekPoint.{PeekPoint}
-use Rattle.shm_queue.specs.declared.peek.PeekPoint.TheVariants.{Head, Tail, Slot, Share}
-use Rattle.shm_queue.specs.declared.peek.PeekState.{PeekState}
+use Rattle.shm_calls.specs.{declared.{or.Or.{Or, TheVariants.{First, Second}}, word.Word.Word}, CallsControl.calls_of}
+use Rattle.shm_calls.specs.{Either.or_control, Words.word_control, Steering.Steered}
+use Rattle.shm_count.specs.declared.answer.{Made.Made, ShareFault.ShareFault}
+use Rattle.shm_count.specs.UpRoot.{Control.{rooting, rooting_steered}, AsPart.{RootingCalls, up_root}}
+use Rattle.shm_queue.specs.declared.{answer.PeekFault.{PeekFault, TheVariants.Empty}, peek.PeekPoint.PeekPoint}
+use Rattle.shm_queue.specs.declared.peek.{PeekPoint.TheVariants.{Head, Tail, Slot, Share}, PeekState.PeekState}
 use Rattle.shm_queue.specs.Answers.{peek_fault}
 
 -- its calls, and what they answer
@@ -48,7 +37,7 @@ abbrev pub peek_call_at : PeekState → PeekPoint → PeekCall
 peek_call_at m Head = First (record { me = m.me; ask = ask.Load (head_at m); over = false })
 peek_call_at m Tail = First (record { me = m.me; ask = ask.Load (tail_at m); over = false })
 peek_call_at m Slot = First (record { me = m.me; ask = ask.Load (slot_at m); over = false })
-peek_call_at m Share = Second (calls_of rooting_plan (rooting m.me m.block))
+peek_call_at m Share = Second (calls_of rooting_steered (rooting m.me m.block))
 
 -- by a word that was found: the queue is empty where the tail is the own head
 abbrev pub after_word : PeekState → PeekPoint → ℕ → PeekState
@@ -83,3 +72,16 @@ pub record PeekInRange (m : PeekState) : Type 0 where
 -- the control of its calls
 abbrev pub peek_parts : Control PeekCall PeekAnswer
 peek_parts = or_control word_control up_root
+
+-- what the plan does: its identity and its line, its calls, and where it goes by their answers
+abbrev pub peek_steered : Steered PeekState PeekCall PeekAnswer (Result Made PeekFault)
+peek_steered =
+    record {
+      me = λ m. m.me;
+      line = λ m. [];
+      first = λ m. is_head m.point;
+      start = λ m. record m { at = 0; block = 0; point = Head };
+      call = λ m. peek_call_at m m.point;
+      after = peek_after;
+      turns = peek_turns;
+    }

@@ -1,42 +1,26 @@
 -- what is owed of a peek: each call leads on, to the next one or to what is left
 use Rattle.std.proofs.Common.{◌≡◌, ◌≢◌, ℕ, ◌+◌, ◌%◌, ◌^◌, ◌≤◌, refl, sym, ap, ◌∙◌, subst, arith, Bool, true, false, List, [], ◌++◌}
-use Rattle.std.specs.Prelude.{◌==◌, if◌then◌else◌, Some, None, Result, Ok, Err}
 use Rattle.std.proofs.lemmas.Bool.{eqb-false, eqb-true}
-use Rattle.shm_graph.specs.Bounds.{redo_steps}
+use Rattle.std.specs.Prelude.{◌==◌, if◌then◌else◌, Some, None, Result, Ok, Err}
+use Rattle.shm_graph.specs.{Bounds.redo_steps, declared.memo.{Fact.TheVariants.Counter, Memo.Memo, Stored.Stored}}
+use Rattle.shm_graph.specs.{Asks.{Trail, IsWithin}, Core.core, Events.Event, Laws.Outcome, Views.own_word}
 use Rattle.shm_graph.specs.declared.spot.Spot.TheVariants as spot
-use Rattle.shm_graph.specs.declared.memo.Fact.TheVariants.{Counter}
-use Rattle.shm_graph.specs.declared.memo.Memo.{Memo}
-use Rattle.shm_graph.specs.declared.memo.Stored.{Stored}
-use Rattle.shm_graph.specs.Asks.{Trail, IsWithin}
-use Rattle.shm_graph.specs.Core.{core}
-use Rattle.shm_graph.specs.Events.{Event}
-use Rattle.shm_graph.specs.Laws.{Outcome}
-use Rattle.shm_graph.specs.Views.{own_word}
 use Rattle.shm_steps.specs.WordParts.{HeadSlotLoaded}
-use Rattle.shm_steps.proofs.Words.Own.{head_load}
-use Rattle.shm_steps.proofs.Words.Queues.{head_slot_load}
-use Rattle.shm_calls.specs.declared.or.Or.TheVariants.{First, Second}
-use Rattle.shm_calls.specs.CallTells.{within_more}
-use Rattle.shm_calls.specs.Either.{or_part, or_part_laws}
-use Rattle.shm_calls.specs.Grown.{Grows, grown_laws}
-use Rattle.shm_calls.specs.Parts.{IsHeld}
+use Rattle.shm_steps.proofs.Words.{Own.head_load, Queues.head_slot_load}
+use Rattle.shm_calls.specs.{declared.or.Or.TheVariants.{First, Second}, CallTells.within_more}
+use Rattle.shm_calls.specs.{Either.{or_part, or_part_laws}, Grown.{Grows, grown_laws}, Parts.IsHeld}
 use Rattle.shm_calls.specs.Plans.{PlanLaws, PlanStays, IsCall, Follows}
 use Rattle.shm_calls.specs.Words.{word_control, word_part, word_part_laws, WordLeaves}
-use Rattle.shm_count.specs.declared.answer.ShareFault.{ShareFault}
-use Rattle.shm_count.specs.declared.answer.ShareFault.TheVariants as share
-use Rattle.shm_count.specs.Slots.{Untouched}
-use Rattle.shm_count.specs.UpRoot.{MayUpRoot, UpRootLeaves}
+use Rattle.shm_count.specs.{declared.answer.ShareFault.ShareFault, Slots.Untouched, UpRoot.{MayUpRoot, UpRootLeaves}}
 use Rattle.shm_count.specs.UpRoot.AsPart.{may_up_root, up_root, up_root_part}
+use Rattle.shm_count.specs.declared.answer.ShareFault.TheVariants as share
 use Rattle.shm_count.proofs.UpRootPart.{up_root_laws}
-use Rattle.shm_queue.specs.declared.answer.PeekFault.TheVariants.{Empty}
-use Rattle.shm_queue.specs.declared.peek.PeekPoint.{PeekPoint}
-use Rattle.shm_queue.specs.declared.peek.PeekPoint.TheVariants.{Head, Tail, Slot, Share}
-use Rattle.shm_queue.specs.declared.peek.PeekState.{PeekState}
+use Rattle.shm_queue.specs.declared.{answer.PeekFault.TheVariants.Empty, peek.PeekPoint.PeekPoint}
+use Rattle.shm_queue.specs.declared.peek.{PeekPoint.TheVariants.{Head, Tail, Slot, Share}, PeekState.PeekState}
 use Rattle.shm_queue.specs.HeadReads.{has_item, head_read, is_empty, item_read}
 use Rattle.shm_queue.specs.Peek.Control.{PeekAnswer, peek_parts, peeking, peek_call_at, is_head}
 use Rattle.shm_queue.specs.Peek.{NotPeeked, PeekKnows, PeekLeaves, PeekFound, peek_ask, peek_part, peek_plan}
-use Rattle.shm_queue.specs.QueueWords.{TailSeen, item_reached, tail_seen}
-use Rattle.shm_queue.specs.Send.Laws.{filled_core, untouched_core}
+use Rattle.shm_queue.specs.{QueueWords.{TailSeen, item_reached, tail_seen}, Send.Laws.{filled_core, untouched_core}}
 use Rattle.shm_queue.specs.Take.{IsItemRead, slot_memo}
 
 -- nothing was touched where the core is the same

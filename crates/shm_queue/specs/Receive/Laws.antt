@@ -1,38 +1,24 @@
 -- what is owed of a receive: the peek leads on to the take, or to what is left
 use Rattle.std.proofs.Common.{◌≡◌, ℕ, ◌+◌, ◌%◌, refl, sym, ap, ◌∙◌, subst, arith, List, ◌++◌, length, inl, inr}
-use Rattle.std.specs.Prelude.{Result, Ok, Err, slice_index}
-use Rattle.std.specs.List.{Contains}
+use Rattle.std.specs.{Prelude.{Result, Ok, Err, slice_index}, List.Contains}
+use Rattle.shm_graph.specs.{declared.memo.{Memo.Memo, Stored.Stored}, Asks.Trail, Bounds.{tear_steps, redo_steps}}
+use Rattle.shm_graph.specs.{Events.Event, Views.own_word}
 use Rattle.shm_graph.specs.declared.spot.Spot.TheVariants as spot
-use Rattle.shm_graph.specs.declared.memo.Memo.{Memo}
-use Rattle.shm_graph.specs.declared.memo.Stored.{Stored}
-use Rattle.shm_graph.specs.Asks.{Trail}
-use Rattle.shm_graph.specs.Bounds.{tear_steps, redo_steps}
-use Rattle.shm_graph.specs.Events.{Event}
-use Rattle.shm_graph.specs.Views.{own_word}
 use Rattle.shm_steps.proofs.Cores.{here_same}
-use Rattle.shm_calls.specs.declared.or.Or.TheVariants.{First, Second}
-use Rattle.shm_calls.specs.CallTells.{within_more}
-use Rattle.shm_calls.specs.CallsPart.{calls_part, calls_part_laws}
-use Rattle.shm_calls.specs.Either.{or_part, or_part_laws}
-use Rattle.shm_calls.specs.Grown.{grown_laws}
+use Rattle.shm_calls.specs.{declared.or.Or.TheVariants.{First, Second}, CallTells.within_more}
+use Rattle.shm_calls.specs.{CallsPart.{calls_part, calls_part_laws}, Either.{or_part, or_part_laws}, Grown.grown_laws}
 use Rattle.shm_calls.specs.Plans.{PlanLaws, PlanStays, IsCall, Follows}
-use Rattle.shm_count.specs.declared.answer.Made.{Made}
-use Rattle.shm_count.specs.Tear.Events.{frees}
-use Rattle.shm_queue.specs.declared.answer.PeekFault.{PeekFault}
-use Rattle.shm_queue.specs.declared.answer.PeekFault.TheVariants as peek
-use Rattle.shm_queue.specs.declared.answer.TakeFault.{TakeFault}
-use Rattle.shm_queue.specs.declared.answer.TakeFault.TheVariants as fault
-use Rattle.shm_queue.specs.declared.receive.ReceivePoint.{ReceivePoint}
-use Rattle.shm_queue.specs.declared.receive.ReceivePoint.TheVariants.{Look, Item}
-use Rattle.shm_queue.specs.declared.receive.ReceiveState.{ReceiveState}
-use Rattle.shm_queue.specs.Drain.Control.{take_control}
-use Rattle.shm_queue.specs.Drain.Items.{frees_append}
-use Rattle.shm_queue.specs.Peek.Control.{peek_parts, peeking}
+use Rattle.shm_count.specs.{declared.answer.Made.Made, Tear.Events.frees}
+use Rattle.shm_queue.specs.declared.answer.{PeekFault.PeekFault, TakeFault.TakeFault}
+use Rattle.shm_queue.specs.declared.receive.ReceivePoint.{ReceivePoint, TheVariants.{Look, Item}}
+use Rattle.shm_queue.specs.{declared.receive.ReceiveState.ReceiveState, Drain.Control.take_control}
+use Rattle.shm_queue.specs.{Drain.Items.frees_append, Peek.Control.{peek_parts, peeking}}
 use Rattle.shm_queue.specs.Peek.{MayPeekFrom, PeekLeaves, PeekRefused, peek_plan}
 use Rattle.shm_queue.specs.Receive.Control.{ReceiveAnswer, receive_call_at, receive_parts, is_look, peek_control}
 use Rattle.shm_queue.specs.Receive.{ReceiveKnows, ReceiveRefused, IsPeeked, receive_part, receive_plan}
-use Rattle.shm_queue.specs.Take.Control.{take_parts, taking}
-use Rattle.shm_queue.specs.Take.{TakeLeaves, take_plan}
+use Rattle.shm_queue.specs.Take.{Control.{take_parts, taking}, TakeLeaves, take_plan}
+use Rattle.shm_queue.specs.declared.answer.PeekFault.TheVariants as peek
+use Rattle.shm_queue.specs.declared.answer.TakeFault.TheVariants as fault
 
 stays : (m : ReceiveState) (b : ReceiveAnswer) → PlanStays receive_parts receive_plan m b
 stays m (First (Ok made)) = record { same_me = refl; same_line = refl; same_start = refl; started = λ e. refl }

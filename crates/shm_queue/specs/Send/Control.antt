@@ -1,25 +1,16 @@
 -- the control of a send: which call comes next, and where it goes by what that call answered
-use Rattle.std.specs.Prelude.{ℕ, ◌+◌, ◌-◌, ◌%◌, ◌^◌, ◌<◌, Bool, true, false, ◌==◌, if◌then◌else◌, Option, Some, None, Result, Ok, Err}
-use Rattle.shm_words.specs.declared.place.Place.TheVariants as place
+use Rattle.std.specs.Prelude.{ℕ, ◌+◌, ◌-◌, ◌%◌, ◌^◌, ◌<◌, Bool, true, false, ◌==◌, if◌then◌else◌, Option, Some, None, Result, Ok, Err, []}
 use Rattle.shm_words.specs.Layout.{GeometryFits, address, address_limit}
+use Rattle.shm_words.specs.declared.place.Place.TheVariants as place
+use Rattle.shm_graph.specs.{declared.ask.Me.Me, Laws.Control}
 use Rattle.shm_graph.specs.declared.ask.Ask.TheVariants as ask
-use Rattle.shm_graph.specs.declared.ask.Me.{Me}
-use Rattle.shm_graph.specs.Laws.{Control}
-use Rattle.shm_calls.specs.declared.or.Or.{Or}
-use Rattle.shm_calls.specs.declared.or.Or.TheVariants.{First, Second}
-use Rattle.shm_calls.specs.declared.word.Word.{Word}
-use Rattle.shm_calls.specs.Either.{or_control}
-use Rattle.shm_calls.specs.Words.{word_control}
-use Rattle.shm_count.specs.declared.answer.UpFault.{UpFault}
-use Rattle.shm_count.specs.declared.point.Aim.TheVariants as aims
-use Rattle.shm_count.specs.declared.point.StepPoint.TheVariants.{Era}
-use Rattle.shm_count.specs.declared.point.StepState.{StepState}
+use Rattle.shm_calls.specs.{declared.{or.Or.{Or, TheVariants.{First, Second}}, word.Word.Word}, Either.or_control}
+use Rattle.shm_calls.specs.{Words.word_control, Steering.Steered}
+use Rattle.shm_count.specs.declared.{answer.UpFault.UpFault, point.{StepPoint.TheVariants.Era, StepState.StepState}}
 use Rattle.shm_count.specs.Step.Machines.{up_control}
-use Rattle.shm_queue.specs.declared.answer.SendFault.{SendFault}
-use Rattle.shm_queue.specs.declared.answer.SendFault.TheVariants.{QueueFull}
-use Rattle.shm_queue.specs.declared.send.SendPoint.{SendPoint}
-use Rattle.shm_queue.specs.declared.send.SendPoint.TheVariants.{Tail, Head, Up, Store}
-use Rattle.shm_queue.specs.declared.send.SendState.{SendState}
+use Rattle.shm_count.specs.declared.point.Aim.TheVariants as aims
+use Rattle.shm_queue.specs.declared.{answer.SendFault.{SendFault, TheVariants.QueueFull}, send.SendPoint.SendPoint}
+use Rattle.shm_queue.specs.declared.send.{SendPoint.TheVariants.{Tail, Head, Up, Store}, SendState.SendState}
 use Rattle.shm_queue.specs.Answers.{send_fault}
 
 -- its calls, and what they answer
@@ -80,3 +71,16 @@ pub record SendInRange (m : SendState) : Type 0 where
 -- the control of its calls
 abbrev pub send_parts : Control SendCall SendAnswer
 send_parts = or_control word_control up_control
+
+-- what the plan does: its identity and its line, its calls, and where it goes by their answers
+abbrev pub send_steered : Steered SendState SendCall SendAnswer (Result ℕ SendFault)
+send_steered =
+    record {
+      me = λ m. m.me;
+      line = λ m. [];
+      first = λ m. is_tail m.point;
+      start = λ m. record m { tail = 0; point = Tail };
+      call = λ m. send_call_at m m.point;
+      after = λ m. send_after m m.point;
+      turns = λ m. send_turns m m.point;
+    }

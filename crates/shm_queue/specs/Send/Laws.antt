@@ -1,48 +1,28 @@
 -- what is owed of a send: each call leads on, to the next one or to what is left
 use Rattle.std.proofs.Common.{◌≡◌, ◌≢◌, ℕ, ◌+◌, ◌%◌, ◌^◌, ◌<◌, ◌≤◌, refl, sym, ap, ◌∙◌, subst, arith, Bool, true, false, List, [], ◌∷◌, ◌++◌, length, inl, inr}
-use Rattle.std.specs.Prelude.{◌-◌, ◌==◌, if◌then◌else◌, Some, None, Result, Ok, Err, slice_index}
-use Rattle.std.specs.List.{Contains}
 use Rattle.std.proofs.Math.Nat.{mod-eq_of_lt}
 use Rattle.std.proofs.lemmas.Bool.{cases_eq, cond-false, cond-true, eq-eqb, eqb-false, eqb-true, ne_eqb}
-use Rattle.shm_graph.specs.Bounds.{redo_steps}
+use Rattle.std.specs.{Prelude.{◌-◌, ◌==◌, if◌then◌else◌, Some, None, Result, Ok, Err, slice_index}, List.Contains}
+use Rattle.shm_graph.specs.{Bounds.redo_steps, declared.{spot.Spot.Spot, memo.Memo.Memo, table.Part.Part}}
+use Rattle.shm_graph.specs.{Agents.recovers, Asks.{Trail, IsWithin}, Core.core, Events.Event, Held.is_loose}
+use Rattle.shm_graph.specs.{Laws.Outcome, Reach.is_reached, MemoAfterStore.{lane_with, tail_stored}, Views.own_word}
 use Rattle.shm_graph.specs.declared.ask.Ask.TheVariants as ask
-use Rattle.shm_graph.specs.declared.spot.Spot.{Spot}
 use Rattle.shm_graph.specs.declared.spot.Spot.TheVariants as spot
-use Rattle.shm_graph.specs.declared.memo.Memo.{Memo}
-use Rattle.shm_graph.specs.declared.table.Part.{Part}
-use Rattle.shm_graph.specs.Agents.{recovers}
-use Rattle.shm_graph.specs.Asks.{Trail, IsWithin}
-use Rattle.shm_graph.specs.Core.{core}
-use Rattle.shm_graph.specs.Events.{Event}
 use Rattle.shm_graph.specs.Events as event
-use Rattle.shm_graph.specs.Held.{is_loose}
-use Rattle.shm_graph.specs.Laws.{Outcome}
-use Rattle.shm_graph.specs.Reach.{is_reached}
-use Rattle.shm_graph.specs.MemoAfterStore.{lane_with, tail_stored}
-use Rattle.shm_graph.specs.Views.{own_word}
 use Rattle.shm_graph.proofs.Spots.Spotting.{same_spot_self}
 use Rattle.shm_steps.specs.Reparting.{sight}
-use Rattle.shm_steps.proofs.Cores.{here_same}
-use Rattle.shm_steps.proofs.Items.{put_at}
-use Rattle.shm_steps.proofs.Words.Own.{tail_load}
-use Rattle.shm_steps.proofs.Words.Queues.{tail_store}
-use Rattle.shm_calls.specs.declared.or.Or.TheVariants.{First, Second}
-use Rattle.shm_calls.specs.CallTells.{within_more}
-use Rattle.shm_calls.specs.Either.{or_part_laws}
-use Rattle.shm_calls.specs.Parts.{IsHeld}
-use Rattle.shm_calls.specs.Plans.{PlanLaws, PlanStays, IsCall, Follows}
+use Rattle.shm_steps.proofs.{Cores.here_same, Items.put_at, Words.{Own.tail_load, Queues.tail_store}}
+use Rattle.shm_calls.specs.{declared.or.Or.TheVariants.{First, Second}, CallTells.within_more, Either.or_part_laws}
+use Rattle.shm_calls.specs.{Parts.IsHeld, Plans.{PlanLaws, PlanStays, IsCall, Follows}}
 use Rattle.shm_calls.specs.Words.{word_control, word_part, word_part_laws, IsWord, WordLeaves}
 use Rattle.shm_count.specs.declared.answer.UpFault.{UpFault}
+use Rattle.shm_count.specs.Slots.{Filled, StepLeft, Untouched, known_at, slotted, unsent_at}
+use Rattle.shm_count.specs.{Slots.Parts.{era_room, up_slot_part, up_slot_laws}, Step.Machines.{up_control, up_told}}
+use Rattle.shm_count.specs.Step.Parts.{part_after}
 use Rattle.shm_count.specs.declared.answer.UpFault.TheVariants as fault
 use Rattle.shm_count.specs.declared.point.Aim.TheVariants as aims
-use Rattle.shm_count.specs.Slots.{Filled, StepLeft, Untouched, known_at, slotted, unsent_at}
-use Rattle.shm_count.specs.Slots.Parts.{era_room, up_slot_part, up_slot_laws}
-use Rattle.shm_count.specs.Step.Machines.{up_control, up_told}
-use Rattle.shm_count.specs.Step.Parts.{part_after}
-use Rattle.shm_queue.specs.declared.answer.SendFault.TheVariants.{QueueFull}
-use Rattle.shm_queue.specs.declared.send.SendPoint.{SendPoint}
-use Rattle.shm_queue.specs.declared.send.SendPoint.TheVariants.{Tail, Head, Up, Store}
-use Rattle.shm_queue.specs.declared.send.SendState.{SendState}
+use Rattle.shm_queue.specs.declared.{answer.SendFault.TheVariants.QueueFull, send.SendPoint.SendPoint}
+use Rattle.shm_queue.specs.declared.send.{SendPoint.TheVariants.{Tail, Head, Up, Store}, SendState.SendState}
 use Rattle.shm_queue.specs.QueueSteps.{put_here, put_may, same_part}
 use Rattle.shm_queue.specs.QueueWords.{HeadSeen, head_seen, reach_inside, tail_small}
 use Rattle.shm_queue.specs.Send.Control.{SendAnswer, send_parts, sending, tail_at, send_call_at, is_tail}

@@ -1,29 +1,18 @@
 -- the control of a take: which call comes next, and where it goes by what that call answered
-use Rattle.std.specs.Prelude.{ℕ, ◌+◌, ◌%◌, ◌^◌, ◌<◌, Bool, true, false, ◌==◌, if◌then◌else◌, Option, Some, None, Result, Ok, Err}
-use Rattle.shm_words.specs.declared.place.Place.TheVariants as place
+use Rattle.std.specs.Prelude.{ℕ, ◌+◌, ◌%◌, ◌^◌, ◌<◌, Bool, true, false, ◌==◌, if◌then◌else◌, Option, Some, None, Result, Ok, Err, []}
 use Rattle.shm_words.specs.Layout.{GeometryFits, address, address_limit}
+use Rattle.shm_words.specs.declared.place.Place.TheVariants as place
+use Rattle.shm_graph.specs.{declared.ask.Me.Me, Laws.Control}
 use Rattle.shm_graph.specs.declared.ask.Ask.TheVariants as ask
-use Rattle.shm_graph.specs.declared.ask.Me.{Me}
-use Rattle.shm_graph.specs.Laws.{Control}
-use Rattle.shm_calls.specs.declared.or.Or.{Or}
-use Rattle.shm_calls.specs.declared.or.Or.TheVariants.{First, Second}
-use Rattle.shm_calls.specs.declared.word.Word.{Word}
-use Rattle.shm_calls.specs.Either.{or_control}
-use Rattle.shm_calls.specs.Words.{word_control}
-use Rattle.shm_count.specs.declared.answer.EraSpent.{EraSpent}
+use Rattle.shm_calls.specs.{declared.{or.Or.{Or, TheVariants.{First, Second}}, word.Word.Word}, Either.or_control}
+use Rattle.shm_calls.specs.{Words.word_control, Steering.Steered}
+use Rattle.shm_count.specs.declared.{answer.EraSpent.EraSpent, point.{StepPoint.TheVariants.Era, StepState.StepState}}
+use Rattle.shm_count.specs.declared.tear_point.{TearPoint.TheVariants.Begin, TearState.TearState}
+use Rattle.shm_count.specs.{Step.Machines.down_control, Tear.Control.tear_control}
 use Rattle.shm_count.specs.declared.point.Aim.TheVariants as aims
-use Rattle.shm_count.specs.declared.point.StepPoint.TheVariants.{Era}
-use Rattle.shm_count.specs.declared.point.StepState.{StepState}
-use Rattle.shm_count.specs.declared.tear_point.TearPoint.TheVariants.{Begin}
-use Rattle.shm_count.specs.declared.tear_point.TearState.{TearState}
-use Rattle.shm_count.specs.Step.Machines.{down_control}
-use Rattle.shm_count.specs.Tear.Control.{tear_control}
-use Rattle.shm_queue.specs.declared.answer.TakeFault.{TakeFault}
-use Rattle.shm_queue.specs.declared.answer.TakeFault.TheVariants.{Empty}
-use Rattle.shm_queue.specs.declared.take.TakePoint.{TakePoint}
+use Rattle.shm_queue.specs.declared.{answer.TakeFault.{TakeFault, TheVariants.Empty}, take.TakePoint.TakePoint}
 use Rattle.shm_queue.specs.declared.take.TakePoint.TheVariants.{Head, Tail, Slot, Lower, Store, Tear}
-use Rattle.shm_queue.specs.declared.take.TakeState.{TakeState}
-use Rattle.shm_queue.specs.Answers.{take_fault}
+use Rattle.shm_queue.specs.{declared.take.TakeState.TakeState, Answers.take_fault}
 
 -- its calls, and what they answer
 abbrev pub TakeCall : Type 0
@@ -93,3 +82,16 @@ pub record TakeInRange (m : TakeState) : Type 0 where
 -- the control of its calls
 abbrev pub take_parts : Control TakeCall TakeAnswer
 take_parts = or_control word_control (or_control down_control tear_control)
+
+-- what the plan does: its identity and its line, its calls, and where it goes by their answers
+abbrev pub take_steered : Steered TakeState TakeCall TakeAnswer (Result (Unit {0}) TakeFault)
+take_steered =
+    record {
+      me = λ m. m.me;
+      line = λ m. [];
+      first = λ m. is_head m.point;
+      start = λ m. record m { at = 0; block = 0; last = false; point = Head };
+      call = λ m. take_call_at m m.point;
+      after = take_after;
+      turns = take_turns;
+    }

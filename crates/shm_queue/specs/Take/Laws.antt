@@ -1,53 +1,30 @@
 -- what is owed of a take: each call leads on, to the next one or to what is left
 use Rattle.std.proofs.Common.{◌≡◌, ◌≢◌, ℕ, ◌+◌, ◌%◌, ◌^◌, ◌<◌, refl, sym, ap, ◌∙◌, subst, arith, Bool, true, false, List, [], ◌∷◌, ◌++◌, append-nil, length, inl, inr}
-use Rattle.std.specs.Prelude.{◌==◌, if◌then◌else◌, Some, None, Result, Ok, Err, slice_index}
-use Rattle.std.specs.List.{Contains, filter}
-use Rattle.std.proofs.Math.Nat.{mod-eq_of_lt}
-use Rattle.std.proofs.lemmas.Bool.{eqb-false, eqb-true}
-use Rattle.std.proofs.lemmas.List.Elements.{Contains-push}
+use Rattle.std.proofs.{Math.Nat.mod-eq_of_lt, lemmas.{Bool.{eqb-false, eqb-true}, List.Elements.Contains-push}}
+use Rattle.std.specs.{Prelude.{◌==◌, if◌then◌else◌, Some, None, Result, Ok, Err, slice_index}, List.{Contains, filter}}
 use Rattle.shm_words.specs.Layout.{address_limit}
+use Rattle.shm_graph.specs.{declared.memo.{Fact.TheVariants.Counter, Memo.Memo}, Asks.{Trail, IsWithin}}
+use Rattle.shm_graph.specs.{Bounds.{tear_steps, redo_steps}, Core.core, Events.Event, Laws.Outcome}
+use Rattle.shm_graph.specs.{MemoAfterStore.{head_stored, not_block}, Views.own_word}
 use Rattle.shm_graph.specs.declared.ask.Ask.TheVariants as ask
 use Rattle.shm_graph.specs.declared.spot.Spot.TheVariants as spot
-use Rattle.shm_graph.specs.declared.memo.Fact.TheVariants.{Counter}
-use Rattle.shm_graph.specs.declared.memo.Memo.{Memo}
-use Rattle.shm_graph.specs.Asks.{Trail, IsWithin}
-use Rattle.shm_graph.specs.Bounds.{tear_steps, redo_steps}
-use Rattle.shm_graph.specs.Core.{core}
-use Rattle.shm_graph.specs.Events.{Event}
 use Rattle.shm_graph.specs.Events as event
-use Rattle.shm_graph.specs.Laws.{Outcome}
-use Rattle.shm_graph.specs.MemoAfterStore.{head_stored, not_block}
-use Rattle.shm_graph.specs.Views.{own_word}
 use Rattle.shm_steps.specs.WordParts.{HeadSlotLoaded}
-use Rattle.shm_steps.proofs.Cores.{here_same}
-use Rattle.shm_steps.proofs.Words.Own.{head_load}
-use Rattle.shm_steps.proofs.Words.Queues.{head_slot_load, head_store}
-use Rattle.shm_calls.specs.declared.or.Or.TheVariants.{First, Second}
-use Rattle.shm_calls.specs.CallTells.{within_more}
-use Rattle.shm_calls.specs.Either.{or_control, or_part, or_part_laws}
-use Rattle.shm_calls.specs.Grown.{Grows, grown_laws}
-use Rattle.shm_calls.specs.Parts.{IsHeld}
+use Rattle.shm_steps.proofs.{Cores.here_same, Words.{Own.head_load, Queues.{head_slot_load, head_store}}}
+use Rattle.shm_calls.specs.{declared.or.Or.TheVariants.{First, Second}, CallTells.within_more}
+use Rattle.shm_calls.specs.{Either.{or_control, or_part, or_part_laws}, Grown.{Grows, grown_laws}, Parts.IsHeld}
 use Rattle.shm_calls.specs.Plans.{PlanLaws, PlanStays, IsCall, Follows}
 use Rattle.shm_calls.specs.Words.{word_control, word_part, word_part_laws, IsWord, WordLeaves}
-use Rattle.shm_count.specs.declared.answer.EraSpent.{EraSpent as ASpent}
+use Rattle.shm_count.specs.{declared.answer.EraSpent.EraSpent as ASpent, CountParts.{tear_part, tear_part_laws}}
+use Rattle.shm_count.specs.{Lowering.{torn_leaves, without_new}, Slots.StepLeft}
+use Rattle.shm_count.specs.{Step.{Machines.{down_control, down_told}, Asks.step_trail}, Tear.Control.tear_control}
+use Rattle.shm_count.specs.Tear.{Events.frees, TearLeaves}
 use Rattle.shm_count.specs.declared.point.Aim.TheVariants as aims
-use Rattle.shm_count.specs.CountParts.{tear_part, tear_part_laws}
-use Rattle.shm_count.specs.Lowering.{torn_leaves, without_new}
-use Rattle.shm_count.specs.Slots.{StepLeft}
-use Rattle.shm_count.specs.Step.Machines.{down_control, down_told}
-use Rattle.shm_count.specs.Step.Asks.{step_trail}
-use Rattle.shm_count.specs.Tear.Control.{tear_control}
-use Rattle.shm_count.specs.Tear.Events.{frees}
-use Rattle.shm_count.specs.Tear.{TearLeaves}
-use Rattle.shm_queue.specs.declared.answer.TakeFault.TheVariants.{Empty}
-use Rattle.shm_queue.specs.declared.take.TakePoint.{TakePoint}
+use Rattle.shm_queue.specs.declared.{answer.TakeFault.TheVariants.Empty, take.TakePoint.TakePoint}
 use Rattle.shm_queue.specs.declared.take.TakePoint.TheVariants.{Head, Tail, Slot, Lower, Store, Tear}
-use Rattle.shm_queue.specs.declared.take.TakeState.{TakeState}
-use Rattle.shm_queue.specs.Answers.{take_fault}
-use Rattle.shm_queue.specs.HeadReads.{has_item, head_read, is_empty, item_read}
-use Rattle.shm_queue.specs.QueueSteps.{put_here, take_may}
-use Rattle.shm_queue.specs.QueueWords.{TailSeen, head_small, tail_seen}
-use Rattle.shm_queue.specs.Refusals.{lower_laws, lower_part, spent_one}
+use Rattle.shm_queue.specs.{declared.take.TakeState.TakeState, Answers.take_fault}
+use Rattle.shm_queue.specs.{HeadReads.{has_item, head_read, is_empty, item_read}, QueueSteps.{put_here, take_may}}
+use Rattle.shm_queue.specs.{QueueWords.{TailSeen, head_small, tail_seen}, Refusals.{lower_laws, lower_part, spent_one}}
 use Rattle.shm_queue.specs.Send.Laws.{untouched_core}
 use Rattle.shm_queue.specs.Take.Control.{TakeAnswer, take_parts, taking, head_at, slot_at, take_call_at, is_head}
 use Rattle.shm_queue.specs.Take.{IsHeadRead, IsItemRead, IsOut, IsReceived, TakeKnows, TakeLeaves, TakeFound, TakeRefused, slot_memo, taken_memo, take_ask, take_part, take_plan}

@@ -1,30 +1,18 @@
 -- what is left of a memo once an item was taken: the step down at its slot, and the store of the head
 use Rattle.std.proofs.Common.{◌≡◌, ℕ, ◌+◌, ◌%◌, ◌≤◌, refl, sym, ap, ◌∙◌, subst, Bool, true, false, not, cond, List, [], ◌∷◌, ◌++◌, inl, inr}
-use Rattle.std.specs.Prelude.{slice_index}
-use Rattle.std.specs.List.{Contains, filter}
 use Rattle.std.proofs.lemmas.Bool.{cases_eq, cond-false, cond-true, eq-eqb, ne_eqb}
 use Rattle.std.proofs.lemmas.List.Elements.{Contains-append_right}
-use Rattle.shm_graph.specs.declared.spot.Spot.{Spot}
-use Rattle.shm_graph.specs.declared.spot.Spot.TheVariants.{Era, QueueHead, Slot, Spare}
-use Rattle.shm_graph.specs.declared.memo.Memo.{Memo}
-use Rattle.shm_graph.specs.declared.memo.Stored.{Stored}
-use Rattle.shm_graph.specs.declared.table.Part.{Part}
-use Rattle.shm_graph.specs.Core.{core}
-use Rattle.shm_graph.specs.Held.{is_loose}
-use Rattle.shm_graph.specs.Reach.{is_named, learnt}
-use Rattle.shm_graph.specs.MemoAfterRead.{valued}
-use Rattle.shm_graph.specs.Spots.{same_spot}
-use Rattle.shm_graph.specs.MemoAfterStore.{head_stored, lane_with, other_than, put}
-use Rattle.shm_graph.specs.Views.{own_word}
+use Rattle.std.specs.{Prelude.slice_index, List.{Contains, filter}}
+use Rattle.shm_graph.specs.declared.{spot.Spot.{Spot, TheVariants.{Era, QueueHead, Slot, Spare}}, memo.Memo.Memo}
+use Rattle.shm_graph.specs.{declared.{memo.Stored.Stored, table.Part.Part}, Core.core, Held.is_loose}
+use Rattle.shm_graph.specs.{Reach.{is_named, learnt}, MemoAfterRead.valued, Spots.same_spot}
+use Rattle.shm_graph.specs.{MemoAfterStore.{head_stored, lane_with, other_than, put}, Views.own_word}
 use Rattle.shm_graph.proofs.Spots.Spotting.{same_spot_self}
 use Rattle.shm_steps.specs.Reparting.{sight}
 use Rattle.shm_steps.proofs.Items.{put_at}
-use Rattle.shm_count.specs.Roots.{rest}
-use Rattle.shm_count.specs.Slots.{Lost, Sifts, Took, emptied}
-use Rattle.shm_count.specs.Step.Parts.{part_after}
+use Rattle.shm_count.specs.{Roots.rest, Slots.{Lost, Sifts, Took, emptied}, Step.Parts.part_after}
 use Rattle.shm_count.specs.Tear.Memos.{is_lasting, is_slot_word}
-use Rattle.shm_queue.specs.QueueSteps.{put_here, same_part, spare_part}
-use Rattle.shm_queue.specs.Take.{Received, slot_memo, taken_memo}
+use Rattle.shm_queue.specs.{QueueSteps.{put_here, same_part, spare_part}, Take.{Received, slot_memo, taken_memo}}
 
 -- ---- what is known
 

@@ -1,33 +1,25 @@
 -- a mending leaves the map of the table as it was, at each point on its way
 use Rattle.std.proofs.Common.{ℕ, false, ap, List}
-use Rattle.shm_graph.specs.declared.ask.Me.{Me}
-use Rattle.shm_graph.specs.declared.memo.Memo.{Memo}
-use Rattle.shm_graph.specs.Asks.{Trail}
-use Rattle.shm_graph.specs.Events.{Event}
+use Rattle.shm_graph.specs.{declared.{ask.Me.Me, memo.Memo.Memo}, Asks.Trail, Events.Event}
 use Rattle.shm_steps.specs.WordParts.{former_event}
-use Rattle.shm_calls.specs.CallsControl.{calls_control}
-use Rattle.shm_calls.specs.CallsPart.{calls_part}
-use Rattle.shm_calls.specs.Either.{or_control, or_part}
+use Rattle.shm_calls.specs.{CallsControl.calls_control, CallsPart.calls_part, Either.{or_control, or_part}}
 use Rattle.shm_calls.specs.Words.{word_control, word_part}
-use Rattle.shm_count.specs.CommitTest.{testing_plan}
-use Rattle.shm_count.specs.Steady.{IsSteady, SameTable}
+use Rattle.shm_count.specs.{CommitTest.{testing_plan, Control.testing_steered}, Steady.{IsSteady, SameTable}}
 use Rattle.shm_count.proofs.Steady.{calls_steady, event_steady, grown_steady, or_steady, table_of, word_steady}
 use Rattle.shm_count.proofs.Steady.Tests.{test_steady}
-use Rattle.shm_recover.specs.declared.mend.MendPoint.{MendPoint}
-use Rattle.shm_recover.specs.declared.mend.MendPoint.TheVariants as mend
-use Rattle.shm_recover.specs.declared.mend.MendState.{MendState}
-use Rattle.shm_recover.specs.declared.mend_lower.MendLowerPoint.{MendLowerPoint}
-use Rattle.shm_recover.specs.declared.mend_lower.MendLowerPoint.TheVariants as lower
-use Rattle.shm_recover.specs.declared.mend_lower.MendLowerState.{MendLowerState}
+use Rattle.shm_recover.specs.declared.mend.{MendPoint.MendPoint, MendState.MendState}
+use Rattle.shm_recover.specs.declared.mend_lower.{MendLowerPoint.MendLowerPoint, MendLowerState.MendLowerState}
 use Rattle.shm_recover.specs.declared.mend_unlatch.MendUnlatchPoint.{MendUnlatchPoint}
-use Rattle.shm_recover.specs.declared.mend_unlatch.MendUnlatchPoint.TheVariants as unlatch
 use Rattle.shm_recover.specs.declared.mend_unlatch.MendUnlatchState.{MendUnlatchState}
-use Rattle.shm_recover.specs.Mend.Control.{is_dead, mend_ask, mend_parts}
+use Rattle.shm_recover.specs.Mend.Control.{is_dead, mend_ask, mend_parts, mend_steered}
 use Rattle.shm_recover.specs.Mend.{IsDead, IsMending, MendFound, MendKnows, mend_plan}
-use Rattle.shm_recover.specs.MendLower.Control.{is_header, lowering_ask}
+use Rattle.shm_recover.specs.MendLower.Control.{is_header, lowering_ask, lowering_steered}
 use Rattle.shm_recover.specs.MendLower.{HasFound, LoweringFound, LoweringKnows, lowering_part, lowering_plan}
-use Rattle.shm_recover.specs.MendUnlatch.Control.{is_whose, unlatching_ask}
+use Rattle.shm_recover.specs.MendUnlatch.Control.{is_whose, unlatching_ask, unlatching_steered}
 use Rattle.shm_recover.specs.MendUnlatch.{UnlatchingFound, UnlatchingKnows, unlatching_plan}
+use Rattle.shm_recover.specs.declared.mend.MendPoint.TheVariants as mend
+use Rattle.shm_recover.specs.declared.mend_lower.MendLowerPoint.TheVariants as lower
+use Rattle.shm_recover.specs.declared.mend_unlatch.MendUnlatchPoint.TheVariants as unlatch
 
 -- ---- the second half of a change
 
@@ -51,7 +43,7 @@ lowering_call m lower.Row = grown_steady (is_header lower.Row) word_control (wor
 lowering_call m lower.Show = grown_steady (is_header lower.Show) word_control (word_part (is_header lower.Show) m.me (lowering_ask m.me m.block m.era m.header lower.Show) (LoweringFound m lower.Show)) (lowering_word m lower.Show)
 lowering_call m lower.Close = grown_steady (is_header lower.Close) word_control (word_part (is_header lower.Close) m.me (lowering_ask m.me m.block m.era m.header lower.Close) (LoweringFound m lower.Close)) (lowering_word m lower.Close)
 
-lowering_steady : IsSteady (calls_control word_control lowering_plan) (calls_part word_control lowering_plan)
+lowering_steady : IsSteady (calls_control word_control lowering_steered) (calls_part word_control lowering_plan)
 lowering_steady = calls_steady word_control lowering_plan (λ m. lowering_known m m.point) (λ m. lowering_call m m.point)
 
 -- ---- the latch
@@ -62,7 +54,7 @@ unlatching_known m unlatch.Look r0 r tr es h = table_of r0 r (ap (λ (x : Memo).
 unlatching_known m unlatch.Give r0 r tr es h = table_of r0 r (ap (λ (x : Memo). x.part) h.0.same)
 unlatching_known m unlatch.Back r0 r tr es h = table_of r0 r (ap (λ (x : Memo). x.part) h.0.rest)
 
-unlatching_steady : IsSteady (calls_control word_control unlatching_plan) (calls_part word_control unlatching_plan)
+unlatching_steady : IsSteady (calls_control word_control unlatching_steered) (calls_part word_control unlatching_plan)
 unlatching_steady =
     calls_steady word_control unlatching_plan (λ m. unlatching_known m m.point) (λ m. word_steady (is_whose m.point) m.me (unlatching_ask m.me m.author m.point) (UnlatchingFound m m.point))
 
@@ -91,12 +83,12 @@ mend_calls m =
     let test = calls_part word_control testing_plan in
     let low = calls_part word_control lowering_plan in
     let back = calls_part word_control unlatching_plan in
-    let tests = calls_control word_control testing_plan in
-    let lows = calls_control word_control lowering_plan in
-    let backs = calls_control word_control unlatching_plan in
+    let tests = calls_control word_control testing_steered in
+    let lows = calls_control word_control lowering_steered in
+    let backs = calls_control word_control unlatching_steered in
     or_steady word_control (or_control tests (or_control lows backs)) word (or_part test (or_part low back))
     (word_steady (is_dead m.point) m.me (mend_ask m.me m.era m.redo m.point) (MendFound m m.point))
     (or_steady tests (or_control lows backs) test (or_part low back) test_steady (or_steady lows backs low back lowering_steady unlatching_steady))
 
-pub mend_steady : IsSteady (calls_control mend_parts mend_plan) (calls_part mend_parts mend_plan)
+pub mend_steady : IsSteady (calls_control mend_parts mend_steered) (calls_part mend_parts mend_plan)
 mend_steady = calls_steady mend_parts mend_plan (λ m. mend_known m m.point) mend_calls

@@ -1,47 +1,31 @@
 -- what a recovery does after mending leaves the map of the table as it was, at each point on its way: blocks that are taken back, takes that are finished, the scan, and segments that are given up
 use Rattle.std.proofs.Common.{ℕ, ◌%◌, true, false, ap, ◌∙◌, List}
-use Rattle.shm_graph.specs.declared.ask.Me.{Me}
-use Rattle.shm_graph.specs.declared.memo.Memo.{Memo}
+use Rattle.shm_graph.specs.{declared.{ask.Me.Me, memo.Memo.Memo}, Asks.Trail, Events.Event}
 use Rattle.shm_graph.specs.declared.spot.Spot.TheVariants as spot
-use Rattle.shm_graph.specs.Asks.{Trail}
-use Rattle.shm_graph.specs.Events.{Event}
-use Rattle.shm_calls.specs.CallsControl.{calls_control}
-use Rattle.shm_calls.specs.CallsPart.{calls_part}
-use Rattle.shm_calls.specs.Either.{or_control, or_part}
+use Rattle.shm_calls.specs.{CallsControl.calls_control, CallsPart.calls_part, Either.{or_control, or_part}}
 use Rattle.shm_calls.specs.Words.{word_control, word_part}
-use Rattle.shm_count.specs.CountParts.{tear_part}
-use Rattle.shm_count.specs.Slots.Parts.{down_slot_part}
-use Rattle.shm_count.specs.Steady.{IsSteady, SameTable}
-use Rattle.shm_count.specs.Step.Machines.{down_control}
-use Rattle.shm_count.specs.Tear.Control.{tear_control}
+use Rattle.shm_count.specs.{CountParts.tear_part, Slots.Parts.down_slot_part, Steady.{IsSteady, SameTable}}
+use Rattle.shm_count.specs.{Step.Machines.down_control, Tear.Control.tear_control}
 use Rattle.shm_count.proofs.Steady.{calls_steady, grown_steady, or_steady, table_of, word_steady}
-use Rattle.shm_count.proofs.Steady.Steps.{down_steady, lost_part}
-use Rattle.shm_count.proofs.Steady.Tears.{tear_steady}
-use Rattle.shm_recover.specs.declared.finish_takes.FinishPoint.{FinishPoint}
-use Rattle.shm_recover.specs.declared.finish_takes.FinishPoint.TheVariants as finish
-use Rattle.shm_recover.specs.declared.finish_takes.FinishState.{FinishState}
-use Rattle.shm_recover.specs.declared.give_up.GivePoint.{GivePoint}
-use Rattle.shm_recover.specs.declared.give_up.GivePoint.TheVariants as give
-use Rattle.shm_recover.specs.declared.give_up.GiveState.{GiveState}
-use Rattle.shm_recover.specs.declared.scan.ScanPoint.{ScanPoint}
-use Rattle.shm_recover.specs.declared.scan.ScanPoint.TheVariants as scan
-use Rattle.shm_recover.specs.declared.scan.ScanState.{ScanState}
-use Rattle.shm_recover.specs.declared.take_back.BackPoint.{BackPoint}
-use Rattle.shm_recover.specs.declared.take_back.BackPoint.TheVariants as back
-use Rattle.shm_recover.specs.declared.take_back.BackState.{BackState}
-use Rattle.shm_recover.specs.FinishTakes.Control.{finish_ask}
-use Rattle.shm_recover.specs.FinishTakes.Control as finishing
+use Rattle.shm_count.proofs.Steady.{Steps.{down_steady, lost_part}, Tears.tear_steady}
+use Rattle.shm_recover.specs.declared.finish_takes.{FinishPoint.FinishPoint, FinishState.FinishState}
+use Rattle.shm_recover.specs.declared.{give_up.{GivePoint.GivePoint, GiveState.GiveState}, scan.ScanPoint.ScanPoint}
+use Rattle.shm_recover.specs.declared.{scan.ScanState.ScanState, take_back.{BackPoint.BackPoint, BackState.BackState}}
+use Rattle.shm_recover.specs.FinishTakes.Control.{finish_ask, finish_steered}
 use Rattle.shm_recover.specs.FinishTakes.{FinishFound, FinishKnows, IsFinishing, finish_plan}
-use Rattle.shm_recover.specs.GiveUp.Control.{give_ask}
-use Rattle.shm_recover.specs.GiveUp.Control as giving
-use Rattle.shm_recover.specs.GiveUp.{GiveFound, GiveKnows, IsGiving, give_plan}
-use Rattle.shm_recover.specs.Others.{other_at}
-use Rattle.shm_recover.specs.Scan.Control.{scan_ask, scan_parts}
-use Rattle.shm_recover.specs.Scan.Control as scanning
+use Rattle.shm_recover.specs.GiveUp.{Control.{give_ask, give_steered}, GiveFound, GiveKnows, IsGiving, give_plan}
+use Rattle.shm_recover.specs.{Others.other_at, Scan.Control.{scan_ask, scan_parts, scan_steered}}
 use Rattle.shm_recover.specs.Scan.{IsScanning, ScanFound, ScanKnows, scan_plan}
-use Rattle.shm_recover.specs.TakeBack.Control.{back_ask, back_parts, to_of}
-use Rattle.shm_recover.specs.TakeBack.Control as backing
+use Rattle.shm_recover.specs.TakeBack.Control.{back_ask, back_parts, to_of, back_steered}
 use Rattle.shm_recover.specs.TakeBack.{BackFound, BackKnows, IsBacking, IsOut, back_plan}
+use Rattle.shm_recover.specs.declared.finish_takes.FinishPoint.TheVariants as finish
+use Rattle.shm_recover.specs.declared.give_up.GivePoint.TheVariants as give
+use Rattle.shm_recover.specs.declared.scan.ScanPoint.TheVariants as scan
+use Rattle.shm_recover.specs.declared.take_back.BackPoint.TheVariants as back
+use Rattle.shm_recover.specs.FinishTakes.Control as finishing
+use Rattle.shm_recover.specs.GiveUp.Control as giving
+use Rattle.shm_recover.specs.Scan.Control as scanning
+use Rattle.shm_recover.specs.TakeBack.Control as backing
 
 -- ---- blocks that are taken back
 
@@ -66,7 +50,7 @@ back_calls m =
     (word_steady (backing.is_first m) m.me (back_ask m m.point) (BackFound m m.point))
     (or_steady down_control tear_control (down_slot_part slot false) tear_part (down_steady slot tt) tear_steady)
 
-pub back_steady : IsSteady (calls_control back_parts back_plan) (calls_part back_parts back_plan)
+pub back_steady : IsSteady (calls_control back_parts back_steered) (calls_part back_parts back_plan)
 back_steady = calls_steady back_parts back_plan (λ m. back_known m m.point) back_calls
 
 -- ---- takes that are finished
@@ -80,7 +64,7 @@ finish_known m finish.Tail r0 r tr es h = finishing_table m.me m.passed 1 r0 r t
 finish_known m finish.Slot r0 r tr es h = finishing_table m.me m.passed 2 r0 r tr es h.0
 finish_known m finish.Store r0 r tr es h = finishing_table m.me m.passed 3 r0 r tr es h.0
 
-pub finish_steady : IsSteady (calls_control word_control finish_plan) (calls_part word_control finish_plan)
+pub finish_steady : IsSteady (calls_control word_control finish_steered) (calls_part word_control finish_plan)
 finish_steady =
     calls_steady word_control finish_plan (λ m. finish_known m m.point) (λ m. word_steady (finishing.is_first m) m.me (finish_ask m m.point) (FinishFound m m.point))
 
@@ -100,7 +84,7 @@ scan_calls m =
     grown_steady (scanning.is_first m) scan_parts (or_part word tear_part)
     (or_steady word_control tear_control word tear_part (word_steady (scanning.is_first m) m.me (scan_ask m m.point) (ScanFound m m.point)) tear_steady)
 
-pub scan_steady : IsSteady (calls_control scan_parts scan_plan) (calls_part scan_parts scan_plan)
+pub scan_steady : IsSteady (calls_control scan_parts scan_steered) (calls_part scan_parts scan_plan)
 scan_steady = calls_steady scan_parts scan_plan (λ m. scan_known m m.point) scan_calls
 
 -- ---- segments that are given up
@@ -113,5 +97,5 @@ give_known m give.Look r0 r tr es h = giving_table m.me _ r0 r tr es h.0
 give_known m give.Give r0 r tr es h = giving_table m.me _ r0 r tr es h.0
 give_known m give.Status r0 r tr es h = giving_table m.me _ r0 r tr es h.0
 
-pub give_steady : IsSteady (calls_control word_control give_plan) (calls_part word_control give_plan)
+pub give_steady : IsSteady (calls_control word_control give_steered) (calls_part word_control give_plan)
 give_steady = calls_steady word_control give_plan (λ m. give_known m m.point) (λ m. word_steady (giving.is_first m) m.me (give_ask m m.point) (GiveFound m m.point))

@@ -1,15 +1,12 @@
 -- the control of the takes that are finished: which word step comes next, and where it goes by what was found
-use Rattle.std.specs.Prelude.{ℕ, ◌+◌, ◌%◌, ◌^◌, ◌<◌, Bool, true, false, ◌==◌, ◌&&◌, nat_lt, if◌then◌else◌, Option, Some, None}
-use Rattle.shm_words.specs.declared.place.Place.TheVariants as place
+use Rattle.std.specs.Prelude.{ℕ, ◌+◌, ◌%◌, ◌^◌, ◌<◌, Bool, true, false, ◌==◌, ◌&&◌, nat_lt, if◌then◌else◌, Option, Some, None, []}
 use Rattle.shm_words.specs.Layout.{GeometryFits, address}
-use Rattle.shm_graph.specs.declared.ask.Ask.{Ask}
+use Rattle.shm_words.specs.declared.place.Place.TheVariants as place
+use Rattle.shm_graph.specs.declared.ask.{Ask.Ask, Me.Me}
 use Rattle.shm_graph.specs.declared.ask.Ask.TheVariants as ask
-use Rattle.shm_graph.specs.declared.ask.Me.{Me}
-use Rattle.shm_calls.specs.declared.word.Word.{Word}
-use Rattle.shm_recover.specs.declared.finish_takes.FinishPoint.{FinishPoint}
-use Rattle.shm_recover.specs.declared.finish_takes.FinishPoint.TheVariants.{Head, Tail, Slot, Store}
-use Rattle.shm_recover.specs.declared.finish_takes.FinishState.{FinishState}
-use Rattle.shm_recover.specs.Others.{other_at}
+use Rattle.shm_calls.specs.{declared.word.Word.Word, Steering.Steered}
+use Rattle.shm_recover.specs.declared.finish_takes.FinishPoint.{FinishPoint, TheVariants.{Head, Tail, Slot, Store}}
+use Rattle.shm_recover.specs.{declared.finish_takes.FinishState.FinishState, Others.other_at}
 
 -- before its first word step
 abbrev pub finishing : Me → FinishState
@@ -74,3 +71,16 @@ pub record FinishInRange (m : FinishState) : Type 0 where
   pub geometry : GeometryFits m.me.geometry
   pub who : m.me.who < m.me.geometry.clients
   pub passed : m.passed + 1 < m.me.geometry.clients
+
+-- what the plan does: its identity and its line, its calls, and where it goes by their answers
+abbrev pub finish_steered : Steered FinishState Word ℕ (Unit {0})
+finish_steered =
+    record {
+      me = λ m. m.me;
+      line = λ m. [];
+      first = is_first;
+      start = λ m. record m { passed = 0; at = 0; point = Head };
+      call = λ m. finish_call m m.point;
+      after = λ m n. after_word m m.point n;
+      turns = λ m n. turns_word m m.point n;
+    }

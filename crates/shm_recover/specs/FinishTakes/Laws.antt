@@ -1,36 +1,21 @@
 -- what is owed of takes that are finished: each word step leads on, to the next one or to what is left
 use Rattle.std.proofs.Common.{◌≡◌, ◌≢◌, ℕ, ◌+◌, ◌*◌, ◌%◌, ◌^◌, ◌<◌, ◌≤◌, ◌⊎◌, refl, sym, ap, ◌∙◌, subst, arith, Bool, true, false, eqb, ◌&&◌, List, [], ◌∷◌, ◌++◌, append-nil, length, inl, inr}
-use Rattle.std.specs.Prelude.{◌==◌, nat_lt, if◌then◌else◌, Option, Some, None, slice_index, slice_index_or}
 use Rattle.std.proofs.Math.Nat.{mod-eq_of_lt}
 use Rattle.std.proofs.lemmas.Bool.{cases_eq, cases_lt, cond-false, cond-true, eq-eqb, eqb-false, eqb-true, ltb-false, ltb-true, ne_eqb}
-use Rattle.shm_graph.specs.declared.ask.Ask.TheVariants as ask
-use Rattle.shm_graph.specs.declared.ask.Me.{Me}
-use Rattle.shm_graph.specs.declared.spot.Spot.{Spot}
-use Rattle.shm_graph.specs.declared.spot.Spot.TheVariants.{QueueHead}
-use Rattle.shm_graph.specs.declared.memo.Memo.{Memo}
-use Rattle.shm_graph.specs.declared.memo.Op.TheVariants.{Nothing}
-use Rattle.shm_graph.specs.Asks.{Trail, IsWithin}
-use Rattle.shm_graph.specs.Core.{core}
-use Rattle.shm_graph.specs.Events.{Event}
-use Rattle.shm_graph.specs.Held.{HeldAt}
-use Rattle.shm_graph.specs.Laws.{Outcome}
-use Rattle.shm_graph.specs.Spots.{same_spot}
-use Rattle.shm_graph.specs.MemoAfterStore.{head_stored}
+use Rattle.std.specs.Prelude.{◌==◌, nat_lt, if◌then◌else◌, Option, Some, None, slice_index, slice_index_or}
+use Rattle.shm_graph.specs.declared.{ask.Me.Me, spot.Spot.{Spot, TheVariants.QueueHead}, memo.Memo.Memo}
+use Rattle.shm_graph.specs.{declared.memo.Op.TheVariants.Nothing, Asks.{Trail, IsWithin}, Core.core, Events.Event}
+use Rattle.shm_graph.specs.{Held.HeldAt, Laws.Outcome, Spots.same_spot, MemoAfterStore.head_stored}
 use Rattle.shm_graph.specs.Views.{own_word, view}
+use Rattle.shm_graph.specs.declared.ask.Ask.TheVariants as ask
 use Rattle.shm_graph.proofs.Spots.Spotting.{same_spot_self}
-use Rattle.shm_steps.proofs.Cores.{here_same}
-use Rattle.shm_steps.proofs.Items.{put_at}
-use Rattle.shm_steps.proofs.Words.Own.{head_load}
-use Rattle.shm_steps.proofs.Words.Queues.{head_store}
-use Rattle.shm_calls.specs.CallTells.{within_more}
-use Rattle.shm_calls.specs.Parts.{IsHeld}
-use Rattle.shm_calls.specs.Plans.{PlanLaws, PlanStays}
+use Rattle.shm_steps.proofs.{Cores.here_same, Items.put_at, Words.{Own.head_load, Queues.head_store}}
+use Rattle.shm_calls.specs.{CallTells.within_more, Parts.IsHeld, Plans.{PlanLaws, PlanStays}}
 use Rattle.shm_calls.specs.Words.{word_control, word_part_laws, IsWord, WordLeaves}
 use Rattle.shm_queue.specs.QueueWords.{head_small}
-use Rattle.shm_recover.specs.declared.finish_takes.FinishPoint.{FinishPoint}
-use Rattle.shm_recover.specs.declared.finish_takes.FinishPoint.TheVariants.{Head, Tail, Slot, Store}
+use Rattle.shm_recover.specs.declared.finish_takes.FinishPoint.{FinishPoint, TheVariants.{Head, Tail, Slot, Store}}
 use Rattle.shm_recover.specs.declared.finish_takes.FinishState.{FinishState}
-use Rattle.shm_recover.specs.FinishTakes.Control.{after_word, finish_ask, finish_call, from_of, head_at, is_first, is_last, passed, passed_answer, turns_word}
+use Rattle.shm_recover.specs.FinishTakes.Control.{after_word, finish_ask, finish_call, from_of, head_at, is_first, is_last, passed, passed_answer, turns_word, finish_steered}
 use Rattle.shm_recover.specs.FinishTakes.Words.{FirstSlotLoaded, TailShown, first_slot_load, tail_show, unknowing}
 use Rattle.shm_recover.specs.FinishTakes.{FinishDone, FinishFound, FinishKnows, Finished, Heads, IsFinishing, QueueDone, QueueSame, but_heads, finish_plan, waiting}
 use Rattle.shm_recover.specs.Others.{MayServe, before_last, before_next, none_before, other_at, other_low, other_not, rises}
@@ -143,8 +128,8 @@ passed_later : (m : FinishState) (q : Bool) → ◌≡◌ {A = Option (Unit {0})
 passed_later m true e = absurd (cc)
 passed_later m false e = ap (λ (z : Bool). z && true) (ne_eqb (m.passed + 1) 0 (λ z. absurd (omega arith)))
 
-pass_stays : (m : FinishState) → (finish_plan.me (passed m) ≡ m.me) × (finish_plan.start (passed m) ≡ finish_plan.start m) × (passed_answer m ≡ None → is_first (passed m) ≡ false)
-pass_stays m = (passed_same m (λ (x : FinishState). x.me) refl (is_last m), passed_same m finish_plan.start refl (is_last m), passed_later m (is_last m))
+pass_stays : (m : FinishState) → (finish_steered.me (passed m) ≡ m.me) × (finish_steered.start (passed m) ≡ finish_steered.start m) × (passed_answer m ≡ None → is_first (passed m) ≡ false)
+pass_stays m = (passed_same m (λ (x : FinishState). x.me) refl (is_last m), passed_same m finish_steered.start refl (is_last m), passed_later m (is_last m))
 
 -- a state that isn't at a head has begun
 begun : (k : ℕ) → ((k == 0) && false) ≡ false
@@ -155,8 +140,8 @@ begun k = go (k == 0)
     go false = refl
 
 -- by a test
-stays_by : (m x : FinishState) (n : ℕ) (q : Bool) → (x.me ≡ m.me) × (finish_plan.start x ≡ finish_plan.start m) × (is_first x ≡ false)
-    → let y : FinishState = if q then x else passed m in (y.me ≡ m.me) × (finish_plan.start y ≡ finish_plan.start m) × (◌≡◌ {A = Option (Unit {0})} (if q then None else passed_answer m) None → is_first y ≡ false)
+stays_by : (m x : FinishState) (n : ℕ) (q : Bool) → (x.me ≡ m.me) × (finish_steered.start x ≡ finish_steered.start m) × (is_first x ≡ false)
+    → let y : FinishState = if q then x else passed m in (y.me ≡ m.me) × (finish_steered.start y ≡ finish_steered.start m) × (◌≡◌ {A = Option (Unit {0})} (if q then None else passed_answer m) None → is_first y ≡ false)
 stays_by m x n true h = (h.0, h.1, λ e. h.2)
 stays_by m x n false h = pass_stays m
 

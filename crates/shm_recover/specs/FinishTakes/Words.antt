@@ -1,34 +1,18 @@
 -- the first slot of a queue from another identity, which an item may have been taken out of
 use Rattle.std.proofs.Common.{◌≡◌, ◌≢◌, ℕ, ◌%◌, ◌<◌, ◌≤◌, refl, sym, ap, ◌∙◌, subst, arith, Bool, not, eqb, ◌&&◌, [], inl, inr}
-use Rattle.std.specs.Prelude.{slice_index}
-use Rattle.std.specs.List.{Contains}
-use Rattle.std.proofs.lemmas.Bool.{and_from, cases_eq, eq-eqb, lt-ltb}
-use Rattle.std.proofs.lemmas.List.Elements.{All-contains, All-get_or}
-use Rattle.shm_words.specs.declared.place.Place.TheVariants as place
+use Rattle.std.proofs.lemmas.{Bool.{and_from, cases_eq, eq-eqb, lt-ltb}, List.Elements.{All-contains, All-get_or}}
+use Rattle.std.specs.{Prelude.slice_index, List.Contains}
 use Rattle.shm_words.specs.Layout.{address}
-use Rattle.shm_graph.specs.declared.ask.Ask.TheVariants.{Load}
-use Rattle.shm_graph.specs.declared.ask.Me.{Me}
-use Rattle.shm_graph.specs.declared.spot.Spot.{Spot}
-use Rattle.shm_graph.specs.declared.spot.Spot.TheVariants.{QueueHead, Slot, Tail}
-use Rattle.shm_graph.specs.declared.memo.Fact.TheVariants.{Counter}
-use Rattle.shm_graph.specs.declared.memo.Memo.{Memo}
-use Rattle.shm_graph.specs.declared.memo.Op.TheVariants.{Nothing}
-use Rattle.shm_graph.specs.declared.memo.Step.{Step}
-use Rattle.shm_graph.specs.Changes.{called}
-use Rattle.shm_graph.specs.Core.{core}
-use Rattle.shm_graph.specs.Held.{HeldAt}
-use Rattle.shm_graph.specs.Laws.{framed}
-use Rattle.shm_graph.specs.Reach.{learnt}
-use Rattle.shm_graph.specs.MemoAfterRead.{is_head_slot, valued}
+use Rattle.shm_words.specs.declared.place.Place.TheVariants as place
+use Rattle.shm_graph.specs.declared.{ask.{Ask.TheVariants.Load, Me.Me}, spot.Spot.Spot}
+use Rattle.shm_graph.specs.declared.{spot.Spot.TheVariants.{QueueHead, Slot, Tail}, memo.Fact.TheVariants.Counter}
+use Rattle.shm_graph.specs.{declared.memo.{Memo.Memo, Op.TheVariants.Nothing, Step.Step}, Changes.called, Core.core}
+use Rattle.shm_graph.specs.{Held.HeldAt, Laws.framed, Reach.learnt, MemoAfterRead.{is_head_slot, valued}}
 use Rattle.shm_graph.specs.Views.{own_word, targets, view}
-use Rattle.shm_graph.proofs.Memos.Calls.{FactHolds}
-use Rattle.shm_graph.proofs.States.Holders.{Holds}
-use Rattle.shm_graph.proofs.StepKinds.Loads.{choice}
+use Rattle.shm_graph.proofs.{Memos.Calls.FactHolds, States.Holders.Holds, StepKinds.Loads.choice}
 use Rattle.shm_graph.proofs.Spots.SpotPlaces.{spot-place}
-use Rattle.shm_calls.specs.Words.{IsWord}
-use Rattle.shm_calls.specs.WordSteps.{load_at}
-use Rattle.shm_steps.proofs.BeginAt.{word_target}
-use Rattle.shm_steps.proofs.Words.Own.{at_step, word_for}
+use Rattle.shm_calls.specs.{Words.IsWord, WordSteps.load_at}
+use Rattle.shm_steps.proofs.{BeginAt.word_target, Words.Own.{at_step, word_for}}
 
 -- no step is in progress, and a tail that was read is above the own head of the queue from s
 pub record IsFirstSlot (c : ℕ) (m : Memo) (s : ℕ) : Type 0 where

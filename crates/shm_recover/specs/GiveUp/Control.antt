@@ -1,13 +1,11 @@
 -- the control of the segments that are given up: which word step comes next, and where it goes by what was found
-use Rattle.std.specs.Prelude.{ℕ, ◌+◌, ◌<◌, Bool, true, false, ◌==◌, ◌&&◌, if◌then◌else◌, Option, Some, None}
-use Rattle.shm_words.specs.declared.place.Place.TheVariants as place
+use Rattle.std.specs.Prelude.{ℕ, ◌+◌, ◌<◌, Bool, true, false, ◌==◌, ◌&&◌, if◌then◌else◌, Option, Some, None, []}
 use Rattle.shm_words.specs.Layout.{GeometryFits, address}
-use Rattle.shm_graph.specs.declared.ask.Ask.{Ask}
+use Rattle.shm_words.specs.declared.place.Place.TheVariants as place
+use Rattle.shm_graph.specs.declared.ask.{Ask.Ask, Me.Me}
 use Rattle.shm_graph.specs.declared.ask.Ask.TheVariants as ask
-use Rattle.shm_graph.specs.declared.ask.Me.{Me}
-use Rattle.shm_calls.specs.declared.word.Word.{Word}
-use Rattle.shm_recover.specs.declared.give_up.GivePoint.{GivePoint}
-use Rattle.shm_recover.specs.declared.give_up.GivePoint.TheVariants.{Look, Give, Status}
+use Rattle.shm_calls.specs.{declared.word.Word.Word, Steering.Steered}
+use Rattle.shm_recover.specs.declared.give_up.GivePoint.{GivePoint, TheVariants.{Look, Give, Status}}
 use Rattle.shm_recover.specs.declared.give_up.GiveState.{GiveState}
 
 -- before its first word step
@@ -48,3 +46,16 @@ pub record GiveInRange (m : GiveState) : Type 0 where
   pub geometry : GeometryFits m.me.geometry
   pub who : m.me.who < m.me.geometry.clients
   pub segment : m.segment < m.me.geometry.segments
+
+-- what the plan does: its identity and its line, its calls, and where it goes by their answers
+abbrev pub give_steered : Steered GiveState Word ℕ (Unit {0})
+give_steered =
+    record {
+      me = λ m. m.me;
+      line = λ m. [];
+      first = is_first;
+      start = λ m. record m { segment = 0; point = Look };
+      call = λ m. give_call m m.point;
+      after = λ m n. after_word m m.point n;
+      turns = λ m n. turns_word m.point;
+    }

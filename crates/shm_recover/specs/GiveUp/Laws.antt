@@ -1,31 +1,18 @@
 -- what is owed of segments that are given up before the status gone: each word step leads on, to the next one or to what is left
 use Rattle.std.proofs.Common.{◌≡◌, ◌≢◌, ℕ, ◌+◌, ◌*◌, ◌<◌, ◌≤◌, refl, sym, ap, ◌∙◌, subst, arith, Bool, true, false, not, ◌&&◌, List, [], ◌∷◌, ◌++◌, length}
-use Rattle.std.specs.Prelude.{◌==◌, if◌then◌else◌, slice_index}
-use Rattle.std.specs.List.{Contains}
 use Rattle.std.proofs.lemmas.Bool.{eq-eqb, eqb-false, eqb-true, ne_eqb, true≢false}
-use Rattle.shm_graph.specs.declared.ask.Me.{Me}
-use Rattle.shm_graph.specs.declared.spot.Spot.TheVariants.{Hold}
-use Rattle.shm_graph.specs.declared.memo.Memo.{Memo}
+use Rattle.std.specs.{Prelude.{◌==◌, if◌then◌else◌, slice_index}, List.Contains}
+use Rattle.shm_graph.specs.{declared.{ask.Me.Me, spot.Spot.TheVariants.Hold, memo.Memo.Memo}, Asks.Trail, Core.core}
+use Rattle.shm_graph.specs.{Events.Event, Laws.{GoneNow, Outcome}, MemoAfterStore.not_segment, Views.own_word}
 use Rattle.shm_graph.specs.declared.memo.Status.TheVariants as status
-use Rattle.shm_graph.specs.Asks.{Trail}
-use Rattle.shm_graph.specs.Core.{core}
-use Rattle.shm_graph.specs.Events.{Event}
-use Rattle.shm_graph.specs.Laws.{GoneNow, Outcome}
-use Rattle.shm_graph.specs.MemoAfterStore.{not_segment}
-use Rattle.shm_graph.specs.Views.{own_word}
 use Rattle.shm_laws.proofs.Keep.{filter_from}
-use Rattle.shm_steps.proofs.Cores.{here_same}
-use Rattle.shm_steps.proofs.Words.Own.{gone_store}
-use Rattle.shm_steps.proofs.Words.Shared.{segment_give, segment_load}
-use Rattle.shm_calls.specs.CallTells.{within_more}
-use Rattle.shm_calls.specs.Parts.{IsHeld}
-use Rattle.shm_calls.specs.Plans.{PlanLaws, PlanStays}
+use Rattle.shm_steps.proofs.{Cores.here_same, Words.{Own.gone_store, Shared.{segment_give, segment_load}}}
+use Rattle.shm_calls.specs.{CallTells.within_more, Parts.IsHeld, Plans.{PlanLaws, PlanStays}}
 use Rattle.shm_calls.specs.Words.{word_control, word_part_laws, IsWord, WordLeaves}
 use Rattle.shm_count.specs.Roots.{root_word}
-use Rattle.shm_recover.specs.declared.give_up.GivePoint.{GivePoint}
-use Rattle.shm_recover.specs.declared.give_up.GivePoint.TheVariants.{Look, Give, Status}
+use Rattle.shm_recover.specs.declared.give_up.GivePoint.{GivePoint, TheVariants.{Look, Give, Status}}
 use Rattle.shm_recover.specs.declared.give_up.GiveState.{GiveState}
-use Rattle.shm_recover.specs.GiveUp.Control.{after_word, give_ask, give_call, giving_up, is_first, next_segment, turns_word}
+use Rattle.shm_recover.specs.GiveUp.Control.{after_word, give_ask, give_call, giving_up, is_first, next_segment, turns_word, give_steered}
 use Rattle.shm_recover.specs.GiveUp.{GiveFound, GiveKnows, GivenUp, IsGiving, MayGiveUp, OwnsFrom, give_plan}
 use Rattle.shm_recover.specs.Leave.Words.{owned_inside}
 
@@ -37,7 +24,7 @@ never false = refl
 
 -- what is owed of a state that comes next
 abbrev Stays : GiveState → GiveState → Type 0
-Stays m y = (give_plan.me y ≡ m.me) × (give_plan.start y ≡ give_plan.start m) × (is_first y ≡ false)
+Stays m y = (give_steered.me y ≡ m.me) × (give_steered.start y ≡ give_steered.start m) × (is_first y ≡ false)
 
 next_stays : (m : GiveState) → Stays m (next_segment m)
 next_stays m = go (m.segment + 1 == m.me.geometry.segments)

@@ -1,11 +1,8 @@
 -- a join as a part of larger machines; its laws are in proofs/JoinPart
 use Rattle.std.specs.Prelude.{◌≡◌, ℕ, List, []}
-use Rattle.shm_graph.specs.declared.memo.Memo.{Memo}
-use Rattle.shm_graph.specs.Asks.{Trail}
-use Rattle.shm_graph.specs.Events.{Event, Nothing}
+use Rattle.shm_graph.specs.{declared.memo.Memo.Memo, Asks.Trail, Events.{Event, Nothing}}
 use Rattle.shm_calls.specs.Parts.{Part}
-use Rattle.shm_recover.specs.declared.join.JoinState.{JoinState}
-use Rattle.shm_recover.specs.Join.Asks.{join_trail}
+use Rattle.shm_recover.specs.{declared.join.JoinState.JoinState, Join.Asks.join_trail}
 use Rattle.shm_recover.specs.Join.{CanJoin, JoinFits, JoinGives, join_fresh}
 
 -- no word step of it is an event

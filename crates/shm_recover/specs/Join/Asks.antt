@@ -1,11 +1,8 @@
 -- what a join asks
 use Rattle.std.specs.Prelude.{[], ◌∷◌}
-use Rattle.shm_words.specs.declared.place.Place.TheVariants as place
 use Rattle.shm_words.specs.Layout.{address}
-use Rattle.shm_graph.specs.declared.ask.Ask.{Ask}
-use Rattle.shm_graph.specs.declared.ask.Ask.TheVariants.{Store}
-use Rattle.shm_graph.specs.declared.ask.Me.{Me}
-use Rattle.shm_graph.specs.Asks.{Trail, pair}
+use Rattle.shm_words.specs.declared.place.Place.TheVariants as place
+use Rattle.shm_graph.specs.{declared.ask.{Ask.{Ask, TheVariants.Store}, Me.Me}, Asks.{Trail, pair}}
 
 -- the status live is stored
 abbrev pub join_ask : Me → Ask

@@ -1,38 +1,20 @@
 -- the laws of a join
 use Rattle.std.proofs.Common.{◌≡◌, ℕ, ◌<◌, refl, sym, ap, ◌∙◌, arith, false, subst, eq-eqb, inl, inr, ◌⊎◌, List, [], ◌∷◌, ◌++◌, Option}
-use Rattle.std.specs.Prelude.{None, Some}
-use Rattle.std.proofs.lemmas.Bool.{true≢false}
-use Rattle.std.proofs.lemmas.Bool.Decides.{nat_tests}
+use Rattle.std.proofs.lemmas.Bool.{true≢false, Decides.nat_tests}
+use Rattle.std.specs.{Prelude.{None, Some}, List.Contains}
+use Rattle.shm_words.specs.{Layout.address, declared.geometry.Geometry.Geometry}
 use Rattle.shm_words.specs.declared.place.Place.TheVariants as place
-use Rattle.shm_words.specs.Layout.{address}
-use Rattle.shm_graph.specs.declared.ask.Ask.TheVariants.{Store}
-use Rattle.shm_graph.specs.declared.ask.Me.{Me}
-use Rattle.shm_words.specs.declared.geometry.Geometry.{Geometry}
-use Rattle.std.specs.List.{Contains}
-use Rattle.shm_graph.specs.declared.spot.Spot.{Spot}
+use Rattle.shm_graph.specs.declared.{ask.{Ask.TheVariants.Store, Me.Me}, spot.Spot.Spot}
 use Rattle.shm_graph.specs.declared.spot.Spot.TheVariants.{Status, Hold, Segment, Page, Head, Tag, Body}
-use Rattle.shm_graph.specs.declared.memo.Op.TheVariants.{Nothing}
-use Rattle.shm_graph.specs.declared.memo.Making.{Making}
-use Rattle.shm_graph.specs.Views.{view, own_word}
-use Rattle.shm_graph.specs.Held.{HeldAt, MakingTie}
-use Rattle.shm_graph.specs.Idle.{hold_word}
-use Rattle.shm_graph.specs.declared.memo.Memo.{Memo}
-use Rattle.shm_graph.specs.declared.memo.Step.{Step}
+use Rattle.shm_graph.specs.declared.memo.{Op.TheVariants.Nothing, Making.Making, Memo.Memo, Step.Step}
+use Rattle.shm_graph.specs.{Views.{view, own_word}, Held.{HeldAt, MakingTie}, Idle.hold_word}
+use Rattle.shm_graph.specs.{Spots.{spot_at, segment_of}, Blocks.classes, Asks.{Trail, pair}, Changes.called}
+use Rattle.shm_graph.specs.{Laws.{Laws, Keeps, Then, framed}, Core.core}
 use Rattle.shm_graph.specs.declared.memo.Status.TheVariants as status
-use Rattle.shm_graph.specs.Spots.{spot_at, segment_of}
-use Rattle.shm_graph.specs.Blocks.{classes}
-use Rattle.shm_graph.specs.Asks.{Trail, pair}
-use Rattle.shm_graph.specs.Changes.{called}
-use Rattle.shm_graph.specs.Laws.{Laws, Keeps, Then, framed}
-use Rattle.shm_graph.proofs.Spots.Spotting.{in_pool}
-use Rattle.shm_graph.proofs.Spots.SpotPlaces.{spot-place}
-use Rattle.shm_graph.proofs.Machines.Calling.{called_part}
+use Rattle.shm_graph.proofs.{Spots.{Spotting.in_pool, SpotPlaces.spot-place}, Machines.Calling.called_part}
 use Rattle.shm_graph.proofs.StepKinds.Keeping.{live_kept}
-use Rattle.shm_graph.specs.Core.{core}
 use Rattle.shm_steps.proofs.Cores.{called_core}
-use Rattle.shm_recover.specs.declared.join.JoinPoint.{JoinPoint}
-use Rattle.shm_recover.specs.declared.join.JoinPoint.TheVariants.{Start, Over}
-use Rattle.shm_recover.specs.declared.join.JoinState.{JoinState}
+use Rattle.shm_recover.specs.declared.join.{JoinPoint.{JoinPoint, TheVariants.{Start, Over}}, JoinState.JoinState}
 use Rattle.shm_recover.specs.Join.Asks.{join_ask}
 use Rattle.shm_recover.specs.Join.{IsMember, CanJoin, join_control, join_fresh, is_over, JoinFits, JoinGives}
 

@@ -1,25 +1,17 @@
 -- the control of a leaving
 use Rattle.std.specs.Prelude.{ℕ, ◌+◌, ◌<◌, Bool, true, false, ◌==◌, if◌then◌else◌, Option, Some, None, Result, Ok, Err, List, codes}
-use Rattle.shm_words.specs.declared.place.Place.TheVariants as place
 use Rattle.shm_words.specs.Layout.{GeometryFits, address}
-use Rattle.shm_graph.specs.declared.ask.Ask.{Ask}
+use Rattle.shm_words.specs.declared.place.Place.TheVariants as place
+use Rattle.shm_graph.specs.{declared.ask.{Ask.Ask, Me.Me}, Laws.Control}
 use Rattle.shm_graph.specs.declared.ask.Ask.TheVariants as ask
-use Rattle.shm_graph.specs.declared.ask.Me.{Me}
-use Rattle.shm_graph.specs.Laws.{Control}
-use Rattle.shm_calls.specs.declared.calls.Calls.{Calls}
-use Rattle.shm_calls.specs.declared.or.Or.{Or}
-use Rattle.shm_calls.specs.declared.or.Or.TheVariants.{First, Second}
-use Rattle.shm_calls.specs.declared.word.Word.{Word}
-use Rattle.shm_calls.specs.CallsControl.{calls_control, calls_of}
-use Rattle.shm_calls.specs.Either.{or_control}
-use Rattle.shm_calls.specs.Words.{word_control}
+use Rattle.shm_calls.specs.declared.{calls.Calls.Calls, or.Or.{Or, TheVariants.{First, Second}}, word.Word.Word}
+use Rattle.shm_calls.specs.{CallsControl.{calls_control, calls_of}, Either.or_control, Words.word_control}
+use Rattle.shm_calls.specs.Steering.{Steered}
 use Rattle.shm_count.specs.declared.answer.EraSpent.{EraSpent}
 use Rattle.shm_ref.specs.declared.drop_roots.RootsState.{RootsState}
-use Rattle.shm_recover.specs.declared.leave.LeavePoint.{LeavePoint}
-use Rattle.shm_recover.specs.declared.leave.LeavePoint.TheVariants.{Roots, Look, Give, Status}
+use Rattle.shm_ref.specs.DropRoots.Control.{RootsCall, drop_root, roots_steered}
+use Rattle.shm_recover.specs.declared.leave.LeavePoint.{LeavePoint, TheVariants.{Roots, Look, Give, Status}}
 use Rattle.shm_recover.specs.declared.leave.LeaveState.{LeaveState}
-use Rattle.shm_ref.specs.DropRoots.Control.{RootsCall, drop_root}
-use Rattle.shm_ref.specs.DropRoots.{roots_plan}
 
 -- its calls, and what they answer
 abbrev pub LeaveCall : Type 0
@@ -34,7 +26,7 @@ leave_line = codes "leave"
 
 -- the control of its calls
 abbrev pub leave_parts : Control LeaveCall LeaveAnswer
-leave_parts = or_control (calls_control drop_root roots_plan) word_control
+leave_parts = or_control (calls_control drop_root roots_steered) word_control
 
 -- before its first call
 abbrev pub leaving : Me → LeaveState
@@ -47,7 +39,7 @@ leave_ask m Status = ask.Store (address m.me.geometry (place.Status m.me.who)) 3
 leave_ask m y = ask.Load (address m.me.geometry (place.Segment m.segment))
 
 abbrev pub leave_call_at : LeaveState → LeavePoint → LeaveCall
-leave_call_at m Roots = First (calls_of roots_plan (record { me = m.me; root = 0 }))
+leave_call_at m Roots = First (calls_of roots_steered (record { me = m.me; root = 0 }))
 leave_call_at m y = Second (record { me = m.me; ask = leave_ask m y; over = false })
 
 -- on to the next segment, and after the last one to the status
@@ -83,3 +75,16 @@ pub record LeaveInRange (m : LeaveState) : Type 0 where
   pub geometry : GeometryFits m.me.geometry
   pub who : m.me.who < m.me.geometry.clients
   pub segment : m.segment < m.me.geometry.segments
+
+-- what the plan does: its identity and its line, its calls, and where it goes by their answers
+abbrev pub leave_steered : Steered LeaveState LeaveCall LeaveAnswer (Result (Unit {0}) EraSpent)
+leave_steered =
+    record {
+      me = λ m. m.me;
+      line = λ m. leave_line;
+      first = λ m. is_roots m.point;
+      start = λ m. record m { segment = 0; point = Roots };
+      call = λ m. leave_call_at m m.point;
+      after = leave_after;
+      turns = leave_turns;
+    }

@@ -1,21 +1,11 @@
 -- once it has answered Ok, a leaving left nothing of the identity in the words; and an identity between two calls may leave
 use Rattle.std.proofs.Common.{◌≡◌, ℕ, ◌<◌, sym, ap, ◌∙◌}
 use Rattle.std.specs.Prelude.{slice_index, None, Ok, List, []}
-use Rattle.shm_graph.specs.declared.ask.Me.{Me}
-use Rattle.shm_graph.specs.declared.memo.Memo.{Memo}
-use Rattle.shm_graph.specs.declared.memo.Status.{Status as AStatus}
-use Rattle.shm_graph.specs.declared.memo.Status.TheVariants.{New, Live, Gone}
-use Rattle.shm_graph.specs.declared.spot.Spot.{Spot}
-use Rattle.shm_graph.specs.Asks.{Trail}
-use Rattle.shm_graph.specs.Events.{Event}
-use Rattle.shm_graph.specs.Held.{HeldAt}
-use Rattle.shm_graph.specs.Idle.{IsIdle, hold_word}
-use Rattle.shm_graph.specs.Sound.{IsGone}
-use Rattle.shm_graph.specs.Views.{view}
+use Rattle.shm_graph.specs.declared.{ask.Me.Me, memo.{Memo.Memo, Status.Status as AStatus}}
+use Rattle.shm_graph.specs.{declared.{memo.Status.TheVariants.{New, Live, Gone}, spot.Spot.Spot}, Asks.Trail}
+use Rattle.shm_graph.specs.{Events.Event, Held.HeldAt, Idle.{IsIdle, hold_word}, Sound.IsGone, Views.view}
 use Rattle.shm_graph.proofs.States.HeldSound.{gone_left}
-use Rattle.shm_recover.specs.Join.{IsMember}
-use Rattle.shm_recover.specs.Leave.Control.{leaving}
-use Rattle.shm_recover.specs.Leave.{LeaveLeaves, MayLeave}
+use Rattle.shm_recover.specs.{Join.IsMember, Leave.{Control.leaving, LeaveLeaves, MayLeave}}
 
 -- in each held state with the memo that it gave the identity is gone
 pub leave_gone : (me : Me) (r0 : Memo) (tr : Trail) (es : List Event) (w : Spot → ℕ) (r : ℕ → Memo) → me.who < me.geometry.clients → HeldAt me.geometry w (view r) → LeaveLeaves (leaving me) r0 (r me.who) tr es (Ok tt) → IsGone me.geometry w (view r) me.who

@@ -1,44 +1,26 @@
 -- what is owed of a leaving
 use Rattle.std.proofs.Common.{◌≡◌, ◌≢◌, ℕ, ◌+◌, ◌*◌, ◌<◌, ◌≤◌, refl, sym, ap, ◌∙◌, subst, arith, Bool, true, false, not, List, [], ◌++◌, append-nil, inl, inr, length}
+use Rattle.std.proofs.lemmas.Bool.{cases_lt, eqb-true, eq-eqb, eqb-false, true≢false}
 use Rattle.std.specs.Prelude.{◌==◌, if◌then◌else◌, nat_lt, Option, Some, None, Result, Ok, Err, slice_index}
 use Rattle.std.specs.List.{Contains}
-use Rattle.std.proofs.lemmas.Bool.{cases_lt, eqb-true, eq-eqb, eqb-false, true≢false}
-use Rattle.shm_graph.specs.Bounds.{redo_steps, tear_steps}
-use Rattle.shm_graph.specs.declared.ask.Me.{Me}
-use Rattle.shm_graph.specs.declared.spot.Spot.TheVariants.{Hold}
-use Rattle.shm_graph.specs.declared.memo.Memo.{Memo}
-use Rattle.shm_graph.specs.Asks.{Trail}
-use Rattle.shm_graph.specs.Events.{Event}
-use Rattle.shm_graph.specs.MemoAfterStore.{not_segment}
-use Rattle.shm_graph.specs.Views.{own_word}
+use Rattle.shm_graph.specs.{Bounds.{redo_steps, tear_steps}, declared.{ask.Me.Me, spot.Spot.TheVariants.Hold}}
+use Rattle.shm_graph.specs.{declared.memo.Memo.Memo, Asks.Trail, Events.Event, MemoAfterStore.not_segment}
+use Rattle.shm_graph.specs.{Views.own_word, Core.core}
 use Rattle.shm_laws.proofs.Keep.{filter_from}
-use Rattle.shm_calls.specs.declared.or.Or.TheVariants.{First, Second}
-use Rattle.shm_calls.specs.CallTells.{within_more}
-use Rattle.shm_calls.specs.CallsControl.{calls_control}
-use Rattle.shm_calls.specs.CallsPart.{calls_part, calls_part_laws}
-use Rattle.shm_calls.specs.Either.{or_part_laws}
-use Rattle.shm_calls.specs.Parts.{IsHeld}
-use Rattle.shm_calls.specs.Plans.{PlanLaws, PlanStays, IsCall, Follows}
+use Rattle.shm_calls.specs.{declared.or.Or.TheVariants.{First, Second}, CallTells.within_more}
+use Rattle.shm_calls.specs.{CallsControl.calls_control, CallsPart.{calls_part, calls_part_laws}, Either.or_part_laws}
+use Rattle.shm_calls.specs.{Parts.IsHeld, Plans.{PlanLaws, PlanStays, IsCall, Follows}}
 use Rattle.shm_calls.specs.Words.{word_control, word_part, word_part_laws, WordLeaves}
-use Rattle.shm_count.specs.declared.answer.EraSpent.{EraSpent}
-use Rattle.shm_count.specs.Roots.{root_word}
-use Rattle.shm_graph.specs.Core.{core}
-use Rattle.shm_steps.proofs.Cores.{here_same}
-use Rattle.shm_steps.proofs.Words.Own.{gone_store}
-use Rattle.shm_steps.proofs.Words.Shared.{segment_give, segment_load}
-use Rattle.shm_count.specs.Tear.Events.{frees}
-use Rattle.shm_ref.specs.declared.drop_roots.RootsState.{RootsState}
-use Rattle.shm_recover.specs.declared.leave.LeavePoint.{LeavePoint}
-use Rattle.shm_recover.specs.declared.leave.LeavePoint.TheVariants.{Roots, Look, Give, Status}
+use Rattle.shm_count.specs.{declared.answer.EraSpent.EraSpent, Roots.root_word, Tear.Events.frees}
+use Rattle.shm_steps.proofs.{Cores.here_same, Words.{Own.gone_store, Shared.{segment_give, segment_load}}}
+use Rattle.shm_ref.specs.{declared.drop_roots.RootsState.RootsState, Leaving.may_still, Lefts.MayDrop}
+use Rattle.shm_ref.specs.DropRoots.{Control.{drop_root, roots_steered}, AreGone, RootsLeaves, roots_plan}
+use Rattle.shm_ref.specs.DropRoots.Laws.{roots_begin, roots_laws}
+use Rattle.shm_recover.specs.declared.leave.LeavePoint.{LeavePoint, TheVariants.{Roots, Look, Give, Status}}
 use Rattle.shm_recover.specs.declared.leave.LeaveState.{LeaveState}
-use Rattle.shm_recover.specs.Leave.Control.{LeaveAnswer, leaving, leave_parts, leave_ask, leave_call_at, leave_next, leave_after_word, is_roots, is_last}
+use Rattle.shm_recover.specs.Leave.Control.{LeaveAnswer, leaving, leave_parts, leave_ask, leave_call_at, leave_next, leave_after_word, is_roots, is_last, leave_steered}
 use Rattle.shm_recover.specs.Leave.{MayLeave, IsLeaving, HasLeft, LeaveKnows, LeaveFound, leave_plan}
 use Rattle.shm_recover.specs.Leave.Words.{all_done, root_beyond, owned_inside}
-use Rattle.shm_ref.specs.Leaving.{may_still}
-use Rattle.shm_ref.specs.Lefts.{MayDrop}
-use Rattle.shm_ref.specs.DropRoots.Control.{drop_root}
-use Rattle.shm_ref.specs.DropRoots.{AreGone, RootsLeaves, roots_plan}
-use Rattle.shm_ref.specs.DropRoots.Laws.{roots_begin, roots_laws}
 
 -- ---- its control
 
@@ -205,7 +187,7 @@ leave_laws =
       stays = stays;
       calls = λ m. calls m m.point;
       parts = λ m. let first = is_roots m.point in
-          or_part_laws first (calls_control drop_root roots_plan) word_control (calls_part drop_root roots_plan) (word_part first m.me (leave_ask m m.point) (LeaveFound m m.point))
+          or_part_laws first (calls_control drop_root roots_steered) word_control (calls_part drop_root roots_plan) (word_part first m.me (leave_ask m m.point) (LeaveFound m m.point))
           (calls_part_laws drop_root roots_plan roots_laws first) (word_part_laws first m.me (leave_ask m m.point) (LeaveFound m m.point));
       opens = λ m. opens m m.point;
       leads = λ m r0 rs r tr t es ds a h g held same. leads m m.point r0 rs r tr t es ds a h g held;
@@ -214,7 +196,7 @@ leave_laws =
     stays : (m : LeaveState) (b : LeaveAnswer) → PlanStays leave_parts leave_plan m b
     stays m (First (Ok u)) = record { same_me = refl; same_line = refl; same_start = refl; started = λ e. refl }
     stays m (First (Err e)) = record { same_me = refl; same_line = refl; same_start = refl; started = λ e. absurd (cc) }
-    stays m (Second n) = record { same_me = word_same (λ (x : LeaveState). x.me) m m.point n (λ s y. refl); same_line = refl; same_start = word_same leave_plan.start m m.point n (λ s y. refl); started = started (is_last m.point) (later m m.point n) }
+    stays m (Second n) = record { same_me = word_same (λ (x : LeaveState). x.me) m m.point n (λ s y. refl); same_line = refl; same_start = word_same leave_steered.start m m.point n (λ s y. refl); started = started (is_last m.point) (later m m.point n) }
       where
         started : (q : Bool) → (q ≡ false → is_roots (leave_after_word m m.point n).point ≡ false) → ◌≡◌ {A = Option (Result (Unit {0}) EraSpent)} (if q then Some (Ok tt) else None) None → is_roots (leave_after_word m m.point n).point ≡ false
         started true h e = absurd (cc)

@@ -1,15 +1,9 @@
 -- what a held state shows of roots and segments, and that nothing is left to finish once they are gone
 use Rattle.std.proofs.Common.{◌≡◌, ℕ, ◌<◌, ◌≤◌, refl, ◌∙◌, subst, arith, List, [], ◌∷◌, inl, inr}
-use Rattle.std.specs.List.{Contains}
 use Rattle.std.proofs.lemmas.Bool.{and_parts, cases_eq, eq-eqb, ltb-true}
-use Rattle.shm_graph.specs.declared.ask.Me.{Me}
-use Rattle.shm_graph.specs.declared.spot.Spot.{Spot}
-use Rattle.shm_graph.specs.declared.spot.Spot.TheVariants.{Root, Segment}
-use Rattle.shm_graph.specs.declared.memo.Memo.{Memo}
-use Rattle.shm_graph.specs.Blocks.{classes}
-use Rattle.shm_graph.specs.Held.{HeldAt}
-use Rattle.shm_graph.specs.Laws.{GoneNow}
-use Rattle.shm_graph.specs.Views.{view}
+use Rattle.std.specs.List.{Contains}
+use Rattle.shm_graph.specs.declared.{ask.Me.Me, spot.Spot.{Spot, TheVariants.{Root, Segment}}, memo.Memo.Memo}
+use Rattle.shm_graph.specs.{Blocks.classes, Held.HeldAt, Laws.GoneNow, Views.view}
 use Rattle.shm_graph.proofs.Spots.SpotPlaces.{at_is_in}
 use Rattle.shm_calls.specs.Parts.{IsHeld}
 use Rattle.shm_count.specs.Roots.{root_word}

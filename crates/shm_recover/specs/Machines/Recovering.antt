@@ -1,56 +1,44 @@
 -- the controls of a recovery and of the machines that it is made of; and when a recovery fits as it is made, and what it gives
 use Rattle.std.specs.Prelude.{ℕ, Result}
-use Rattle.shm_graph.specs.declared.ask.Me.{Me}
-use Rattle.shm_graph.specs.declared.memo.Memo.{Memo}
-use Rattle.shm_graph.specs.Asks.{Trail}
-use Rattle.shm_graph.specs.Laws.{Control}
-use Rattle.shm_calls.specs.declared.calls.Calls.{Calls}
-use Rattle.shm_calls.specs.declared.word.Word.{Word}
-use Rattle.shm_calls.specs.CallsControl.{calls_control, calls_of}
-use Rattle.shm_calls.specs.CallsFit.{CallsFits, CallsGives}
-use Rattle.shm_calls.specs.Words.{word_control}
+use Rattle.shm_graph.specs.{declared.{ask.Me.Me, memo.Memo.Memo}, Asks.Trail, Laws.Control}
+use Rattle.shm_calls.specs.{declared.{calls.Calls.Calls, word.Word.Word}, CallsControl.{calls_control, calls_of}}
+use Rattle.shm_calls.specs.{CallsFit.{CallsFits, CallsGives}, Words.word_control}
 use Rattle.shm_count.specs.declared.answer.EraSpent.{EraSpent}
-use Rattle.shm_recover.specs.declared.finish_takes.FinishState.{FinishState}
-use Rattle.shm_recover.specs.declared.give_up.GiveState.{GiveState}
-use Rattle.shm_recover.specs.declared.recover.RecoverState.{RecoverState}
-use Rattle.shm_recover.specs.declared.scan.ScanState.{ScanState}
-use Rattle.shm_recover.specs.declared.take_back.BackState.{BackState}
-use Rattle.shm_recover.specs.FinishTakes.{finish_plan}
-use Rattle.shm_recover.specs.GiveUp.{give_plan}
-use Rattle.shm_recover.specs.Recover.Control.{RecoverAnswer, RecoverCall, recover_parts, recovering}
-use Rattle.shm_recover.specs.Recover.{recover_plan}
-use Rattle.shm_recover.specs.Scan.Control.{ScanAnswer, ScanCall, scan_parts}
-use Rattle.shm_recover.specs.Scan.{scan_plan}
-use Rattle.shm_recover.specs.TakeBack.Control.{BackAnswer, BackCall, back_parts}
-use Rattle.shm_recover.specs.TakeBack.{back_plan}
+use Rattle.shm_recover.specs.declared.{finish_takes.FinishState.FinishState, give_up.GiveState.GiveState}
+use Rattle.shm_recover.specs.declared.{recover.RecoverState.RecoverState, scan.ScanState.ScanState}
+use Rattle.shm_recover.specs.{declared.take_back.BackState.BackState, FinishTakes.Control.finish_steered}
+use Rattle.shm_recover.specs.GiveUp.Control.{give_steered}
+use Rattle.shm_recover.specs.Recover.Control.{RecoverAnswer, RecoverCall, recover_parts, recovering, recover_steered}
+use Rattle.shm_recover.specs.{Recover.recover_plan, Scan.Control.{ScanAnswer, ScanCall, scan_parts, scan_steered}}
+use Rattle.shm_recover.specs.TakeBack.Control.{BackAnswer, BackCall, back_parts, back_steered}
 
 -- ---- blocks that were put into queues and not sent are taken back
 
 abbrev pub take_back : Control (Calls BackState BackCall (Result (Unit {0}) EraSpent) BackAnswer) (Result (Unit {0}) EraSpent)
-take_back = calls_control back_parts back_plan
+take_back = calls_control back_parts back_steered
 
 -- ---- items that were taken out of queues are received
 
 abbrev pub finish_takes : Control (Calls FinishState Word (Unit {0}) ℕ) (Unit {0})
-finish_takes = calls_control word_control finish_plan
+finish_takes = calls_control word_control finish_steered
 
 -- ---- the scan
 
 abbrev pub scan : Control (Calls ScanState ScanCall (Result ℕ EraSpent) ScanAnswer) (Result ℕ EraSpent)
-scan = calls_control scan_parts scan_plan
+scan = calls_control scan_parts scan_steered
 
 -- ---- segments are given up, and the status is gone
 
 abbrev pub give_up : Control (Calls GiveState Word (Unit {0}) ℕ) (Unit {0})
-give_up = calls_control word_control give_plan
+give_up = calls_control word_control give_steered
 
 -- ---- the recovery
 
 abbrev pub recover : Control (Calls RecoverState RecoverCall (Result (Unit {0}) EraSpent) RecoverAnswer) (Result (Unit {0}) EraSpent)
-recover = calls_control recover_parts recover_plan
+recover = calls_control recover_parts recover_steered
 
 abbrev pub RecoverFits : Me → Memo → Memo → Trail → Type 0
-RecoverFits me = CallsFits recover_parts recover_plan (calls_of recover_plan (recovering me))
+RecoverFits me = CallsFits recover_parts recover_plan (calls_of recover_steered (recovering me))
 
 abbrev pub RecoverGives : Me → Memo → Memo → Trail → Result (Unit {0}) EraSpent → Type 0
-RecoverGives me = CallsGives recover_parts recover_plan (calls_of recover_plan (recovering me))
+RecoverGives me = CallsGives recover_parts recover_plan (calls_of recover_steered (recovering me))

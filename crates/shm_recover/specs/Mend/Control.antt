@@ -1,35 +1,22 @@
 -- the control of mending: which call comes next, and where it goes by what that call answered
-use Rattle.std.specs.Prelude.{◌≡◌, ℕ, ◌+◌, ◌%◌, ◌^◌, ◌<◌, Bool, true, false, not, if◌then◌else◌, Option, Some, None}
+use Rattle.std.specs.Prelude.{◌≡◌, ℕ, ◌+◌, ◌%◌, ◌^◌, ◌<◌, Bool, true, false, not, if◌then◌else◌, Option, Some, None, []}
+use Rattle.shm_words.specs.{declared.redo.Redo.Redo as ARedo, Layout.{GeometryFits, address}, Redos.redo_of}
 use Rattle.shm_words.specs.declared.place.Place.TheVariants as place
-use Rattle.shm_words.specs.declared.redo.Redo.{Redo as ARedo}
 use Rattle.shm_words.specs.declared.redo.Redo.TheVariants as redos
-use Rattle.shm_words.specs.Layout.{GeometryFits, address}
-use Rattle.shm_words.specs.Redos.{redo_of}
-use Rattle.shm_graph.specs.declared.ask.Ask.{Ask}
+use Rattle.shm_graph.specs.{declared.ask.{Ask.Ask, Me.Me}, Laws.Control}
 use Rattle.shm_graph.specs.declared.ask.Ask.TheVariants as ask
-use Rattle.shm_graph.specs.declared.ask.Me.{Me}
-use Rattle.shm_graph.specs.Laws.{Control}
-use Rattle.shm_calls.specs.declared.calls.Calls.{Calls}
-use Rattle.shm_calls.specs.declared.or.Or.{Or}
-use Rattle.shm_calls.specs.declared.or.Or.TheVariants.{First, Second}
-use Rattle.shm_calls.specs.declared.word.Word.{Word}
-use Rattle.shm_calls.specs.CallsControl.{calls_control, calls_of}
-use Rattle.shm_calls.specs.Either.{or_control}
-use Rattle.shm_calls.specs.Words.{word_control}
-use Rattle.shm_count.specs.declared.commit_test.Commit.{Commit}
-use Rattle.shm_count.specs.declared.commit_test.Commit.TheVariants.{Committed, NotCommitted}
+use Rattle.shm_calls.specs.declared.{calls.Calls.Calls, or.Or.{Or, TheVariants.{First, Second}}, word.Word.Word}
+use Rattle.shm_calls.specs.{CallsControl.{calls_control, calls_of}, Either.or_control, Words.word_control}
+use Rattle.shm_calls.specs.Steering.{Steered}
+use Rattle.shm_count.specs.declared.commit_test.Commit.{Commit, TheVariants.{Committed, NotCommitted}}
 use Rattle.shm_count.specs.declared.commit_test.TestingState.{TestingState}
-use Rattle.shm_count.specs.CommitTest.Control.{testing}
-use Rattle.shm_count.specs.CommitTest.{is_first_half, testing_plan}
+use Rattle.shm_count.specs.CommitTest.{Control.{testing, testing_steered}, is_first_half}
 use Rattle.shm_recover.specs.declared.mend.MendPoint.{MendPoint}
 use Rattle.shm_recover.specs.declared.mend.MendPoint.TheVariants.{Dead, Era, Redo, More, Test, Slot, Close, Lower, Unlatch}
-use Rattle.shm_recover.specs.declared.mend.MendState.{MendState}
-use Rattle.shm_recover.specs.declared.mend_lower.MendLowerState.{MendLowerState}
+use Rattle.shm_recover.specs.declared.{mend.MendState.MendState, mend_lower.MendLowerState.MendLowerState}
 use Rattle.shm_recover.specs.declared.mend_unlatch.MendUnlatchState.{MendUnlatchState}
-use Rattle.shm_recover.specs.MendLower.Control.{lowering}
-use Rattle.shm_recover.specs.MendLower.{lowering_plan}
-use Rattle.shm_recover.specs.MendUnlatch.Control.{unlatching}
-use Rattle.shm_recover.specs.MendUnlatch.{unlatching_plan}
+use Rattle.shm_recover.specs.MendLower.Control.{lowering, lowering_steered}
+use Rattle.shm_recover.specs.MendUnlatch.Control.{unlatching, unlatching_steered}
 
 -- its calls, and what they answer
 abbrev pub MendCall : Type 0
@@ -40,7 +27,7 @@ MendAnswer = Or ℕ (Or Commit (Or (Unit {0}) (Unit {0})))
 
 -- the control of its calls
 abbrev pub mend_parts : Control MendCall MendAnswer
-mend_parts = or_control word_control (or_control (calls_control word_control testing_plan) (or_control (calls_control word_control lowering_plan) (calls_control word_control unlatching_plan)))
+mend_parts = or_control word_control (or_control (calls_control word_control testing_steered) (or_control (calls_control word_control lowering_steered) (calls_control word_control unlatching_steered)))
 
 -- before its first call
 abbrev pub mending : Me → MendState
@@ -96,9 +83,9 @@ mend_ask me e r Close = ask.Store (address me.geometry (place.Era me.who me.who)
 mend_ask me e r y = ask.Load (address me.geometry (place.Era me.who me.who))
 
 abbrev pub mend_call : MendState → MendPoint → MendCall
-mend_call m Test = Second (First (calls_of testing_plan (testing m.me (block_of m.redo m.era) m.era)))
-mend_call m Lower = Second (Second (First (calls_of lowering_plan (lowering m.me (before_of m.redo) m.era))))
-mend_call m Unlatch = Second (Second (Second (calls_of unlatching_plan (unlatching m.me))))
+mend_call m Test = Second (First (calls_of testing_steered (testing m.me (block_of m.redo m.era) m.era)))
+mend_call m Lower = Second (Second (First (calls_of lowering_steered (lowering m.me (before_of m.redo) m.era))))
+mend_call m Unlatch = Second (Second (Second (calls_of unlatching_steered (unlatching m.me))))
 mend_call m y = First (record { me = m.me; ask = mend_ask m.me m.era m.redo y; over = false })
 
 -- ---- where it goes
@@ -161,3 +148,16 @@ pub record MendInRange (m : MendState) : Type 0 where
   pub who : m.me.who < m.me.geometry.clients
   pub era : m.era < 2 ^ 47
   pub more : HasMore m.me m.point
+
+-- what the plan does: its identity and its line, its calls, and where it goes by their answers
+abbrev pub mend_steered : Steered MendState MendCall MendAnswer (Unit {0})
+mend_steered =
+    record {
+      me = λ m. m.me;
+      line = λ m. [];
+      first = λ m. is_dead m.point;
+      start = λ m. record m { era = 0; first = 0; redo = redos.Idle; point = Dead };
+      call = λ m. mend_call m m.point;
+      after = mend_after;
+      turns = mend_turns;
+    }

@@ -1,56 +1,36 @@
 -- what is owed of mending
 use Rattle.std.proofs.Common.{◌≡◌, ◌≢◌, ℕ, ◌+◌, ◌%◌, ◌^◌, ◌<◌, refl, sym, ap, ◌∙◌, subst, arith, Bool, true, false, cond, List, [], ◌++◌}
+use Rattle.std.proofs.{Math.Nat.mod-eq_of_lt, lemmas.Bool.eq-eqb}
 use Rattle.std.specs.Prelude.{Option, Some, None}
-use Rattle.std.proofs.Math.Nat.{mod-eq_of_lt}
-use Rattle.std.proofs.lemmas.Bool.{eq-eqb}
+use Rattle.shm_words.specs.{declared.redo.Redo.Redo as ARedo, Layout.{address, total_of}, Redos.redo_of}
 use Rattle.shm_words.specs.declared.place.Place.TheVariants as place
-use Rattle.shm_words.specs.declared.redo.Redo.{Redo as ARedo}
 use Rattle.shm_words.specs.declared.redo.Redo.TheVariants as redos
-use Rattle.shm_words.specs.Layout.{address, total_of}
-use Rattle.shm_words.specs.Redos.{redo_of}
+use Rattle.shm_graph.specs.declared.{ask.Me.Me, memo.{Memo.Memo, Op.TheVariants.Change}}
+use Rattle.shm_graph.specs.{declared.memo.{ChangeStage.TheVariants.Lowering, Second.TheVariants.Open}, Agents.recovers}
+use Rattle.shm_graph.specs.{Asks.{Trail, IsWithin}, Bounds.redo_steps, Blocks.classes, Core.core, Events.Event}
+use Rattle.shm_graph.specs.{Held.OpTie, Ops.{IsUncommitted, on_of, slot_of}, References.words_of}
+use Rattle.shm_graph.specs.{MemoAfterStore.{era_stored, op_closed, op_written}, Views.own_word}
 use Rattle.shm_graph.specs.declared.ask.Ask.TheVariants as ask
-use Rattle.shm_graph.specs.declared.ask.Me.{Me}
 use Rattle.shm_graph.specs.declared.spot.Spot.TheVariants as spot
-use Rattle.shm_graph.specs.declared.memo.Memo.{Memo}
-use Rattle.shm_graph.specs.declared.memo.Op.TheVariants.{Change}
-use Rattle.shm_graph.specs.declared.memo.ChangeStage.TheVariants.{Lowering}
-use Rattle.shm_graph.specs.declared.memo.Second.TheVariants.{Open}
-use Rattle.shm_graph.specs.Agents.{recovers}
-use Rattle.shm_graph.specs.Asks.{Trail, IsWithin}
-use Rattle.shm_graph.specs.Bounds.{redo_steps}
-use Rattle.shm_graph.specs.Blocks.{classes}
-use Rattle.shm_graph.specs.Core.{core}
-use Rattle.shm_graph.specs.Events.{Event}
-use Rattle.shm_graph.specs.Held.{OpTie}
-use Rattle.shm_graph.specs.Ops.{IsUncommitted, on_of, slot_of}
-use Rattle.shm_graph.specs.References.{words_of}
-use Rattle.shm_graph.specs.MemoAfterStore.{era_stored, op_closed, op_written}
-use Rattle.shm_graph.specs.Views.{own_word}
 use Rattle.shm_laws.specs.OwnWords.{Closes}
-use Rattle.shm_calls.specs.declared.or.Or.TheVariants.{First, Second}
-use Rattle.shm_calls.specs.CallTells.{within_more}
-use Rattle.shm_calls.specs.CallsControl.{calls_control}
-use Rattle.shm_calls.specs.CallsPart.{calls_part, calls_part_laws}
-use Rattle.shm_calls.specs.Either.{or_control, or_part, or_part_laws}
-use Rattle.shm_calls.specs.Parts.{IsHeld, PartLaws}
+use Rattle.shm_calls.specs.{declared.or.Or.TheVariants.{First, Second}, CallTells.within_more}
+use Rattle.shm_calls.specs.{CallsControl.calls_control, CallsPart.{calls_part, calls_part_laws}}
+use Rattle.shm_calls.specs.{Either.{or_control, or_part, or_part_laws}, Parts.{IsHeld, PartLaws}}
 use Rattle.shm_calls.specs.Plans.{Follows, IsCall, PlanLaws, PlanStays}
 use Rattle.shm_calls.specs.Words.{IsWord, WordLeaves, word_control, word_part, word_part_laws}
 use Rattle.shm_steps.proofs.Words.Own.{dead_store, era_load, era_store, redo_load}
-use Rattle.shm_count.specs.declared.commit_test.Commit.{Commit}
-use Rattle.shm_count.specs.declared.commit_test.Commit.TheVariants.{Committed, NotCommitted}
+use Rattle.shm_count.specs.declared.commit_test.Commit.{Commit, TheVariants.{Committed, NotCommitted}}
 use Rattle.shm_count.specs.CommitTest.{IsTested, IsTold, record_in, step_block, testing_plan}
-use Rattle.shm_count.specs.CommitTest.Laws.{testing_begin, testing_laws}
+use Rattle.shm_count.specs.CommitTest.{Laws.{testing_begin, testing_laws}, Control.testing_steered}
 use Rattle.shm_recover.specs.declared.mend.MendPoint.{MendPoint}
 use Rattle.shm_recover.specs.declared.mend.MendPoint.TheVariants.{Dead, Era, Redo, More, Test, Slot, Close, Lower, Unlatch}
-use Rattle.shm_recover.specs.declared.mend.MendState.{MendState}
-use Rattle.shm_recover.specs.MendLower.Laws.{lowering_begin, lowering_laws}
-use Rattle.shm_recover.specs.MendLower.{IsLowered, MayLowerDead, lowering_plan}
-use Rattle.shm_recover.specs.MendUnlatch.Laws.{unlatching_begin, unlatching_laws}
-use Rattle.shm_recover.specs.MendUnlatch.{unlatching_plan}
-use Rattle.shm_recover.specs.Mend.Control.{MendAnswer, before_of, block_of, closed, found_by, is_dead, is_first, is_second, mend_ask, mend_call, mend_parts, mending, tested_at, value_at}
+use Rattle.shm_recover.specs.{declared.mend.MendState.MendState, MendLower.Laws.{lowering_begin, lowering_laws}}
+use Rattle.shm_recover.specs.MendLower.{IsLowered, MayLowerDead, lowering_plan, Control.lowering_steered}
+use Rattle.shm_recover.specs.MendUnlatch.{Laws.{unlatching_begin, unlatching_laws}, unlatching_plan}
+use Rattle.shm_recover.specs.MendUnlatch.Control.{unlatching_steered}
+use Rattle.shm_recover.specs.Mend.Control.{MendAnswer, before_of, block_of, closed, found_by, is_dead, is_first, is_second, mend_ask, mend_call, mend_parts, mending, tested_at, value_at, mend_steered}
 use Rattle.shm_recover.specs.Mend.{HeldOver, IsClosing, IsDead, IsMending, IsSlotted, IsSpelled, MayMend, MendFound, MendKnows, dead, mend_part, mend_plan}
-use Rattle.shm_recover.specs.Mend.SecondWord.{more_load}
-use Rattle.shm_recover.specs.Mend.Slots.{slot_word}
+use Rattle.shm_recover.specs.Mend.{SecondWord.more_load, Slots.slot_word}
 use Rattle.shm_recover.specs.Mend.Steps.{has_written, spells_idle, spells_none, step_named, to_close, to_drop, to_lower, to_write}
 use Rattle.shm_recover.specs.Mend.Words.{begun, dead_here, era_mending, era_op, era_over, era_own, lower_mending, lower_over, mended, slot_mending, slot_op, slot_over, slotted_row}
 use Rattle.shm_recover.specs.Mend.Tied.{before_inside, block_inside, least_room, op_tied, own_room, second_not_first, value_small}
@@ -291,11 +271,11 @@ mend_laws =
         let test = calls_part word_control testing_plan in
         let lower = calls_part word_control lowering_plan in
         let unlatch = calls_part word_control unlatching_plan in
-        or_part_laws first word_control (or_control (calls_control word_control testing_plan) (or_control (calls_control word_control lowering_plan) (calls_control word_control unlatching_plan))) word (or_part test (or_part lower unlatch))
+        or_part_laws first word_control (or_control (calls_control word_control testing_steered) (or_control (calls_control word_control lowering_steered) (calls_control word_control unlatching_steered))) word (or_part test (or_part lower unlatch))
         (word_part_laws first m.me (mend_ask m.me m.era m.redo y) (MendFound m y))
-        (or_part_laws first (calls_control word_control testing_plan) (or_control (calls_control word_control lowering_plan) (calls_control word_control unlatching_plan)) test (or_part lower unlatch)
+        (or_part_laws first (calls_control word_control testing_steered) (or_control (calls_control word_control lowering_steered) (calls_control word_control unlatching_steered)) test (or_part lower unlatch)
         (calls_part_laws word_control testing_plan testing_laws first)
-        (or_part_laws first (calls_control word_control lowering_plan) (calls_control word_control unlatching_plan) lower unlatch (calls_part_laws word_control lowering_plan lowering_laws first) (calls_part_laws word_control unlatching_plan unlatching_laws first)))
+        (or_part_laws first (calls_control word_control lowering_steered) (calls_control word_control unlatching_steered) lower unlatch (calls_part_laws word_control lowering_plan lowering_laws first) (calls_part_laws word_control unlatching_plan unlatching_laws first)))
 
     calls : (m : MendState) (y : MendPoint) → IsCall mend_parts mend_plan (record m { point = y })
     calls m Dead = record { me = refl; asks = refl }
@@ -359,7 +339,7 @@ mend_laws =
         record {
           same_me = alike (λ (x : MendState). x.me) m.me.geometry.wide a b refl (found_same (λ (x : MendState). x.me) p q (λ x. refl) refl);
           same_line = refl;
-          same_start = alike mend_plan.start m.me.geometry.wide a b refl (found_same mend_plan.start p q (λ x. refl) refl);
+          same_start = alike mend_steered.start m.me.geometry.wide a b refl (found_same mend_steered.start p q (λ x. refl) refl);
           started = λ e. alike (λ (x : MendState). is_dead x.point) m.me.geometry.wide a b refl (found_same (λ (x : MendState). is_dead x.point) p q (λ x. refl) refl);
         }
     word_stays m More k =
@@ -368,7 +348,7 @@ mend_laws =
         record {
           same_me = found_same (λ (x : MendState). x.me) p q (λ x. refl) refl;
           same_line = refl;
-          same_start = found_same mend_plan.start p q (λ x. refl) refl;
+          same_start = found_same mend_steered.start p q (λ x. refl) refl;
           started = λ e. found_same (λ (x : MendState). is_dead x.point) p q (λ x. refl) refl;
         }
     word_stays m Close k =
@@ -377,7 +357,7 @@ mend_laws =
         record {
           same_me = alike (λ (x : MendState). x.me) (is_first m.redo m.era) a b refl refl;
           same_line = refl;
-          same_start = alike mend_plan.start (is_first m.redo m.era) a b refl refl;
+          same_start = alike mend_steered.start (is_first m.redo m.era) a b refl refl;
           started = λ e. alike (λ (x : MendState). is_dead x.point) (is_first m.redo m.era) a b refl refl;
         }
     word_stays m Era k = record { same_me = refl; same_line = refl; same_start = refl; started = λ e. refl }

@@ -1,17 +1,11 @@
 -- the load of the second word of the redo record, which a pool of format 2 has
-use Rattle.std.proofs.Common.{◌≡◌, ℕ, ◌<◌, refl, sym, ap, ◌∙◌, true, false}
-use Rattle.std.proofs.lemmas.Bool.{and_from, eq-eqb, lt-ltb}
-use Rattle.shm_words.specs.declared.place.Place.TheVariants as place
+use Rattle.std.proofs.{Common.{◌≡◌, ℕ, ◌<◌, refl, sym, ap, ◌∙◌, true, false}, lemmas.Bool.{and_from, eq-eqb, lt-ltb}}
 use Rattle.shm_words.specs.Layout.{address}
-use Rattle.shm_graph.specs.declared.ask.Ask.TheVariants.{Load}
-use Rattle.shm_graph.specs.declared.ask.Me.{Me}
+use Rattle.shm_words.specs.declared.place.Place.TheVariants as place
+use Rattle.shm_graph.specs.{declared.{ask.{Ask.TheVariants.Load, Me.Me}, memo.Memo.Memo}, Laws.framed, Views.own_word}
 use Rattle.shm_graph.specs.declared.spot.Spot.TheVariants as spot
-use Rattle.shm_graph.specs.declared.memo.Memo.{Memo}
-use Rattle.shm_graph.specs.Laws.{framed}
-use Rattle.shm_graph.specs.Views.{own_word}
 use Rattle.shm_graph.proofs.Spots.SpotPlaces.{spot-place}
-use Rattle.shm_calls.specs.Words.{IsWord}
-use Rattle.shm_calls.specs.WordSteps.{load_at}
+use Rattle.shm_calls.specs.{Words.IsWord, WordSteps.load_at}
 use Rattle.shm_steps.specs.WordParts.{OwnLoaded}
 use Rattle.shm_steps.proofs.Words.Own.{at_step, word_for}
 

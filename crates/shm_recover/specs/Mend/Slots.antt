@@ -1,38 +1,22 @@
 -- the store of the slot of a committed step, wherever the slot is
 use Rattle.std.proofs.Common.{◌≡◌, ℕ, ◌+◌, ◌^◌, ◌<◌, refl, sym, ap, ◌∙◌, subst, Bool, true, false, cond, inl, inr}
-use Rattle.std.specs.Prelude.{◌⊎◌}
 use Rattle.std.proofs.lemmas.Bool.{and_parts, ltb-true}
-use Rattle.shm_words.specs.declared.place.Place.TheVariants as place
+use Rattle.std.specs.Prelude.{◌⊎◌}
 use Rattle.shm_words.specs.Layout.{address}
-use Rattle.shm_graph.specs.declared.ask.Ask.TheVariants.{Store}
-use Rattle.shm_graph.specs.declared.ask.Me.{Me}
-use Rattle.shm_graph.specs.declared.spot.Spot.{Spot}
-use Rattle.shm_graph.specs.declared.spot.Spot.TheVariants as spot
-use Rattle.shm_graph.specs.declared.memo.First.TheVariants.{Begun, Committed, Written}
-use Rattle.shm_graph.specs.declared.memo.Memo.{Memo}
-use Rattle.shm_graph.specs.declared.memo.Op.{Op}
+use Rattle.shm_words.specs.declared.place.Place.TheVariants as place
+use Rattle.shm_graph.specs.declared.{ask.{Ask.TheVariants.Store, Me.Me}, spot.Spot.Spot}
+use Rattle.shm_graph.specs.declared.memo.{First.TheVariants.{Begun, Committed, Written}, Memo.Memo, Op.Op}
 use Rattle.shm_graph.specs.declared.memo.Op.TheVariants.{Alloc, Change, Down, Nothing, Up}
-use Rattle.shm_graph.specs.declared.memo.ChangeStage.TheVariants.{Lowering, Raising}
-use Rattle.shm_graph.specs.Blocks.{classes}
-use Rattle.shm_graph.specs.Core.{core}
-use Rattle.shm_graph.specs.Held.{HeldAt, OpTie}
-use Rattle.shm_graph.specs.Ops.{cover, cover_of, is_op, slot_of}
-use Rattle.shm_graph.specs.Reach.{shown}
-use Rattle.shm_graph.specs.References.{words_of}
-use Rattle.shm_graph.specs.Spots.{IsAt, same_spot, spot_address}
-use Rattle.shm_graph.specs.MemoAfterStore.{op_written}
+use Rattle.shm_graph.specs.{declared.memo.ChangeStage.TheVariants.{Lowering, Raising}, Blocks.classes, Core.core}
+use Rattle.shm_graph.specs.{Held.{HeldAt, OpTie}, Ops.{cover, cover_of, is_op, slot_of}, Reach.shown}
+use Rattle.shm_graph.specs.{References.words_of, Spots.{IsAt, same_spot, spot_address}, MemoAfterStore.op_written}
 use Rattle.shm_graph.specs.Views.{own_word, view}
-use Rattle.shm_graph.proofs.Spots.SpotPlaces.{at_is_in}
-use Rattle.shm_graph.proofs.Spots.Spotting.{in_pool}
-use Rattle.shm_graph.proofs.States.Holders.{Holds}
+use Rattle.shm_graph.specs.declared.spot.Spot.TheVariants as spot
+use Rattle.shm_graph.proofs.{Spots.{SpotPlaces.at_is_in, Spotting.in_pool}, States.Holders.Holds}
 use Rattle.shm_laws.specs.Slotting.{Writes}
-use Rattle.shm_calls.specs.Parts.{IsHeld}
-use Rattle.shm_calls.specs.Words.{IsWord, word_more}
-use Rattle.shm_steps.specs.Conditions.{IsHere, MayWrite}
-use Rattle.shm_steps.specs.WordParts.{Makes}
-use Rattle.shm_steps.proofs.Words.Blocks.{body_store}
-use Rattle.shm_steps.proofs.Words.Own.{home_store, root_store, word_for}
-use Rattle.shm_steps.proofs.Words.Queues.{slot_store}
+use Rattle.shm_calls.specs.{Parts.IsHeld, Words.{IsWord, word_more}}
+use Rattle.shm_steps.specs.{Conditions.{IsHere, MayWrite}, WordParts.Makes}
+use Rattle.shm_steps.proofs.Words.{Blocks.body_store, Own.{home_store, root_store, word_for}, Queues.slot_store}
 use Rattle.shm_recover.specs.Mend.{slotted}
 
 -- a step that writes is one

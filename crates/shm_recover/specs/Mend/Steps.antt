@@ -1,28 +1,18 @@
 -- what the redo record and the commit test tell of a step in progress
 use Rattle.std.proofs.Common.{◌≡◌, ◌≢◌, ℕ, ◌+◌, refl, sym, ap, ◌∙◌, subst, true, false, not, cond, inl, inr}
-use Rattle.std.specs.Prelude.{◌⊎◌, Option, Some, None}
 use Rattle.std.proofs.lemmas.Bool.{false≢true, true≢false}
-use Rattle.shm_words.specs.declared.geometry.Geometry.{Geometry}
-use Rattle.shm_words.specs.declared.redo.Redo.{Redo as ARedo}
+use Rattle.std.specs.Prelude.{◌⊎◌, Option, Some, None}
+use Rattle.shm_words.specs.{declared.{geometry.Geometry.Geometry, redo.Redo.Redo as ARedo}, Redos.redo_of}
 use Rattle.shm_words.specs.declared.redo.Redo.TheVariants as redos
-use Rattle.shm_words.specs.Redos.{redo_of}
 use Rattle.shm_words.proofs.Words.{change_told}
-use Rattle.shm_graph.specs.declared.spot.Spot.{Spot}
-use Rattle.shm_graph.specs.declared.memo.First.{First}
-use Rattle.shm_graph.specs.declared.memo.First.TheVariants.{Begun, Committed, Written}
+use Rattle.shm_graph.specs.declared.{spot.Spot.Spot, memo.First.{First, TheVariants.{Begun, Committed, Written}}}
 use Rattle.shm_graph.specs.declared.memo.Second.TheVariants.{Closed, Open}
-use Rattle.shm_graph.specs.declared.memo.ChangeStage.TheVariants.{Lowering, Raising}
-use Rattle.shm_graph.specs.declared.memo.Op.{Op}
-use Rattle.shm_graph.specs.declared.memo.Op.TheVariants.{Alloc, Change, Down, Nothing, Up}
-use Rattle.shm_graph.specs.Held.{OpTie, odd}
-use Rattle.shm_graph.specs.Ops.{IsUncommitted, on_of, slot_of}
-use Rattle.shm_graph.specs.References.{Words}
-use Rattle.shm_graph.specs.Spots.{spot_address}
+use Rattle.shm_graph.specs.declared.memo.{ChangeStage.TheVariants.{Lowering, Raising}, Op.Op}
+use Rattle.shm_graph.specs.{declared.memo.Op.TheVariants.{Alloc, Change, Down, Nothing, Up}, Held.{OpTie, odd}}
+use Rattle.shm_graph.specs.{Ops.{IsUncommitted, on_of, slot_of}, References.Words, Spots.spot_address}
 use Rattle.shm_graph.specs.MemoAfterStore.{op_closed, op_written}
-use Rattle.shm_laws.specs.OwnWords.{Closes}
-use Rattle.shm_laws.specs.Slotting.{Writes}
-use Rattle.shm_count.specs.CommitTest.{is_first_half, step_block}
-use Rattle.shm_count.specs.CommitTest.Shown.{itself, odd_next, opposite}
+use Rattle.shm_laws.specs.{OwnWords.Closes, Slotting.Writes}
+use Rattle.shm_count.specs.CommitTest.{is_first_half, step_block, Shown.{itself, odd_next, opposite}}
 use Rattle.shm_recover.specs.Mend.Control.{before_of, block_of, is_first, is_second, slot_at, value_at}
 
 -- ---- parity

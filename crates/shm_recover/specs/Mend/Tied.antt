@@ -1,27 +1,18 @@
 -- what a held state shows of the step in progress, of the memo alone
 use Rattle.std.proofs.Common.{◌≡◌, ◌≢◌, ℕ, ◌+◌, ◌^◌, ◌<◌, ◌≤◌, refl, sym, ap, ◌∙◌, subst, arith, Bool, true, false, cond, not, inl, inr}
-use Rattle.std.specs.Prelude.{Some}
 use Rattle.std.proofs.lemmas.Bool.{eq-eqb, true≢false}
-use Rattle.shm_words.specs.declared.geometry.Geometry.{Geometry}
-use Rattle.shm_words.specs.declared.redo.Redo.{Redo as ARedo}
+use Rattle.std.specs.Prelude.{Some}
+use Rattle.shm_words.specs.declared.{geometry.Geometry.Geometry, redo.Redo.Redo as ARedo}
+use Rattle.shm_words.specs.{Layout.{GeometryFits, total_of}, Redos.redo_of}
 use Rattle.shm_words.specs.declared.redo.Redo.TheVariants as redos
-use Rattle.shm_words.specs.Layout.{GeometryFits, total_of}
-use Rattle.shm_words.specs.Redos.{redo_of}
 use Rattle.shm_words.proofs.Placing.{total_small}
-use Rattle.shm_graph.specs.declared.ask.Me.{Me}
-use Rattle.shm_graph.specs.declared.spot.Spot.{Spot}
-use Rattle.shm_graph.specs.declared.spot.Spot.TheVariants as spot
-use Rattle.shm_graph.specs.declared.memo.Memo.{Memo}
-use Rattle.shm_graph.specs.declared.memo.Op.{Op}
+use Rattle.shm_graph.specs.declared.{ask.Me.Me, spot.Spot.Spot, memo.{Memo.Memo, Op.Op}}
 use Rattle.shm_graph.specs.declared.memo.Op.TheVariants.{Alloc, Change, Down, Nothing, Up}
-use Rattle.shm_graph.specs.declared.memo.ChangeStage.TheVariants.{Lowering, Raising}
-use Rattle.shm_graph.specs.declared.memo.Second.TheVariants.{Open}
-use Rattle.shm_graph.specs.Blocks.{IsBlock, classes}
-use Rattle.shm_graph.specs.Held.{IsBefore, MayName, OpTie, room_of}
-use Rattle.shm_graph.specs.References.{words_of}
+use Rattle.shm_graph.specs.declared.memo.{ChangeStage.TheVariants.{Lowering, Raising}, Second.TheVariants.Open}
+use Rattle.shm_graph.specs.{Blocks.{IsBlock, classes}, Held.{IsBefore, MayName, OpTie, room_of}, References.words_of}
 use Rattle.shm_graph.specs.Views.{own_word}
-use Rattle.shm_graph.proofs.Spots.Spotting.{in_pool}
-use Rattle.shm_graph.proofs.States.RedoNames.{may_name}
+use Rattle.shm_graph.specs.declared.spot.Spot.TheVariants as spot
+use Rattle.shm_graph.proofs.{Spots.Spotting.in_pool, States.RedoNames.may_name}
 use Rattle.shm_calls.specs.Parts.{IsHeld}
 use Rattle.shm_count.specs.CommitTest.{is_first_half, record_in}
 use Rattle.shm_recover.specs.Mend.Control.{block_of, is_first, is_second, value_at}

@@ -1,38 +1,25 @@
 -- what each call of a mending leaves as it was
 use Rattle.std.proofs.Common.{◌≡◌, ℕ, ◌+◌, ◌<◌, ◌≤◌, refl, sym, ap, ◌∙◌, subst, arith, Bool, true, false, cond, eqb, ◌&&◌, List, [], ◌∷◌, ◌++◌, inl, inr}
-use Rattle.std.specs.Prelude.{◌⊎◌}
 use Rattle.std.proofs.lemmas.Bool.{cond-false, eq-eqb, eqb-true, false≢true}
-use Rattle.shm_graph.specs.Bounds.{redo_steps}
-use Rattle.shm_graph.specs.declared.ask.Me.{Me}
-use Rattle.shm_graph.specs.declared.spot.Spot.{Spot}
-use Rattle.shm_graph.specs.declared.spot.Spot.TheVariants as spot
+use Rattle.std.specs.Prelude.{◌⊎◌}
+use Rattle.shm_graph.specs.{Bounds.redo_steps, declared.{ask.Me.Me, spot.Spot.Spot}}
 use Rattle.shm_graph.specs.declared.memo.First.TheVariants.{Begun, Committed, Written}
-use Rattle.shm_graph.specs.declared.memo.Second.TheVariants.{Closed, Open}
-use Rattle.shm_graph.specs.declared.memo.Memo.{Memo}
-use Rattle.shm_graph.specs.declared.memo.Op.{Op}
+use Rattle.shm_graph.specs.declared.memo.{Second.TheVariants.{Closed, Open}, Memo.Memo, Op.Op}
 use Rattle.shm_graph.specs.declared.memo.Op.TheVariants.{Alloc, Change, Down, Nothing, Up}
-use Rattle.shm_graph.specs.declared.memo.ChangeStage.TheVariants.{Lowering, Raising}
-use Rattle.shm_graph.specs.declared.memo.Status.TheVariants as status
-use Rattle.shm_graph.specs.Agents.{recovers}
-use Rattle.shm_graph.specs.Asks.{Trail, IsWithin}
-use Rattle.shm_graph.specs.Blocks.{classes}
-use Rattle.shm_graph.specs.Core.{core}
-use Rattle.shm_graph.specs.Events.{ChangeDown, Event}
+use Rattle.shm_graph.specs.{declared.memo.ChangeStage.TheVariants.{Lowering, Raising}, Agents.recovers}
+use Rattle.shm_graph.specs.{Asks.{Trail, IsWithin}, Blocks.classes, Core.core, Events.{ChangeDown, Event}}
 use Rattle.shm_graph.specs.Held.{HeldAt, OpTie, is_loose}
 use Rattle.shm_graph.specs.Ops.{IsUncommitted, On, Quiet, cover, cover_of, held_over_of, slot_of, word_at}
-use Rattle.shm_graph.specs.Reach.{shown}
-use Rattle.shm_graph.specs.References.{words_of}
-use Rattle.shm_graph.specs.Spots.{same_spot}
+use Rattle.shm_graph.specs.{Reach.shown, References.words_of, Spots.same_spot}
 use Rattle.shm_graph.specs.MemoAfterStore.{era_stored, is_lowering, op_closed, op_written, with_own, without_looks}
 use Rattle.shm_graph.specs.Views.{own_word, owner_is, view}
+use Rattle.shm_graph.specs.declared.spot.Spot.TheVariants as spot
+use Rattle.shm_graph.specs.declared.memo.Status.TheVariants as status
 use Rattle.shm_graph.proofs.Spots.Spotting.{same_spot_is}
-use Rattle.shm_laws.specs.OwnWords.{Closes}
-use Rattle.shm_laws.specs.Slotting.{Writes}
+use Rattle.shm_laws.specs.{OwnWords.Closes, Slotting.Writes}
 use Rattle.shm_calls.specs.Parts.{IsHeld}
-use Rattle.shm_steps.specs.Conditions.{IsHere}
-use Rattle.shm_steps.specs.Reparting.{map_in}
-use Rattle.shm_recover.specs.MendLower.{IsLowered, MayLowerDead}
-use Rattle.shm_recover.specs.MendRest.{bare, is_hold, is_row}
+use Rattle.shm_steps.specs.{Conditions.IsHere, Reparting.map_in}
+use Rattle.shm_recover.specs.{MendLower.{IsLowered, MayLowerDead}, MendRest.{bare, is_hold, is_row}}
 use Rattle.shm_recover.specs.MendUnlatch.{Unlatched}
 use Rattle.shm_recover.specs.Mend.{HeldOver, IsDead, IsMended, IsMending, WasLost, dead, is_apart, is_name, slotted}
 use Rattle.shm_recover.specs.Mend.Slots.{slotted_shown}

@@ -1,13 +1,11 @@
 -- the control of the second half of a change that a recoverer makes
-use Rattle.std.specs.Prelude.{ℕ, ◌+◌, ◌-◌, ◌^◌, ◌<◌, Bool, true, false, ◌==◌, nat_lt, if◌then◌else◌, Option, Some, None}
-use Rattle.shm_words.specs.declared.header.Header.{Header as AHeader}
-use Rattle.shm_words.specs.declared.place.Place.TheVariants as place
-use Rattle.shm_words.specs.Headers.{header_of, header_word}
+use Rattle.std.specs.Prelude.{ℕ, ◌+◌, ◌-◌, ◌^◌, ◌<◌, Bool, true, false, ◌==◌, nat_lt, if◌then◌else◌, Option, Some, None, []}
+use Rattle.shm_words.specs.{declared.header.Header.Header as AHeader, Headers.{header_of, header_word}}
 use Rattle.shm_words.specs.Layout.{GeometryFits, address}
-use Rattle.shm_graph.specs.declared.ask.Ask.{Ask}
+use Rattle.shm_words.specs.declared.place.Place.TheVariants as place
+use Rattle.shm_graph.specs.declared.ask.{Ask.Ask, Me.Me}
 use Rattle.shm_graph.specs.declared.ask.Ask.TheVariants as ask
-use Rattle.shm_graph.specs.declared.ask.Me.{Me}
-use Rattle.shm_calls.specs.declared.word.Word.{Word}
+use Rattle.shm_calls.specs.{declared.word.Word.Word, Steering.Steered}
 use Rattle.shm_count.specs.Step.Control.{row_address}
 use Rattle.shm_recover.specs.declared.mend_lower.MendLowerPoint.{MendLowerPoint}
 use Rattle.shm_recover.specs.declared.mend_lower.MendLowerPoint.TheVariants.{Header, Row, Show, Exchange, Close}
@@ -60,3 +58,16 @@ pub record LoweringInRange (m : MendLowerState) : Type 0 where
   pub geometry : GeometryFits m.me.geometry
   pub who : m.me.who < m.me.geometry.clients
   pub era : m.era < 2 ^ 47
+
+-- what the plan does: its identity and its line, its calls, and where it goes by their answers
+abbrev pub lowering_steered : Steered MendLowerState Word ℕ (Unit {0})
+lowering_steered =
+    record {
+      me = λ m. m.me;
+      line = λ m. [];
+      first = λ m. is_header m.point;
+      start = λ m. record m { header = 0; point = Header };
+      call = λ m. lowering_call m m.point;
+      after = λ m. lowering_after m m.point;
+      turns = λ m n. lowering_turns m.point;
+    }

@@ -1,37 +1,18 @@
 -- what a held state shows of the block whose reference a change holds over, and what its exchange leaves
 use Rattle.std.proofs.Common.{◌≡◌, ℕ, ◌-◌, ◌^◌, ◌<◌, refl, ap, ◌∙◌, subst, arith, Bool, true, false, cond, eqb, [], ◌∷◌, ◌++◌, inl, inr}
-use Rattle.std.specs.Prelude.{◌⊎◌}
-use Rattle.std.specs.List.{filter}
-use Rattle.shm_words.specs.Headers.{HeaderFits, header_of}
-use Rattle.shm_words.specs.Layout.{GeometryFits}
+use Rattle.std.specs.{Prelude.◌⊎◌, List.filter}
+use Rattle.shm_words.specs.{Headers.{HeaderFits, header_of}, Layout.GeometryFits}
 use Rattle.shm_words.proofs.Words.{header_fits, header_of-word, header_word_small}
-use Rattle.shm_graph.specs.declared.ask.Ask.{Ask}
-use Rattle.shm_graph.specs.declared.ask.Me.{Me}
-use Rattle.shm_graph.specs.declared.spot.Spot.{Spot}
-use Rattle.shm_graph.specs.declared.spot.Spot.TheVariants.{Era, Head, Redo, RedoMore}
-use Rattle.shm_graph.specs.declared.memo.Memo.{Memo}
-use Rattle.shm_graph.specs.declared.memo.Op.TheVariants.{Change}
-use Rattle.shm_graph.specs.declared.memo.ChangeStage.TheVariants.{Lowering}
-use Rattle.shm_graph.specs.declared.memo.Second.TheVariants.{Closed, Open}
-use Rattle.shm_graph.specs.Asks.{at_of, seen_of}
-use Rattle.shm_graph.specs.Blocks.{classes}
-use Rattle.shm_graph.specs.Events.{Event}
-use Rattle.shm_graph.specs.MemoAfterExchange.{committed, cut, without_made}
-use Rattle.shm_graph.specs.Held.{HeldAt, OpTie}
-use Rattle.shm_graph.specs.Laws.{Frame, Stands}
-use Rattle.shm_graph.specs.Ops.{held_over_of}
-use Rattle.shm_graph.specs.Reach.{sifted}
-use Rattle.shm_graph.specs.References.{words_of}
-use Rattle.shm_graph.specs.Spots.{spot_at}
-use Rattle.shm_graph.specs.MemoAfterStore.{not_of}
-use Rattle.shm_graph.specs.Views.{view}
+use Rattle.shm_graph.specs.declared.{ask.{Ask.Ask, Me.Me}, spot.Spot.{Spot, TheVariants.{Era, Head, Redo, RedoMore}}}
+use Rattle.shm_graph.specs.declared.memo.{Memo.Memo, Op.TheVariants.Change, ChangeStage.TheVariants.Lowering}
+use Rattle.shm_graph.specs.{declared.memo.Second.TheVariants.{Closed, Open}, Asks.{at_of, seen_of}, Blocks.classes}
+use Rattle.shm_graph.specs.{Events.Event, MemoAfterExchange.{committed, cut, without_made}, Held.{HeldAt, OpTie}}
+use Rattle.shm_graph.specs.{Laws.{Frame, Stands}, Ops.held_over_of, Reach.sifted, References.words_of, Spots.spot_at}
+use Rattle.shm_graph.specs.{MemoAfterStore.not_of, Views.view}
 use Rattle.shm_graph.proofs.States.Holders.{held_over_counted}
 use Rattle.shm_laws.proofs.Keep.{block_not_zero}
-use Rattle.shm_calls.specs.EventWords.{IsEventWord}
-use Rattle.shm_calls.specs.Words.{IsWord}
-use Rattle.shm_recover.specs.MendRest.{bare}
-use Rattle.shm_recover.specs.MendLower.{IsCounted}
-use Rattle.shm_recover.specs.MendLower.Control.{lowered}
+use Rattle.shm_calls.specs.{EventWords.IsEventWord, Words.IsWord}
+use Rattle.shm_recover.specs.{MendRest.bare, MendLower.{IsCounted, Control.lowered}}
 
 -- ---- a word step leaves besides what the held state before it shows
 

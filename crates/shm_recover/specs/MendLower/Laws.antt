@@ -1,53 +1,31 @@
 -- what is owed of the second half of a change that a recoverer makes
 use Rattle.std.proofs.Common.{◌≡◌, ◌≢◌, ℕ, ◌+◌, ◌-◌, ◌<◌, ◌≤◌, refl, sym, ap, ◌∙◌, subst, arith, Bool, true, false, cond, eqb, ◌&&◌, List, [], ◌∷◌, ◌++◌, length, length-append}
-use Rattle.std.specs.Prelude.{nat_lt, ◌⊎◌}
-use Rattle.std.specs.List.{filter}
 use Rattle.std.proofs.lemmas.Bool.{cond-false, cond-true, eq-eqb, eqb-false, eqb-true, lt-ltb, ltb-false, ltb-true, ne_eqb}
+use Rattle.std.specs.{Prelude.{nat_lt, ◌⊎◌}, List.filter}
+use Rattle.shm_words.specs.{Headers.header_of, Layout.address}
 use Rattle.shm_words.specs.declared.place.Place.TheVariants as place
-use Rattle.shm_words.specs.Headers.{header_of}
-use Rattle.shm_words.specs.Layout.{address}
-use Rattle.shm_graph.specs.declared.ask.Ask.TheVariants as ask
-use Rattle.shm_graph.specs.declared.ask.Me.{Me}
-use Rattle.shm_graph.specs.declared.spot.Spot.{Spot}
-use Rattle.shm_graph.specs.declared.spot.Spot.TheVariants as spot
-use Rattle.shm_graph.specs.declared.spot.Spot.TheVariants.{Era}
-use Rattle.shm_graph.specs.declared.memo.Fact.TheVariants.{Header as HeaderRead}
-use Rattle.shm_graph.specs.declared.memo.Memo.{Memo}
-use Rattle.shm_graph.specs.declared.memo.Op.{Op}
-use Rattle.shm_graph.specs.declared.memo.Op.TheVariants.{Change}
-use Rattle.shm_graph.specs.declared.memo.ChangeStage.TheVariants.{Lowering}
-use Rattle.shm_graph.specs.declared.memo.Second.TheVariants.{Open}
-use Rattle.shm_graph.specs.Asks.{Trail, IsWithin, failed, pair}
-use Rattle.shm_graph.specs.Core.{core}
-use Rattle.shm_graph.specs.Events.{ChangeDown, Event, Nothing as NoEvent}
-use Rattle.shm_graph.specs.MemoAfterExchange.{committed}
-use Rattle.shm_graph.specs.Blocks.{classes}
-use Rattle.shm_graph.specs.Spots.{same_spot, spot_at}
-use Rattle.shm_graph.specs.MemoAfterStore.{is_lowering, op_closed}
-use Rattle.shm_graph.specs.Tells.{is_event}
+use Rattle.shm_graph.specs.declared.{ask.Me.Me, spot.Spot.{Spot, TheVariants.Era}}
+use Rattle.shm_graph.specs.declared.memo.{Fact.TheVariants.Header as HeaderRead, Memo.Memo, Op.{Op, TheVariants.Change}}
+use Rattle.shm_graph.specs.declared.memo.{ChangeStage.TheVariants.Lowering, Second.TheVariants.Open}
+use Rattle.shm_graph.specs.{Asks.{Trail, IsWithin, failed, pair}, Core.core}
+use Rattle.shm_graph.specs.{Events.{ChangeDown, Event, Nothing as NoEvent}, MemoAfterExchange.committed, Blocks.classes}
+use Rattle.shm_graph.specs.{Spots.{same_spot, spot_at}, MemoAfterStore.{is_lowering, op_closed}, Tells.is_event}
 use Rattle.shm_graph.specs.Views.{own_word}
+use Rattle.shm_graph.specs.declared.ask.Ask.TheVariants as ask
+use Rattle.shm_graph.specs.declared.spot.Spot.TheVariants as spot
 use Rattle.shm_graph.proofs.Spots.Spotting.{same_spot_self}
-use Rattle.shm_calls.specs.CallTells.{failed-append, within_more}
-use Rattle.shm_calls.specs.EventWords.{event_part, event_part_laws}
-use Rattle.shm_calls.specs.Grown.{grown, grown_laws}
-use Rattle.shm_laws.specs.OwnWords.{Closes}
-use Rattle.shm_calls.specs.Parts.{PartLaws}
-use Rattle.shm_calls.specs.Plans.{Follows, PlanLaws, PlanStays}
+use Rattle.shm_calls.specs.{CallTells.{failed-append, within_more}, EventWords.{event_part, event_part_laws}}
+use Rattle.shm_calls.specs.{Grown.{grown, grown_laws}, Parts.PartLaws, Plans.{Follows, PlanLaws, PlanStays}}
 use Rattle.shm_calls.specs.Words.{IsWord, word_control, word_part, word_part_laws}
-use Rattle.shm_count.specs.Step.Control.{row_address}
-use Rattle.shm_count.specs.CommitTest.StepTrail.{one_read, read_part_laws}
-use Rattle.shm_steps.specs.Conditions.{IsHere}
-use Rattle.shm_steps.specs.Raising.{OwnRowShows}
-use Rattle.shm_steps.specs.WordParts.{FormerLowered, HeaderSeen, former_event}
-use Rattle.shm_steps.proofs.Cores.{here_same}
-use Rattle.shm_steps.proofs.Words.Blocks.{header_see, recoverer_goes_on}
-use Rattle.shm_steps.proofs.Words.FormerBlock.{lower_former}
+use Rattle.shm_laws.specs.OwnWords.{Closes}
+use Rattle.shm_count.specs.{Step.Control.row_address, CommitTest.StepTrail.{one_read, read_part_laws}}
+use Rattle.shm_steps.specs.{Conditions.IsHere, Raising.OwnRowShows, WordParts.{FormerLowered, HeaderSeen, former_event}}
+use Rattle.shm_steps.proofs.{Cores.here_same, Words.{Blocks.{header_see, recoverer_goes_on}, FormerBlock.lower_former}}
 use Rattle.shm_steps.proofs.Words.Own.{era_close_lowering, era_load, row_store}
 use Rattle.shm_recover.specs.declared.mend_lower.MendLowerPoint.{MendLowerPoint}
 use Rattle.shm_recover.specs.declared.mend_lower.MendLowerPoint.TheVariants.{Header, Row, Show, Exchange, Close}
-use Rattle.shm_recover.specs.declared.mend_lower.MendLowerState.{MendLowerState}
-use Rattle.shm_recover.specs.MendRest.{bare, is_row}
-use Rattle.shm_recover.specs.MendLower.Control.{found, is_header, lowered, lowering, lowering_ask, lowering_call}
+use Rattle.shm_recover.specs.{declared.mend_lower.MendLowerState.MendLowerState, MendRest.{bare, is_row}}
+use Rattle.shm_recover.specs.MendLower.Control.{found, is_header, lowered, lowering, lowering_ask, lowering_call, lowering_steered}
 use Rattle.shm_recover.specs.MendLower.{ExchangeFound, HasFound, IsCounted, IsLowered, IsSame, LoweringFound, LoweringKnows, MayLowerDead, lowering_part, lowering_plan}
 use Rattle.shm_recover.specs.MendLower.Headers.{IsLowering, event_besides, half_block, half_committed, half_counted, lowered_header, word_besides}
 
@@ -337,7 +315,7 @@ lowering_laws =
         record {
           same_me = alike (λ (x : MendLowerState). x.me) (eqb n m.header) p (found m n) refl refl;
           same_line = refl;
-          same_start = alike lowering_plan.start (eqb n m.header) p (found m n) refl refl;
+          same_start = alike lowering_steered.start (eqb n m.header) p (found m n) refl refl;
           started = λ e. alike (λ (x : MendLowerState). is_header x.point) (eqb n m.header) p (found m n) refl (later (eqb (header_of n).client m.me.who) Exchange Row refl refl);
         }
     stays m Close n = record { same_me = refl; same_line = refl; same_start = refl; started = λ e. absurd (cc) }

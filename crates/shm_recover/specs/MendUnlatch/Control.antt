@@ -1,11 +1,10 @@
 -- the control of giving back a latch by a recoverer
-use Rattle.std.specs.Prelude.{ℕ, ◌+◌, ◌-◌, ◌%◌, ◌<◌, Bool, true, false, ◌==◌, if◌then◌else◌, Option, Some, None}
-use Rattle.shm_words.specs.declared.place.Place.TheVariants as place
+use Rattle.std.specs.Prelude.{ℕ, ◌+◌, ◌-◌, ◌%◌, ◌<◌, Bool, true, false, ◌==◌, if◌then◌else◌, Option, Some, None, []}
 use Rattle.shm_words.specs.Layout.{GeometryFits, address}
-use Rattle.shm_graph.specs.declared.ask.Ask.{Ask}
+use Rattle.shm_words.specs.declared.place.Place.TheVariants as place
+use Rattle.shm_graph.specs.declared.ask.{Ask.Ask, Me.Me}
 use Rattle.shm_graph.specs.declared.ask.Ask.TheVariants as ask
-use Rattle.shm_graph.specs.declared.ask.Me.{Me}
-use Rattle.shm_calls.specs.declared.word.Word.{Word}
+use Rattle.shm_calls.specs.{declared.word.Word.Word, Steering.Steered}
 use Rattle.shm_recover.specs.declared.mend_unlatch.MendUnlatchPoint.{MendUnlatchPoint}
 use Rattle.shm_recover.specs.declared.mend_unlatch.MendUnlatchPoint.TheVariants.{Whose, Look, Give, Back}
 use Rattle.shm_recover.specs.declared.mend_unlatch.MendUnlatchState.{MendUnlatchState}
@@ -44,3 +43,16 @@ pub record UnlatchingInRange (m : MendUnlatchState) : Type 0 where
   pub geometry : GeometryFits m.me.geometry
   pub who : m.me.who < m.me.geometry.clients
   pub author : m.author < m.me.geometry.clients
+
+-- what the plan does: its identity and its line, its calls, and where it goes by their answers
+abbrev pub unlatching_steered : Steered MendUnlatchState Word ℕ (Unit {0})
+unlatching_steered =
+    record {
+      me = λ m. m.me;
+      line = λ m. [];
+      first = λ m. is_whose m.point;
+      start = λ m. record m { author = 0; point = Whose };
+      call = λ m. unlatching_call m m.point;
+      after = λ m. unlatching_after m m.point;
+      turns = λ m. unlatching_turns m.point;
+    }

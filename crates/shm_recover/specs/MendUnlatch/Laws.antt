@@ -1,35 +1,19 @@
 -- what is owed of giving back a latch by a recoverer
 use Rattle.std.proofs.Common.{◌≡◌, ◌≢◌, ℕ, ◌+◌, ◌%◌, ◌<◌, ◌≤◌, refl, sym, ap, ◌∙◌, subst, arith, Bool, true, false, cond, eqb, List, [], ◌++◌}
+use Rattle.std.proofs.{Math.Nat.mod-eq_of_lt, lemmas.Bool.{cond-false, cond-true, eq-eqb, eqb-false, eqb-true}}
 use Rattle.std.specs.Prelude.{◌-◌, Option, Some, None}
-use Rattle.std.proofs.Math.Nat.{mod-eq_of_lt}
-use Rattle.std.proofs.lemmas.Bool.{cond-false, cond-true, eq-eqb, eqb-false, eqb-true}
-use Rattle.shm_graph.specs.declared.ask.Me.{Me}
-use Rattle.shm_graph.specs.declared.spot.Spot.{Spot}
+use Rattle.shm_graph.specs.declared.{ask.Me.Me, spot.Spot.{Spot, TheVariants.{Hold, Latch}}, memo.Memo.Memo}
+use Rattle.shm_graph.specs.{declared.memo.Op.TheVariants.Nothing, Agents.recovers, Asks.{Trail, IsWithin}, Core.core}
+use Rattle.shm_graph.specs.{Events.Event, Laws.Outcome, Ops.IsUncommitted, Spots.same_spot, Views.own_word}
 use Rattle.shm_graph.specs.declared.spot.Spot.TheVariants as spot
-use Rattle.shm_graph.specs.declared.spot.Spot.TheVariants.{Hold, Latch}
-use Rattle.shm_graph.specs.declared.memo.Memo.{Memo}
-use Rattle.shm_graph.specs.declared.memo.Op.TheVariants.{Nothing}
-use Rattle.shm_graph.specs.Agents.{recovers}
-use Rattle.shm_graph.specs.Asks.{Trail, IsWithin}
-use Rattle.shm_graph.specs.Core.{core}
-use Rattle.shm_graph.specs.Events.{Event}
-use Rattle.shm_graph.specs.Laws.{Outcome}
-use Rattle.shm_graph.specs.Ops.{IsUncommitted}
-use Rattle.shm_graph.specs.Spots.{same_spot}
-use Rattle.shm_graph.specs.Views.{own_word}
 use Rattle.shm_graph.proofs.Spots.Spotting.{same_spot_self}
-use Rattle.shm_calls.specs.CallTells.{within_more}
-use Rattle.shm_calls.specs.Parts.{IsHeld}
-use Rattle.shm_calls.specs.Plans.{Follows, PlanLaws, PlanStays}
+use Rattle.shm_calls.specs.{CallTells.within_more, Parts.IsHeld, Plans.{Follows, PlanLaws, PlanStays}}
 use Rattle.shm_calls.specs.Words.{WordLeaves, word_control, word_part_laws}
-use Rattle.shm_steps.proofs.Cores.{here_same}
-use Rattle.shm_steps.proofs.Words.Own.{hold_end, hold_store}
-use Rattle.shm_steps.proofs.Words.Shared.{latch_give, latch_load}
+use Rattle.shm_steps.proofs.{Cores.here_same, Words.{Own.{hold_end, hold_store}, Shared.{latch_give, latch_load}}}
 use Rattle.shm_recover.specs.declared.mend_unlatch.MendUnlatchPoint.{MendUnlatchPoint}
 use Rattle.shm_recover.specs.declared.mend_unlatch.MendUnlatchPoint.TheVariants.{Whose, Look, Give, Back}
-use Rattle.shm_recover.specs.declared.mend_unlatch.MendUnlatchState.{MendUnlatchState}
-use Rattle.shm_recover.specs.MendRest.{bare, is_hold}
-use Rattle.shm_recover.specs.MendUnlatch.Control.{is_whose, unlatching, unlatching_ask, unlatching_call}
+use Rattle.shm_recover.specs.{declared.mend_unlatch.MendUnlatchState.MendUnlatchState, MendRest.{bare, is_hold}}
+use Rattle.shm_recover.specs.MendUnlatch.Control.{is_whose, unlatching, unlatching_ask, unlatching_call, unlatching_steered}
 use Rattle.shm_recover.specs.MendUnlatch.{MayUnlatchDead, UnlatchingFound, UnlatchingKnows, Unlatched, unlatching_part, unlatching_plan}
 
 -- ---- what a held state shows of the latch
@@ -99,7 +83,7 @@ unlatching_laws =
     stays m Whose n =
         let p : MendUnlatchState = record m { point = Whose } in
         let q : MendUnlatchState = record m { author = (n - 1) % m.me.geometry.clients; point = Look } in
-        record { same_me = alike (λ (x : MendUnlatchState). x.me) (eqb n 0) p q refl refl; same_line = refl; same_start = alike unlatching_plan.start (eqb n 0) p q refl refl; started = going p ((n - 1) % m.me.geometry.clients) (eqb n 0) }
+        record { same_me = alike (λ (x : MendUnlatchState). x.me) (eqb n 0) p q refl refl; same_line = refl; same_start = alike unlatching_steered.start (eqb n 0) p q refl refl; started = going p ((n - 1) % m.me.geometry.clients) (eqb n 0) }
     stays m Look n = record { same_me = refl; same_line = refl; same_start = refl; started = λ e. later (eqb n (m.me.who + 1)) }
       where
         later : (q : Bool) → is_whose (cond q Give Back) ≡ false

@@ -1,37 +1,22 @@
 -- the control of a recovery: which call comes next, and where it goes by what that call answered
 use Rattle.std.specs.Prelude.{ℕ, ◌<◌, Bool, true, false, ◌==◌, if◌then◌else◌, Option, Some, None, Result, Ok, Err, List, [], ◌∷◌}
 use Rattle.shm_words.specs.Layout.{GeometryFits}
-use Rattle.shm_graph.specs.declared.ask.Me.{Me}
-use Rattle.shm_graph.specs.Laws.{Control}
-use Rattle.shm_calls.specs.declared.calls.Calls.{Calls}
-use Rattle.shm_calls.specs.declared.or.Or.{Or}
-use Rattle.shm_calls.specs.declared.or.Or.TheVariants.{First, Second}
-use Rattle.shm_calls.specs.declared.word.Word.{Word}
-use Rattle.shm_calls.specs.CallsControl.{calls_control, calls_of}
-use Rattle.shm_calls.specs.Either.{or_control}
-use Rattle.shm_calls.specs.Words.{word_control}
+use Rattle.shm_graph.specs.{declared.ask.Me.Me, Laws.Control}
+use Rattle.shm_calls.specs.declared.{calls.Calls.Calls, or.Or.{Or, TheVariants.{First, Second}}, word.Word.Word}
+use Rattle.shm_calls.specs.{CallsControl.{calls_control, calls_of}, Either.or_control, Words.word_control}
+use Rattle.shm_calls.specs.Steering.{Steered}
 use Rattle.shm_count.specs.declared.answer.EraSpent.{EraSpent}
 use Rattle.shm_ref.specs.declared.drop_roots.RootsState.{RootsState}
-use Rattle.shm_ref.specs.DropRoots.Control.{RootsCall, drop_root, dropping_roots}
-use Rattle.shm_ref.specs.DropRoots.{roots_plan}
-use Rattle.shm_recover.specs.declared.finish_takes.FinishState.{FinishState}
-use Rattle.shm_recover.specs.declared.give_up.GiveState.{GiveState}
-use Rattle.shm_recover.specs.declared.mend.MendState.{MendState}
-use Rattle.shm_recover.specs.declared.recover.RecoverPoint.{RecoverPoint}
+use Rattle.shm_ref.specs.DropRoots.Control.{RootsCall, drop_root, dropping_roots, roots_steered}
+use Rattle.shm_recover.specs.declared.{finish_takes.FinishState.FinishState, give_up.GiveState.GiveState}
+use Rattle.shm_recover.specs.declared.{mend.MendState.MendState, recover.RecoverPoint.RecoverPoint}
 use Rattle.shm_recover.specs.declared.recover.RecoverPoint.TheVariants.{Mend, Roots, Back, Takes, Scan, Give}
-use Rattle.shm_recover.specs.declared.recover.RecoverState.{RecoverState}
-use Rattle.shm_recover.specs.declared.scan.ScanState.{ScanState}
-use Rattle.shm_recover.specs.declared.take_back.BackState.{BackState}
-use Rattle.shm_recover.specs.FinishTakes.Control.{finishing}
-use Rattle.shm_recover.specs.FinishTakes.{finish_plan}
-use Rattle.shm_recover.specs.GiveUp.Control.{giving_up}
-use Rattle.shm_recover.specs.GiveUp.{give_plan}
-use Rattle.shm_recover.specs.Mend.Control.{MendAnswer, MendCall, mend_parts, mending}
-use Rattle.shm_recover.specs.Mend.{mend_plan}
-use Rattle.shm_recover.specs.Scan.Control.{ScanAnswer, ScanCall, scan_parts, scanning}
-use Rattle.shm_recover.specs.Scan.{scan_plan}
-use Rattle.shm_recover.specs.TakeBack.Control.{BackAnswer, BackCall, back_parts, taking_back}
-use Rattle.shm_recover.specs.TakeBack.{back_plan}
+use Rattle.shm_recover.specs.declared.{recover.RecoverState.RecoverState, scan.ScanState.ScanState}
+use Rattle.shm_recover.specs.{declared.take_back.BackState.BackState, FinishTakes.Control.{finishing, finish_steered}}
+use Rattle.shm_recover.specs.GiveUp.Control.{giving_up, give_steered}
+use Rattle.shm_recover.specs.Mend.Control.{MendAnswer, MendCall, mend_parts, mending, mend_steered}
+use Rattle.shm_recover.specs.Scan.Control.{ScanAnswer, ScanCall, scan_parts, scanning, scan_steered}
+use Rattle.shm_recover.specs.TakeBack.Control.{BackAnswer, BackCall, back_parts, taking_back, back_steered}
 
 -- its calls, and what they answer
 abbrev pub MendCalls : Type 0
@@ -60,22 +45,22 @@ RecoverAnswer = Or (Unit {0}) (Or (Result (Unit {0}) EraSpent) (Or (Result (Unit
 
 -- the control of its calls
 abbrev pub mend_control : Control MendCalls (Unit {0})
-mend_control = calls_control mend_parts mend_plan
+mend_control = calls_control mend_parts mend_steered
 
 abbrev pub roots_control : Control RootsCalls (Result (Unit {0}) EraSpent)
-roots_control = calls_control drop_root roots_plan
+roots_control = calls_control drop_root roots_steered
 
 abbrev pub back_control : Control BackCalls (Result (Unit {0}) EraSpent)
-back_control = calls_control back_parts back_plan
+back_control = calls_control back_parts back_steered
 
 abbrev pub finish_control : Control FinishCalls (Unit {0})
-finish_control = calls_control word_control finish_plan
+finish_control = calls_control word_control finish_steered
 
 abbrev pub scan_control : Control ScanCalls (Result ℕ EraSpent)
-scan_control = calls_control scan_parts scan_plan
+scan_control = calls_control scan_parts scan_steered
 
 abbrev pub give_control : Control GiveCalls (Unit {0})
-give_control = calls_control word_control give_plan
+give_control = calls_control word_control give_steered
 
 abbrev pub recover_parts : Control RecoverCall RecoverAnswer
 recover_parts = or_control mend_control (or_control roots_control (or_control back_control (or_control finish_control (or_control scan_control give_control))))
@@ -89,12 +74,12 @@ abbrev pub recovering : Me → RecoverState
 recovering me = record { me = me; point = Mend }
 
 abbrev pub recover_call_at : RecoverState → RecoverPoint → RecoverCall
-recover_call_at m Mend = First (calls_of mend_plan (mending m.me))
-recover_call_at m Roots = Second (First (calls_of roots_plan (dropping_roots m.me)))
-recover_call_at m Back = Second (Second (First (calls_of back_plan (taking_back m.me))))
-recover_call_at m Takes = Second (Second (Second (First (calls_of finish_plan (finishing m.me)))))
-recover_call_at m Scan = Second (Second (Second (Second (First (calls_of scan_plan (scanning m.me))))))
-recover_call_at m Give = Second (Second (Second (Second (Second (calls_of give_plan (giving_up m.me))))))
+recover_call_at m Mend = First (calls_of mend_steered (mending m.me))
+recover_call_at m Roots = Second (First (calls_of roots_steered (dropping_roots m.me)))
+recover_call_at m Back = Second (Second (First (calls_of back_steered (taking_back m.me))))
+recover_call_at m Takes = Second (Second (Second (First (calls_of finish_steered (finishing m.me)))))
+recover_call_at m Scan = Second (Second (Second (Second (First (calls_of scan_steered (scanning m.me))))))
+recover_call_at m Give = Second (Second (Second (Second (Second (calls_of give_steered (giving_up m.me))))))
 
 -- on to queues; a pool of one client has none
 abbrev pub queues_next : RecoverState → RecoverPoint → RecoverState
@@ -130,3 +115,16 @@ pub record RecoverInRange (m : RecoverState) : Type 0 where
   pub geometry : GeometryFits m.me.geometry
   pub who : m.me.who < m.me.geometry.clients
   pub queues : HasQueuesAt m.me m.point
+
+-- what the plan does: its identity and its line, its calls, and where it goes by their answers
+abbrev pub recover_steered : Steered RecoverState RecoverCall RecoverAnswer (Result (Unit {0}) EraSpent)
+recover_steered =
+    record {
+      me = λ m. m.me;
+      line = λ m. recover_line;
+      first = λ m. is_mend m.point;
+      start = λ m. record m { point = Mend };
+      call = λ m. recover_call_at m m.point;
+      after = recover_after;
+      turns = λ m. recover_turns;
+    }

@@ -1,69 +1,41 @@
 -- what is owed of a recovery: each call leads on, to the next one or to what is left
 use Rattle.std.proofs.Common.{◌≡◌, ◌≢◌, ℕ, ◌+◌, ◌*◌, ◌-◌, ◌^◌, ◌<◌, ◌≤◌, ◌⊎◌, refl, sym, ap, ◌∙◌, subst, arith, Bool, true, false, List, [], ◌++◌, append_assoc, append-nil, length, inl, inr}
-use Rattle.std.specs.Prelude.{◌==◌, if◌then◌else◌, None, Ok, Err, slice_index, slice_index_or}
-use Rattle.std.specs.List.{All, Contains}
 use Rattle.std.proofs.lemmas.Bool.{cases_lt, eq-eqb, eqb-false, eqb-true}
-use Rattle.shm_recover.specs.Costs.{recovery_most}
-use Rattle.shm_ref.specs.Costs.{tear_sum}
-use Rattle.shm_graph.specs.Bounds.{redo_steps, tear_steps}
-use Rattle.shm_graph.specs.declared.ask.Me.{Me}
-use Rattle.shm_graph.specs.declared.spot.Spot.{Spot}
-use Rattle.shm_graph.specs.declared.spot.Spot.TheVariants.{Era, Hold, Home, QueueHead, Root, Tail}
-use Rattle.shm_graph.specs.Spots.{same_spot}
-use Rattle.shm_graph.specs.declared.memo.Memo.{Memo}
-use Rattle.shm_graph.specs.declared.memo.Op.TheVariants.{Nothing}
-use Rattle.shm_graph.specs.declared.memo.Status.{Status as AStatus}
-use Rattle.shm_graph.specs.declared.memo.Status.TheVariants as status
-use Rattle.shm_graph.specs.Asks.{Trail, IsWithin}
-use Rattle.shm_graph.specs.Events.{Event}
-use Rattle.shm_graph.specs.Held.{is_loose}
-use Rattle.shm_graph.specs.Views.{own_word}
-use Rattle.shm_steps.specs.Reparting.{map_in}
-use Rattle.shm_calls.specs.declared.or.Or.TheVariants.{First, Second}
-use Rattle.shm_calls.specs.CallTells.{within_more}
-use Rattle.shm_calls.specs.CallsPart.{calls_part, calls_part_laws}
-use Rattle.shm_calls.specs.Either.{or_control, or_part, or_part_laws}
-use Rattle.shm_calls.specs.Parts.{IsHeld}
-use Rattle.shm_calls.specs.Plans.{PlanLaws, PlanStays, IsCall, Follows}
-use Rattle.shm_calls.specs.Words.{word_control}
-use Rattle.shm_count.specs.declared.answer.EraSpent.{EraSpent}
-use Rattle.shm_count.specs.Roots.{rest}
-use Rattle.shm_count.specs.Tear.Memos.{is_lasting}
-use Rattle.shm_count.specs.Tear.Events.{Visit, frees}
-use Rattle.shm_ref.specs.DropRoots.Control.{drop_root}
-use Rattle.shm_ref.specs.DropRoots.{AreGone, RootsLeaves, roots_plan}
-use Rattle.shm_ref.specs.DropRoots.Laws.{roots_begin}
-use Rattle.shm_ref.specs.Leaving.{frees-append}
-use Rattle.shm_ref.specs.Lefts.{MayDrop, is_root_of}
-use Rattle.shm_recover.specs.declared.recover.RecoverPoint.{RecoverPoint}
+use Rattle.std.specs.{Prelude.{◌==◌, if◌then◌else◌, None, Ok, Err, slice_index, slice_index_or}, List.{All, Contains}}
+use Rattle.shm_recover.specs.{Costs.recovery_most, declared.recover.RecoverPoint.RecoverPoint}
 use Rattle.shm_recover.specs.declared.recover.RecoverPoint.TheVariants.{Mend, Roots, Back, Takes, Scan, Give}
 use Rattle.shm_recover.specs.declared.recover.RecoverState.{RecoverState}
 use Rattle.shm_recover.specs.FinishTakes.{FinishDone, QueueSame, finish_plan, waiting}
 use Rattle.shm_recover.specs.FinishTakes.Laws.{finish_begin, nothing_waits, same_done}
-use Rattle.shm_recover.specs.GiveUp.{GivenUp, MayGiveUp, give_plan}
-use Rattle.shm_recover.specs.GiveUp.Laws.{give_begin}
-use Rattle.shm_recover.specs.Leave.Words.{root_beyond}
-use Rattle.shm_recover.specs.Mend.Control.{mend_parts}
-use Rattle.shm_recover.specs.Mend.{IsMended, MayMend, mend_plan}
-use Rattle.shm_recover.specs.Mend.Laws.{mend_begin}
-use Rattle.shm_recover.specs.Recover.Control.{RecoverAnswer, back_control, finish_control, give_control, mend_control, queues_next, recover_call_at, recover_parts, roots_control, scan_control, is_mend}
+use Rattle.shm_recover.specs.{GiveUp.{GivenUp, MayGiveUp, give_plan, Laws.give_begin}, Leave.Words.root_beyond}
+use Rattle.shm_recover.specs.Mend.{Control.mend_parts, IsMended, MayMend, mend_plan, Laws.mend_begin}
+use Rattle.shm_recover.specs.Recover.Control.{RecoverAnswer, back_control, finish_control, give_control, mend_control, queues_next, recover_call_at, recover_parts, roots_control, scan_control, is_mend, recover_steered}
 use Rattle.shm_recover.specs.Recover.Losses.{AreLosses, backs_losses, more_losses, no_losses, roots_losses, scan_losses}
 use Rattle.shm_recover.specs.Recover.{AreRootless, AreSent, AreTaken, HasCome, IsRecovering, OnlyLoses, RecoverKnows, RecoverStopped, Recovered, SameTakes, is_kept, lasting, recover_part, recover_plan}
-use Rattle.shm_recover.specs.Scan.Control.{scan_parts}
-use Rattle.shm_recover.specs.Scan.{ScanDone, ScanStopped, scan_plan}
-use Rattle.shm_recover.specs.Scan.Laws.{scan_begin}
-use Rattle.shm_recover.specs.TakeBack.Control.{back_parts, taking_back}
-use Rattle.shm_recover.specs.TakeBack.{BackDone, BackLeaves, back_plan}
-use Rattle.shm_recover.specs.TakeBack.Laws.{back_begin}
-use Rattle.shm_recover.specs.TakeBack.Memos.{nothing_unsent}
+use Rattle.shm_recover.specs.Scan.{Control.scan_parts, ScanDone, ScanStopped, scan_plan, Laws.scan_begin}
+use Rattle.shm_recover.specs.TakeBack.{Control.{back_parts, taking_back}, BackDone, BackLeaves, back_plan}
+use Rattle.shm_recover.specs.TakeBack.{Laws.back_begin, Memos.nothing_unsent}
+use Rattle.shm_ref.specs.{Costs.tear_sum, DropRoots.{Control.drop_root, AreGone, RootsLeaves, roots_plan}}
+use Rattle.shm_ref.specs.{DropRoots.Laws.roots_begin, Leaving.frees-append, Lefts.{MayDrop, is_root_of}}
+use Rattle.shm_graph.specs.{Bounds.{redo_steps, tear_steps}, declared.{ask.Me.Me, spot.Spot.Spot}}
+use Rattle.shm_graph.specs.declared.{spot.Spot.TheVariants.{Era, Hold, Home, QueueHead, Root, Tail}, memo.Memo.Memo}
+use Rattle.shm_graph.specs.{declared.memo.{Op.TheVariants.Nothing, Status.Status as AStatus}, Spots.same_spot}
+use Rattle.shm_graph.specs.{Asks.{Trail, IsWithin}, Events.Event, Held.is_loose, Views.own_word}
+use Rattle.shm_graph.specs.declared.memo.Status.TheVariants as status
+use Rattle.shm_steps.specs.Reparting.{map_in}
+use Rattle.shm_calls.specs.{declared.or.Or.TheVariants.{First, Second}, CallTells.within_more}
+use Rattle.shm_calls.specs.{CallsPart.{calls_part, calls_part_laws}, Either.{or_control, or_part, or_part_laws}}
+use Rattle.shm_calls.specs.{Parts.IsHeld, Plans.{PlanLaws, PlanStays, IsCall, Follows}, Words.word_control}
+use Rattle.shm_count.specs.{declared.answer.EraSpent.EraSpent, Roots.rest, Tear.Memos.is_lasting}
+use Rattle.shm_count.specs.Tear.Events.{Visit, frees}
 
 -- ---- the control
 
 -- what both states after a call are alike in
-queues_stays : (m : RecoverState) (y : RecoverPoint) → is_mend y ≡ false → (recover_plan.me (queues_next m y) ≡ m.me) × (recover_plan.start (queues_next m y) ≡ recover_plan.start m) × (is_mend (queues_next m y).point ≡ false)
+queues_stays : (m : RecoverState) (y : RecoverPoint) → is_mend y ≡ false → (recover_steered.me (queues_next m y) ≡ m.me) × (recover_steered.start (queues_next m y) ≡ recover_steered.start m) × (is_mend (queues_next m y).point ≡ false)
 queues_stays m y later = go (m.me.geometry.clients == 1)
   where
-    go : (q : Bool) → let x : RecoverState = if q then record m { point = Scan } else record m { point = y } in (recover_plan.me x ≡ m.me) × (recover_plan.start x ≡ recover_plan.start m) × (is_mend x.point ≡ false)
+    go : (q : Bool) → let x : RecoverState = if q then record m { point = Scan } else record m { point = y } in (recover_steered.me x ≡ m.me) × (recover_steered.start x ≡ recover_steered.start m) × (is_mend x.point ≡ false)
     go true = (refl, refl, refl)
     go false = (refl, refl, later)
 

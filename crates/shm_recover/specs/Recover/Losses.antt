@@ -1,15 +1,12 @@
 -- events that lose references and free blocks
 use Rattle.std.proofs.Common.{◌≡◌, ℕ, zero, suc, refl, sym, subst, List, [], ◌∷◌, ◌++◌, inl, inr, ◌⊎◌}
-use Rattle.std.specs.List.{All}
 use Rattle.std.proofs.lemmas.List.Elements.{All-append, All-cons, All-nil}
-use Rattle.shm_graph.specs.declared.memo.Memo.{Memo}
-use Rattle.shm_graph.specs.Events.{Event}
+use Rattle.std.specs.List.{All}
+use Rattle.shm_graph.specs.{declared.memo.Memo.Memo, Events.Event}
 use Rattle.shm_graph.specs.Events as event
-use Rattle.shm_count.specs.Roots.{root_word}
-use Rattle.shm_count.specs.Tear.Events.{Walk, Freed, Kept, Fell, Walks, events_of}
+use Rattle.shm_count.specs.{Roots.root_word, Tear.Events.{Walk, Freed, Kept, Fell, Walks, events_of}}
 use Rattle.shm_ref.specs.Lefts.{RootEvents, RootsEvents}
-use Rattle.shm_recover.specs.Scan.{ScanEvents}
-use Rattle.shm_recover.specs.TakeBack.{BackEvents, BacksEvents}
+use Rattle.shm_recover.specs.{Scan.ScanEvents, TakeBack.{BackEvents, BacksEvents}}
 
 -- a reference of c is lost, or a block is freed by c
 abbrev pub IsLoss : ℕ → Event → Type 0

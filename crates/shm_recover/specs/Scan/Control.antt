@@ -1,23 +1,14 @@
 -- the control of a scan: which call comes next, and where it goes by what that call answered
-use Rattle.std.specs.Prelude.{ℕ, ◌+◌, ◌*◌, ◌%◌, ◌^◌, ◌<◌, Bool, true, false, ◌==◌, ◌&&◌, nat_lt, if◌then◌else◌, Option, Some, None, Result, Ok, Err}
+use Rattle.std.specs.Prelude.{ℕ, ◌+◌, ◌*◌, ◌%◌, ◌^◌, ◌<◌, Bool, true, false, ◌==◌, ◌&&◌, nat_lt, if◌then◌else◌, Option, Some, None, Result, Ok, Err, []}
+use Rattle.shm_words.specs.{Headers.header_of, Layout.{GeometryFits, address, bodies}}
 use Rattle.shm_words.specs.declared.place.Place.TheVariants as place
-use Rattle.shm_words.specs.Headers.{header_of}
-use Rattle.shm_words.specs.Layout.{GeometryFits, address, bodies}
-use Rattle.shm_graph.specs.declared.ask.Ask.{Ask}
+use Rattle.shm_graph.specs.{declared.ask.{Ask.Ask, Me.Me}, Laws.Control}
 use Rattle.shm_graph.specs.declared.ask.Ask.TheVariants as ask
-use Rattle.shm_graph.specs.declared.ask.Me.{Me}
-use Rattle.shm_graph.specs.Laws.{Control}
-use Rattle.shm_calls.specs.declared.or.Or.{Or}
-use Rattle.shm_calls.specs.declared.or.Or.TheVariants.{First, Second}
-use Rattle.shm_calls.specs.declared.word.Word.{Word}
-use Rattle.shm_calls.specs.Either.{or_control}
-use Rattle.shm_calls.specs.Words.{word_control}
-use Rattle.shm_count.specs.declared.answer.EraSpent.{EraSpent}
-use Rattle.shm_count.specs.declared.tear_point.TearPoint.TheVariants.{Begin}
-use Rattle.shm_count.specs.declared.tear_point.TearState.{TearState}
-use Rattle.shm_count.specs.Tear.Control.{tear_control}
-use Rattle.shm_recover.specs.declared.scan.ScanPoint.{ScanPoint}
-use Rattle.shm_recover.specs.declared.scan.ScanPoint.TheVariants.{Page, Header, Tear}
+use Rattle.shm_calls.specs.{declared.{or.Or.{Or, TheVariants.{First, Second}}, word.Word.Word}, Either.or_control}
+use Rattle.shm_calls.specs.{Words.word_control, Steering.Steered}
+use Rattle.shm_count.specs.declared.{answer.EraSpent.EraSpent, tear_point.TearPoint.TheVariants.Begin}
+use Rattle.shm_count.specs.{declared.tear_point.TearState.TearState, Tear.Control.tear_control}
+use Rattle.shm_recover.specs.declared.scan.ScanPoint.{ScanPoint, TheVariants.{Page, Header, Tear}}
 use Rattle.shm_recover.specs.declared.scan.ScanState.{ScanState}
 
 -- its calls, and what they answer
@@ -111,3 +102,16 @@ pub record ScanInRange (m : ScanState) : Type 0 where
   pub page : m.page < 16
   pub class : m.class < 64
   pub offset : m.offset < 128
+
+-- what the plan does: its identity and its line, its calls, and where it goes by their answers
+abbrev pub scan_steered : Steered ScanState ScanCall ScanAnswer (Result ℕ EraSpent)
+scan_steered =
+    record {
+      me = λ m. m.me;
+      line = λ m. [];
+      first = is_first;
+      start = λ m. record m { segment = 0; page = 0; class = 0; offset = 0; found = 0; point = Page };
+      call = λ m. scan_call_at m m.point;
+      after = scan_after;
+      turns = scan_turns;
+    }

@@ -1,50 +1,27 @@
 -- what is owed of a scan: each call leads on, to the next one or to what is left
 use Rattle.std.proofs.Common.{◌≡◌, ◌≢◌, ℕ, zero, suc, ◌+◌, ◌*◌, ◌-◌, ◌/◌, ◌%◌, ◌^◌, ◌<◌, ◌≤◌, ◌⊎◌, refl, sym, ap, ◌∙◌, subst, arith, Bool, true, false, not, ◌&&◌, List, [], ◌∷◌, ◌++◌, append-nil, length, inl, inr}
-use Rattle.std.specs.Prelude.{◌==◌, nat_lt, if◌then◌else◌, Option, Some, None, Result, Ok, Err}
-use Rattle.std.specs.List.{Contains}
 use Rattle.std.proofs.Math.Nat.{mod-eq_of_lt}
 use Rattle.std.proofs.lemmas.Bool.{and_from, and_parts, cases_eq, cases_lt, eq-eqb, eqb-false, eqb-true, ltb-false, ltb-true, ne_eqb, true≢false}
 use Rattle.std.proofs.lemmas.List.Elements.{Contains-append_right}
+use Rattle.std.specs.{Prelude.{◌==◌, nat_lt, if◌then◌else◌, Option, Some, None, Result, Ok, Err}, List.Contains}
 use Rattle.shm_words.proofs.Placing.{total_small}
-use Rattle.shm_words.specs.Classes.{IsClass}
-use Rattle.shm_words.specs.Headers.{header_of}
-use Rattle.shm_words.specs.Layout.{bodies}
-use Rattle.shm_ref.specs.Costs.{tear_sum}
-use Rattle.shm_graph.specs.Bounds.{tear_steps}
-use Rattle.shm_graph.specs.declared.ask.Me.{Me}
-use Rattle.shm_graph.specs.declared.memo.Fact.TheVariants.{Class}
-use Rattle.shm_graph.specs.declared.memo.Memo.{Memo}
-use Rattle.shm_graph.specs.declared.spot.Spot.TheVariants.{Era}
-use Rattle.shm_graph.specs.Asks.{Trail}
-use Rattle.shm_graph.specs.Core.{core}
-use Rattle.shm_graph.specs.Events.{Event}
-use Rattle.shm_graph.specs.Held.{IsDying}
-use Rattle.shm_graph.specs.Laws.{Outcome}
-use Rattle.shm_graph.specs.MemoAfterStore.{not_block}
-use Rattle.shm_graph.specs.Views.{own_word}
+use Rattle.shm_words.specs.{Classes.IsClass, Headers.header_of, Layout.bodies}
+use Rattle.shm_ref.specs.{Costs.tear_sum, Leaving.frees-append, Lefts.MayDrop}
+use Rattle.shm_graph.specs.{Bounds.tear_steps, declared.{ask.Me.Me, memo.{Fact.TheVariants.Class, Memo.Memo}}}
+use Rattle.shm_graph.specs.{declared.spot.Spot.TheVariants.Era, Asks.Trail, Core.core, Events.Event, Held.IsDying}
+use Rattle.shm_graph.specs.{Laws.Outcome, MemoAfterStore.not_block, Views.own_word}
 use Rattle.shm_laws.proofs.Keep.{Contains-filter, filter_from}
 use Rattle.shm_steps.proofs.Cores.{here_same}
-use Rattle.shm_calls.specs.declared.or.Or.TheVariants.{First, Second}
-use Rattle.shm_calls.specs.CallTells.{within_more}
-use Rattle.shm_calls.specs.Either.{or_part, or_part_laws}
-use Rattle.shm_calls.specs.Grown.{Grows, grown_laws}
-use Rattle.shm_calls.specs.Parts.{IsHeld}
+use Rattle.shm_calls.specs.{declared.or.Or.TheVariants.{First, Second}, CallTells.within_more}
+use Rattle.shm_calls.specs.{Either.{or_part, or_part_laws}, Grown.{Grows, grown_laws}, Parts.IsHeld}
 use Rattle.shm_calls.specs.Plans.{PlanLaws, PlanStays, IsCall, Follows}
 use Rattle.shm_calls.specs.Words.{word_control, word_part, word_part_laws, WordLeaves}
-use Rattle.shm_count.specs.declared.answer.EraSpent.{EraSpent}
-use Rattle.shm_count.specs.CountParts.{tear_part, tear_part_laws}
-use Rattle.shm_count.specs.Lowering.{stays_rest}
-use Rattle.shm_count.specs.Roots.{rest}
-use Rattle.shm_count.specs.Tear.Control.{tear_control}
-use Rattle.shm_count.specs.Tear.Events.{Visit, frees}
-use Rattle.shm_count.specs.Tear.Memos.{TearStays}
-use Rattle.shm_count.specs.Tear.{Torn, TornPartly, is_outside}
-use Rattle.shm_ref.specs.Leaving.{frees-append}
-use Rattle.shm_ref.specs.Lefts.{MayDrop}
-use Rattle.shm_recover.specs.declared.scan.ScanPoint.{ScanPoint}
-use Rattle.shm_recover.specs.declared.scan.ScanPoint.TheVariants.{Page, Header, Tear}
+use Rattle.shm_count.specs.{declared.answer.EraSpent.EraSpent, CountParts.{tear_part, tear_part_laws}}
+use Rattle.shm_count.specs.{Lowering.stays_rest, Roots.rest, Tear.{Control.tear_control, Events.{Visit, frees}}}
+use Rattle.shm_count.specs.Tear.{Memos.TearStays, Torn, TornPartly, is_outside}
+use Rattle.shm_recover.specs.declared.scan.ScanPoint.{ScanPoint, TheVariants.{Page, Header, Tear}}
 use Rattle.shm_recover.specs.declared.scan.ScanState.{ScanState}
-use Rattle.shm_recover.specs.Scan.Control.{ScanAnswer, block_at, is_first, is_lost, place_in, scan_ask, scan_call_at, scan_parts, words_before}
+use Rattle.shm_recover.specs.Scan.Control.{ScanAnswer, block_at, is_first, is_lost, place_in, scan_ask, scan_call_at, scan_parts, words_before, scan_steered}
 use Rattle.shm_recover.specs.Scan.Words.{LostSeen, PageSeen, by_class, dying_inside, lost_see, next_block, page_see}
 use Rattle.shm_recover.specs.Scan.{IsIn, IsScanning, Lost, ScanDone, ScanEvents, ScanFound, ScanKnows, ScanLeaves, ScanStopped, Scanned, scan_part, scan_plan}
 
@@ -82,7 +59,7 @@ later_segment s = ap (λ (z : Bool). z && true) (ne_eqb (s + 1) 0 (λ e. absurd 
 
 -- what is owed of a state that comes next
 abbrev Stays : ScanState → ScanState → Option (Result ℕ EraSpent) → Type 0
-Stays m y o = (scan_plan.me y ≡ m.me) × (scan_plan.start y ≡ scan_plan.start m) × (o ≡ None → is_first y ≡ false)
+Stays m y o = (scan_steered.me y ≡ m.me) × (scan_steered.start y ≡ scan_steered.start m) × (o ≡ None → is_first y ≡ false)
 
 page_stays : (m : ScanState) → Stays m (page_next m) (page_done m)
 page_stays m = go (nat_lt m.page 15) (m.segment + 1 == m.me.geometry.segments)
@@ -204,7 +181,7 @@ as_many me s q i j n k z r0 r tr es e le h =
 -- a page is done
 module _ (m : ScanState) (r0 r : Memo) (tr : Trail) (es : List Event) (held : IsHeld m.me r) where
   abbrev Next : Option (Result ℕ EraSpent) → ScanState → Type 0
-  Next o x = Outcome o (ScanKnows x x.point r0 r tr es) (ScanLeaves (scan_plan.start m) r0 r tr es)
+  Next o x = Outcome o (ScanKnows x x.point r0 r tr es) (ScanLeaves (scan_steered.start m) r0 r tr es)
 
   abbrev Done : ℕ → Type 0
   Done n = IsScanning m.me m.segment m.page 128 n 33 r0 r tr es
@@ -300,7 +277,7 @@ module _ (m : ScanState) (r0 rs r : Memo) (tr t : Trail) (es ds : List Event) (h
   c = m.me.who
 
   abbrev On : Option (Result ℕ EraSpent) → ScanState → Type 0
-  On o x = Outcome o (ScanKnows x x.point r0 r (tr ++ t) (es ++ ds)) (ScanLeaves (scan_plan.start m) r0 r (tr ++ t) (es ++ ds))
+  On o x = Outcome o (ScanKnows x x.point r0 r (tr ++ t) (es ++ ds)) (ScanLeaves (scan_steered.start m) r0 r (tr ++ t) (es ++ ds))
 
   -- the page's class was read
   page_read : (n : ℕ) → ScanKnows m Page r0 rs tr es → WordLeaves (PageSeen m.me m.segment m.page) (record { me = m.me; ask = scan_ask m Page; over = false }) rs r t ds n → On (if n == 0 then page_done m else None) (if n == 0 then page_next m else record m { class = n % 64; offset = 0; point = Header })

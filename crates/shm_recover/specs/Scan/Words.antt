@@ -1,41 +1,20 @@
 -- the pages and the headers of a pool that a scan goes through: where zero-count blocks of an identity may lie
 use Rattle.std.proofs.Common.{◌≡◌, ◌≢◌, ℕ, ◌+◌, ◌-◌, ◌/◌, ◌%◌, ◌<◌, ◌≤◌, ◌⊎◌, refl, sym, ap, ◌∙◌, subst, arith, Bool, true, false, cond, [], inl, inr}
+use Rattle.std.proofs.lemmas.{Bool.{and_from, cases_eq, cases_lt, lt-ltb}, List.Elements.All-contains}
 use Rattle.std.specs.List.{Contains}
-use Rattle.std.proofs.lemmas.Bool.{and_from, cases_eq, cases_lt, lt-ltb}
-use Rattle.std.proofs.lemmas.List.Elements.{All-contains}
+use Rattle.shm_words.specs.{Classes.IsClass, Headers.header_of, Layout.{address, bodies, total_of}}
 use Rattle.shm_words.specs.declared.place.Place.TheVariants as place
-use Rattle.shm_words.specs.Classes.{IsClass}
-use Rattle.shm_words.specs.Headers.{header_of}
-use Rattle.shm_words.specs.Layout.{address, bodies, total_of}
-use Rattle.shm_graph.specs.declared.ask.Ask.{Ask}
-use Rattle.shm_graph.specs.declared.ask.Ask.TheVariants.{Load}
-use Rattle.shm_graph.specs.declared.ask.Me.{Me}
-use Rattle.shm_graph.specs.declared.spot.Spot.{Spot}
-use Rattle.shm_graph.specs.declared.spot.Spot.TheVariants.{Head, Page}
-use Rattle.shm_graph.specs.declared.memo.Fact.TheVariants.{Class}
-use Rattle.shm_graph.specs.declared.memo.Memo.{Memo}
-use Rattle.shm_graph.specs.declared.memo.Op.{Op}
-use Rattle.shm_graph.specs.declared.memo.Op.TheVariants.{Nothing}
-use Rattle.shm_graph.specs.Asks.{at_of, seen_of}
-use Rattle.shm_graph.specs.Blocks.{classes}
-use Rattle.shm_graph.specs.Held.{HeldAt, IsDying}
-use Rattle.shm_graph.specs.Laws.{Frame, Stands}
-use Rattle.shm_graph.specs.MemoAfterRead.{op_refused}
-use Rattle.shm_graph.specs.Spots.{class_at, spot_at}
-use Rattle.shm_graph.specs.Views.{view}
-use Rattle.shm_graph.proofs.Memos.Calls.{FactHolds}
-use Rattle.shm_graph.proofs.Spots.SpotPlaces.{spot-place}
-use Rattle.shm_graph.proofs.Spots.Spotting.{block_within}
+use Rattle.shm_graph.specs.declared.{ask.{Ask.{Ask, TheVariants.Load}, Me.Me}, spot.Spot.Spot}
+use Rattle.shm_graph.specs.declared.{spot.Spot.TheVariants.{Head, Page}, memo.{Fact.TheVariants.Class, Memo.Memo}}
+use Rattle.shm_graph.specs.{declared.memo.Op.{Op, TheVariants.Nothing}, Asks.{at_of, seen_of}, Blocks.classes}
+use Rattle.shm_graph.specs.{Held.{HeldAt, IsDying}, Laws.{Frame, Stands}, MemoAfterRead.op_refused}
+use Rattle.shm_graph.specs.{Spots.{class_at, spot_at}, Views.view}
+use Rattle.shm_graph.proofs.{Memos.Calls.FactHolds, Spots.{SpotPlaces.spot-place, Spotting.block_within}}
 use Rattle.shm_graph.proofs.States.Holders.{held_live_block}
-use Rattle.shm_calls.specs.declared.word.Word.{Word}
-use Rattle.shm_calls.specs.Parts.{IsHeld}
-use Rattle.shm_calls.specs.Words.{IsWord}
+use Rattle.shm_calls.specs.{declared.word.Word.Word, Parts.IsHeld, Words.IsWord}
 use Rattle.shm_steps.specs.WordParts.{HeaderSeen, PageLoaded}
-use Rattle.shm_steps.proofs.Words.Blocks.{header_see, paged_there}
-use Rattle.shm_steps.proofs.Words.Own.{word_for}
-use Rattle.shm_steps.proofs.Words.Shared.{page_load}
-use Rattle.shm_count.specs.DyingBlocks.{live_room}
-use Rattle.shm_count.specs.Step.Control.{IsInside}
+use Rattle.shm_steps.proofs.Words.{Blocks.{header_see, paged_there}, Own.word_for, Shared.page_load}
+use Rattle.shm_count.specs.{DyingBlocks.live_room, Step.Control.IsInside}
 use Rattle.shm_recover.specs.Scan.Control.{place_in, words_before}
 
 -- ---- with what a held state says of the word

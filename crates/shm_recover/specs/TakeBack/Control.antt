@@ -1,28 +1,17 @@
 -- the control of blocks that are taken back: which call comes next, and where it goes by what that call answered
-use Rattle.std.specs.Prelude.{ℕ, ◌+◌, ◌-◌, ◌%◌, ◌<◌, Bool, true, false, ◌==◌, ◌&&◌, nat_lt, if◌then◌else◌, Option, Some, None, Result, Ok, Err}
-use Rattle.shm_words.specs.declared.place.Place.TheVariants as place
+use Rattle.std.specs.Prelude.{ℕ, ◌+◌, ◌-◌, ◌%◌, ◌<◌, Bool, true, false, ◌==◌, ◌&&◌, nat_lt, if◌then◌else◌, Option, Some, None, Result, Ok, Err, []}
 use Rattle.shm_words.specs.Layout.{GeometryFits, address, address_limit}
-use Rattle.shm_graph.specs.declared.ask.Ask.{Ask}
+use Rattle.shm_words.specs.declared.place.Place.TheVariants as place
+use Rattle.shm_graph.specs.{declared.ask.{Ask.Ask, Me.Me}, Laws.Control}
 use Rattle.shm_graph.specs.declared.ask.Ask.TheVariants as ask
-use Rattle.shm_graph.specs.declared.ask.Me.{Me}
-use Rattle.shm_graph.specs.Laws.{Control}
-use Rattle.shm_calls.specs.declared.or.Or.{Or}
-use Rattle.shm_calls.specs.declared.or.Or.TheVariants.{First, Second}
-use Rattle.shm_calls.specs.declared.word.Word.{Word}
-use Rattle.shm_calls.specs.Either.{or_control}
-use Rattle.shm_calls.specs.Words.{word_control}
-use Rattle.shm_count.specs.declared.answer.EraSpent.{EraSpent}
+use Rattle.shm_calls.specs.{declared.{or.Or.{Or, TheVariants.{First, Second}}, word.Word.Word}, Either.or_control}
+use Rattle.shm_calls.specs.{Words.word_control, Steering.Steered}
+use Rattle.shm_count.specs.declared.{answer.EraSpent.EraSpent, point.{StepPoint.TheVariants.Era, StepState.StepState}}
+use Rattle.shm_count.specs.declared.tear_point.{TearPoint.TheVariants.Begin, TearState.TearState}
+use Rattle.shm_count.specs.{Step.Machines.down_control, Tear.Control.tear_control}
 use Rattle.shm_count.specs.declared.point.Aim.TheVariants as aims
-use Rattle.shm_count.specs.declared.point.StepPoint.TheVariants.{Era}
-use Rattle.shm_count.specs.declared.point.StepState.{StepState}
-use Rattle.shm_count.specs.declared.tear_point.TearPoint.TheVariants.{Begin}
-use Rattle.shm_count.specs.declared.tear_point.TearState.{TearState}
-use Rattle.shm_count.specs.Step.Machines.{down_control}
-use Rattle.shm_count.specs.Tear.Control.{tear_control}
-use Rattle.shm_recover.specs.declared.take_back.BackPoint.{BackPoint}
-use Rattle.shm_recover.specs.declared.take_back.BackPoint.TheVariants.{Tail, Head, Slot, Lower, Tear}
-use Rattle.shm_recover.specs.declared.take_back.BackState.{BackState}
-use Rattle.shm_recover.specs.Others.{other_at}
+use Rattle.shm_recover.specs.declared.take_back.BackPoint.{BackPoint, TheVariants.{Tail, Head, Slot, Lower, Tear}}
+use Rattle.shm_recover.specs.{declared.take_back.BackState.BackState, Others.other_at}
 
 -- its calls, and what they answer
 abbrev pub BackCall : Type 0
@@ -116,3 +105,16 @@ pub record BackInRange (m : BackState) : Type 0 where
   pub who : m.me.who < m.me.geometry.clients
   pub passed : m.passed + 1 < m.me.geometry.clients
   pub block : m.block < address_limit
+
+-- what the plan does: its identity and its line, its calls, and where it goes by their answers
+abbrev pub back_steered : Steered BackState BackCall BackAnswer (Result (Unit {0}) EraSpent)
+back_steered =
+    record {
+      me = λ m. m.me;
+      line = λ m. [];
+      first = is_first;
+      start = λ m. record m { passed = 0; at = 0; block = 0; point = Tail };
+      call = λ m. back_call_at m m.point;
+      after = back_after;
+      turns = back_turns;
+    }

@@ -1,55 +1,37 @@
 -- what is owed of blocks that are taken back: each call leads on, to the next one or to what is left
 use Rattle.std.proofs.Common.{◌≡◌, ◌≢◌, ℕ, ◌+◌, ◌*◌, ◌-◌, ◌%◌, ◌<◌, ◌≤◌, ◌⊎◌, refl, sym, ap, ◌∙◌, subst, arith, Bool, true, false, ◌&&◌, List, [], ◌∷◌, ◌++◌, append_assoc, append-nil, length, inl, inr}
-use Rattle.std.specs.Prelude.{◌==◌, nat_lt, if◌then◌else◌, Option, Some, None, Result, Ok, Err, slice_index}
-use Rattle.std.specs.List.{Contains, filter}
 use Rattle.std.proofs.lemmas.Bool.{cases_eq, cases_lt, eq-eqb, eqb-false, eqb-true, ltb-false, ltb-true, ne_eqb}
 use Rattle.std.proofs.lemmas.List.Elements.{All-nil}
+use Rattle.std.specs.Prelude.{◌==◌, nat_lt, if◌then◌else◌, Option, Some, None, Result, Ok, Err, slice_index}
+use Rattle.std.specs.List.{Contains, filter}
 use Rattle.shm_words.proofs.Placing.{total_small}
 use Rattle.shm_words.specs.Layout.{total_of, address_limit}
-use Rattle.shm_recover.specs.Costs.{backs_more, backs_most, redo_some}
-use Rattle.shm_ref.specs.Costs.{tear_sum}
-use Rattle.shm_graph.specs.Bounds.{down_steps, redo_steps, tear_steps}
-use Rattle.shm_graph.specs.declared.ask.Me.{Me}
-use Rattle.shm_graph.specs.declared.spot.Spot.TheVariants as spot
-use Rattle.shm_graph.specs.declared.memo.Memo.{Memo}
-use Rattle.shm_graph.specs.declared.memo.Op.TheVariants.{Nothing}
-use Rattle.shm_graph.specs.Asks.{Trail, IsWithin}
-use Rattle.shm_graph.specs.Core.{core}
-use Rattle.shm_graph.specs.Events.{Event}
-use Rattle.shm_graph.specs.Events as event
-use Rattle.shm_graph.specs.Laws.{Outcome}
-use Rattle.shm_graph.specs.MemoAfterStore.{not_block}
-use Rattle.shm_graph.specs.Views.{own_word}
-use Rattle.shm_steps.specs.WordParts.{TailSlotLoaded}
-use Rattle.shm_steps.proofs.Cores.{here_same}
-use Rattle.shm_steps.proofs.Words.Own.{tail_load}
-use Rattle.shm_steps.proofs.Words.Queues.{tail_slot_load}
-use Rattle.shm_calls.specs.declared.or.Or.TheVariants.{First, Second}
-use Rattle.shm_calls.specs.CallTells.{within_more}
-use Rattle.shm_calls.specs.Either.{or_control, or_part, or_part_laws}
-use Rattle.shm_calls.specs.Parts.{IsHeld}
-use Rattle.shm_calls.specs.Plans.{PlanLaws, PlanStays, IsCall, Follows}
-use Rattle.shm_calls.specs.Words.{word_control, word_part, word_part_laws, WordLeaves}
-use Rattle.shm_count.specs.declared.answer.EraSpent.{EraSpent}
-use Rattle.shm_count.specs.declared.point.Aim.TheVariants as aims
-use Rattle.shm_count.specs.CountParts.{tear_part, tear_part_laws}
-use Rattle.shm_count.specs.Lowering.{dies, torn_leaves, without_new}
-use Rattle.shm_count.specs.Slots.{Lost, StepLeft}
-use Rattle.shm_count.specs.Slots.Parts.{down_slot_laws, down_slot_part, era_room}
-use Rattle.shm_count.specs.Step.Control.{IsInside}
-use Rattle.shm_count.specs.Step.Machines.{down_control, down_told}
-use Rattle.shm_count.specs.Tear.Control.{tear_control}
-use Rattle.shm_count.specs.Tear.Events.{Visit, Walks, frees}
-use Rattle.shm_count.specs.Tear.{TearLeaves}
-use Rattle.shm_ref.specs.Leaving.{all_outside, frees-append}
-use Rattle.shm_recover.specs.declared.take_back.BackPoint.{BackPoint}
+use Rattle.shm_recover.specs.{Costs.{backs_more, backs_most, redo_some}, declared.take_back.BackPoint.BackPoint}
 use Rattle.shm_recover.specs.declared.take_back.BackPoint.TheVariants.{Tail, Head, Slot, Lower, Tear}
 use Rattle.shm_recover.specs.declared.take_back.BackState.{BackState}
 use Rattle.shm_recover.specs.Others.{MayServe, before_last, before_next, none_before, other_at, other_low, other_not, rises}
-use Rattle.shm_recover.specs.TakeBack.Control.{BackAnswer, back_ask, back_call_at, back_parts, is_first, is_last, passed, passed_answer, to_of}
+use Rattle.shm_recover.specs.TakeBack.Control.{BackAnswer, back_ask, back_call_at, back_parts, is_first, is_last, passed, passed_answer, to_of, back_steered}
 use Rattle.shm_recover.specs.TakeBack.Memos.{back_took, back_untouched, more_events, nothing_unsent, out_here, out_there, taken_core, waited_events}
 use Rattle.shm_recover.specs.TakeBack.Words.{HeadShown, back_may, head_show, unsent_block}
 use Rattle.shm_recover.specs.TakeBack.{Back, BackEvents, BackFound, BackKnows, BackLeaves, BacksEvents, IsBacking, IsOut, TakenBack, back_part, back_plan}
+use Rattle.shm_ref.specs.{Costs.tear_sum, Leaving.{all_outside, frees-append}}
+use Rattle.shm_graph.specs.{Bounds.{down_steps, redo_steps, tear_steps}, declared.{ask.Me.Me, memo.Memo.Memo}}
+use Rattle.shm_graph.specs.{declared.memo.Op.TheVariants.Nothing, Asks.{Trail, IsWithin}, Core.core, Events.Event}
+use Rattle.shm_graph.specs.{Laws.Outcome, MemoAfterStore.not_block, Views.own_word}
+use Rattle.shm_graph.specs.declared.spot.Spot.TheVariants as spot
+use Rattle.shm_graph.specs.Events as event
+use Rattle.shm_steps.specs.WordParts.{TailSlotLoaded}
+use Rattle.shm_steps.proofs.{Cores.here_same, Words.{Own.tail_load, Queues.tail_slot_load}}
+use Rattle.shm_calls.specs.{declared.or.Or.TheVariants.{First, Second}, CallTells.within_more}
+use Rattle.shm_calls.specs.{Either.{or_control, or_part, or_part_laws}, Parts.IsHeld}
+use Rattle.shm_calls.specs.Plans.{PlanLaws, PlanStays, IsCall, Follows}
+use Rattle.shm_calls.specs.Words.{word_control, word_part, word_part_laws, WordLeaves}
+use Rattle.shm_count.specs.{declared.answer.EraSpent.EraSpent, CountParts.{tear_part, tear_part_laws}}
+use Rattle.shm_count.specs.{Lowering.{dies, torn_leaves, without_new}, Slots.{Lost, StepLeft}}
+use Rattle.shm_count.specs.{Slots.Parts.{down_slot_laws, down_slot_part, era_room}, Step.Control.IsInside}
+use Rattle.shm_count.specs.{Step.Machines.{down_control, down_told}, Tear.Control.tear_control}
+use Rattle.shm_count.specs.Tear.{Events.{Visit, Walks, frees}, TearLeaves}
+use Rattle.shm_count.specs.declared.point.Aim.TheVariants as aims
 
 -- ---- the control
 
@@ -63,8 +45,8 @@ passed_later : (m : BackState) (q : Bool) → ◌≡◌ {A = Option (Result (Uni
 passed_later m true e = absurd (cc)
 passed_later m false e = ap (λ (z : Bool). z && true) (ne_eqb (m.passed + 1) 0 (λ z. absurd (omega arith)))
 
-pass_stays : (m : BackState) → (back_plan.me (passed m) ≡ m.me) × (back_plan.start (passed m) ≡ back_plan.start m) × (passed_answer m ≡ None → is_first (passed m) ≡ false)
-pass_stays m = (passed_same m (λ (x : BackState). x.me) refl (is_last m), passed_same m back_plan.start refl (is_last m), passed_later m (is_last m))
+pass_stays : (m : BackState) → (back_steered.me (passed m) ≡ m.me) × (back_steered.start (passed m) ≡ back_steered.start m) × (passed_answer m ≡ None → is_first (passed m) ≡ false)
+pass_stays m = (passed_same m (λ (x : BackState). x.me) refl (is_last m), passed_same m back_steered.start refl (is_last m), passed_later m (is_last m))
 
 -- a state that isn't at a tail has begun
 begun : (k : ℕ) → ((k == 0) && false) ≡ false
@@ -76,7 +58,7 @@ begun k = go (k == 0)
 
 -- what is owed of a state that goes on, and of one that passes the queue
 abbrev Stays : BackState → BackState → Option (Result (Unit {0}) EraSpent) → Type 0
-Stays m y o = (back_plan.me y ≡ m.me) × (back_plan.start y ≡ back_plan.start m) × (o ≡ None → is_first y ≡ false)
+Stays m y o = (back_steered.me y ≡ m.me) × (back_steered.start y ≡ back_steered.start m) × (o ≡ None → is_first y ≡ false)
 
 stays_head : (m : BackState) (q : Bool) → Stays m (if q then record m { point = Slot } else passed m) (if q then None else passed_answer m)
 stays_head m true = (refl, refl, λ e. begun m.passed)
@@ -153,11 +135,11 @@ module _ (m : BackState) (r0 r : Memo) (tr : Trail) (es : List Event) (held : Is
         bound = (let y = backs_more m.me.geometry.wide m.passed in omega arith);
       }
 
-  went : Outcome (passed_answer m) (BackKnows (passed m) (passed m).point r0 r tr es) (BackLeaves (back_plan.start m) r0 r tr es)
+  went : Outcome (passed_answer m) (BackKnows (passed m) (passed m).point r0 r tr es) (BackLeaves (back_steered.start m) r0 r tr es)
   went = go (is_last m) (eqb-true (m.passed + 2) m.me.geometry.clients) (eqb-false (m.passed + 2) m.me.geometry.clients)
     where
       go : (q : Bool) → (q ≡ true → m.passed + 2 ≡ m.me.geometry.clients) → (q ≡ false → m.passed + 2 ≢ m.me.geometry.clients)
-          → let x : BackState = if q then m else record m { passed = m.passed + 1; point = Tail } in Outcome {A = Result (Unit {0}) EraSpent} (if q then Some (Ok tt) else None) (BackKnows x x.point r0 r tr es) (BackLeaves (back_plan.start m) r0 r tr es)
+          → let x : BackState = if q then m else record m { passed = m.passed + 1; point = Tail } in Outcome {A = Result (Unit {0}) EraSpent} (if q then Some (Ok tt) else None) (BackKnows x x.point r0 r tr es) (BackLeaves (back_steered.start m) r0 r tr es)
       go true last more =
           let e = last refl in
           let p : m.passed + 1 ≡ m.me.geometry.clients - 1 = omega arith in
@@ -172,7 +154,7 @@ module _ (m : BackState) (r0 rs r : Memo) (tr t : Trail) (es ds : List Event) (h
   i = to_of m
 
   abbrev Next : Option (Result (Unit {0}) EraSpent) → BackState → Type 0
-  Next o x = Outcome o (BackKnows x x.point r0 r (tr ++ t) (es ++ ds)) (BackLeaves (back_plan.start m) r0 r (tr ++ t) (es ++ ds))
+  Next o x = Outcome o (BackKnows x x.point r0 r (tr ++ t) (es ++ ds)) (BackLeaves (back_steered.start m) r0 r (tr ++ t) (es ++ ds))
 
   -- nothing waits in the queue
   pass_plain : (k : ℕ) → IsBacking m.me m.passed k r0 rs tr es → k ≤ 10 → core r ≡ core rs → ds ≡ [] → length t ≡ 1 → slice_index r.unsent i ≡ 0 → Next (passed_answer m) (passed m)

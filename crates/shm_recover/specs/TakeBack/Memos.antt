@@ -1,27 +1,17 @@
 -- what is left once the block of a queue was taken back
 use Rattle.std.proofs.Common.{◌≡◌, ◌≢◌, ℕ, zero, suc, ◌+◌, ◌%◌, ◌<◌, ◌≤◌, ◌⊎◌, refl, sym, ap, ◌∙◌, subst, arith, add-one, Bool, false, List, [], ◌∷◌, ◌++◌, inl, inr}
-use Rattle.std.specs.Prelude.{slice_index}
 use Rattle.std.proofs.lemmas.Bool.{cases_eq, cond-false, cond-true, eq-eqb, ne_eqb}
-use Rattle.shm_graph.specs.declared.ask.Me.{Me}
-use Rattle.shm_graph.specs.declared.spot.Spot.{Spot}
+use Rattle.std.specs.Prelude.{slice_index}
+use Rattle.shm_graph.specs.{declared.{ask.Me.Me, spot.Spot.Spot, memo.Memo.Memo, table.Part.Part}, Core.core}
+use Rattle.shm_graph.specs.{Events.Event, MemoAfterStore.put, Held.HeldAt, Views.{own_word, view}}
 use Rattle.shm_graph.specs.declared.spot.Spot.TheVariants as spot
-use Rattle.shm_graph.specs.declared.memo.Memo.{Memo}
-use Rattle.shm_graph.specs.declared.table.Part.{Part}
-use Rattle.shm_graph.specs.Core.{core}
-use Rattle.shm_graph.specs.Events.{Event}
 use Rattle.shm_graph.specs.Events as event
-use Rattle.shm_graph.specs.MemoAfterStore.{put}
-use Rattle.shm_graph.specs.Held.{HeldAt}
-use Rattle.shm_graph.specs.Views.{own_word, view}
 use Rattle.shm_steps.specs.Reparting.{sight}
 use Rattle.shm_steps.proofs.Items.{put_at}
 use Rattle.shm_calls.specs.Parts.{IsHeld}
-use Rattle.shm_count.specs.Roots.{rest}
-use Rattle.shm_count.specs.Slots.{Took, Untouched}
-use Rattle.shm_count.specs.Tear.Events.{Walks}
+use Rattle.shm_count.specs.{Roots.rest, Slots.{Took, Untouched}, Tear.Events.Walks}
 use Rattle.shm_queue.specs.QueueSteps.{same_part}
-use Rattle.shm_recover.specs.Others.{other_at}
-use Rattle.shm_recover.specs.TakeBack.{Back, BackEvents, BacksEvents, TakenBack}
+use Rattle.shm_recover.specs.{Others.other_at, TakeBack.{Back, BackEvents, BacksEvents, TakenBack}}
 
 module _ (me : Me) (l : me.who < me.geometry.clients) where
   nothing_at : (j : ℕ) (w : Spot → ℕ) (r : ℕ → Memo) → HeldAt me.geometry w (view r) → (j ≡ me.who) ⊎ (me.geometry.clients ≤ j) → slice_index (r me.who).unsent j ≡ 0

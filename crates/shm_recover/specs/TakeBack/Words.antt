@@ -1,42 +1,22 @@
 -- the slot at the tail of a queue to another identity: what its block is, and the step down that takes it back
 use Rattle.std.proofs.Common.{◌≡◌, ◌≢◌, ℕ, ◌+◌, ◌%◌, ◌^◌, ◌<◌, ◌≤◌, refl, sym, ap, ◌∙◌, subst, arith, Bool, true, false, inl, inr}
-use Rattle.std.specs.Prelude.{slice_index}
-use Rattle.std.specs.List.{Contains}
 use Rattle.std.proofs.lemmas.Bool.{and_from, eq-eqb, lt-ltb, true≢false}
-use Rattle.shm_words.specs.declared.place.Place.TheVariants as place
+use Rattle.std.specs.{Prelude.slice_index, List.Contains}
 use Rattle.shm_words.specs.Layout.{GeometryFits, address, is_in, total_of}
+use Rattle.shm_words.specs.declared.place.Place.TheVariants as place
 use Rattle.shm_words.proofs.Placing.{address_small, total_small}
-use Rattle.shm_graph.specs.declared.ask.Ask.TheVariants.{Load}
-use Rattle.shm_graph.specs.declared.ask.Me.{Me}
-use Rattle.shm_graph.specs.declared.spot.Spot.{Spot}
-use Rattle.shm_graph.specs.declared.spot.Spot.TheVariants.{Era, QueueHead, Slot, Tail}
-use Rattle.shm_graph.specs.declared.memo.Fact.TheVariants.{Counter}
-use Rattle.shm_graph.specs.declared.memo.Memo.{Memo}
-use Rattle.shm_graph.specs.declared.memo.Op.TheVariants.{Nothing}
-use Rattle.shm_graph.specs.declared.table.Part.{Part}
-use Rattle.shm_graph.specs.declared.table.Part.TheVariants.{Loose, Table}
-use Rattle.shm_graph.specs.Core.{core}
-use Rattle.shm_graph.specs.Held.{HeldAt}
-use Rattle.shm_graph.specs.Laws.{framed}
-use Rattle.shm_graph.specs.Spots.{spot_address}
-use Rattle.shm_graph.specs.Views.{own_word, view}
-use Rattle.shm_graph.proofs.Spots.SpotPlaces.{spot-place}
-use Rattle.shm_graph.proofs.Spots.Spotting.{in_pool}
-use Rattle.shm_graph.proofs.States.Holders.{target_counted}
-use Rattle.shm_steps.specs.Conditions.{IsHere}
-use Rattle.shm_steps.specs.Raising.{is_read}
-use Rattle.shm_steps.proofs.BeginSlots.{room_unsent}
-use Rattle.shm_steps.proofs.Words.Own.{at_step, word_for}
-use Rattle.shm_calls.specs.Parts.{IsHeld}
-use Rattle.shm_calls.specs.Words.{IsWord}
-use Rattle.shm_calls.specs.WordSteps.{load_at}
-use Rattle.shm_count.specs.declared.point.Aim.TheVariants.{Down}
+use Rattle.shm_graph.specs.declared.{ask.{Ask.TheVariants.Load, Me.Me}, spot.Spot.Spot}
+use Rattle.shm_graph.specs.declared.{spot.Spot.TheVariants.{Era, QueueHead, Slot, Tail}, memo.Fact.TheVariants.Counter}
+use Rattle.shm_graph.specs.declared.{memo.{Memo.Memo, Op.TheVariants.Nothing}, table.Part.Part}
+use Rattle.shm_graph.specs.{declared.table.Part.TheVariants.{Loose, Table}, Core.core, Held.HeldAt, Laws.framed}
+use Rattle.shm_graph.specs.{Spots.spot_address, Views.{own_word, view}}
+use Rattle.shm_graph.proofs.{Spots.{SpotPlaces.spot-place, Spotting.in_pool}, States.Holders.target_counted}
+use Rattle.shm_steps.specs.{Conditions.IsHere, Raising.is_read}
+use Rattle.shm_steps.proofs.{BeginSlots.room_unsent, Words.Own.{at_step, word_for}}
+use Rattle.shm_calls.specs.{Parts.IsHeld, Words.IsWord, WordSteps.load_at}
+use Rattle.shm_count.specs.{declared.point.{Aim.TheVariants.Down, StepState.StepState}, DyingBlocks.live_room}
+use Rattle.shm_count.specs.{Slots.MayStepAt, Step.{Control.IsInside, CanStep}}
 use Rattle.shm_count.specs.declared.point.StepPoint.TheVariants as point
-use Rattle.shm_count.specs.declared.point.StepState.{StepState}
-use Rattle.shm_count.specs.DyingBlocks.{live_room}
-use Rattle.shm_count.specs.Slots.{MayStepAt}
-use Rattle.shm_count.specs.Step.Control.{IsInside}
-use Rattle.shm_count.specs.Step.{CanStep}
 
 -- ---- the head
 

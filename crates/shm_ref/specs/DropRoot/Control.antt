@@ -1,25 +1,16 @@
 -- the control of a drop of a root: which call comes next, and where it goes by what that call answered
-use Rattle.std.specs.Prelude.{ℕ, ◌%◌, ◌<◌, Bool, true, false, ◌==◌, if◌then◌else◌, Option, Some, None, Result, Ok, Err}
-use Rattle.shm_words.specs.declared.place.Place.TheVariants as place
+use Rattle.std.specs.Prelude.{ℕ, ◌%◌, ◌<◌, Bool, true, false, ◌==◌, if◌then◌else◌, Option, Some, None, Result, Ok, Err, []}
 use Rattle.shm_words.specs.Layout.{GeometryFits, address, address_limit}
+use Rattle.shm_words.specs.declared.place.Place.TheVariants as place
+use Rattle.shm_graph.specs.{declared.ask.Me.Me, Laws.Control}
 use Rattle.shm_graph.specs.declared.ask.Ask.TheVariants as ask
-use Rattle.shm_graph.specs.declared.ask.Me.{Me}
-use Rattle.shm_graph.specs.Laws.{Control}
-use Rattle.shm_calls.specs.declared.or.Or.{Or}
-use Rattle.shm_calls.specs.declared.or.Or.TheVariants.{First, Second}
-use Rattle.shm_calls.specs.declared.word.Word.{Word}
-use Rattle.shm_calls.specs.Either.{or_control}
-use Rattle.shm_calls.specs.Words.{word_control}
-use Rattle.shm_count.specs.declared.answer.EraSpent.{EraSpent}
-use Rattle.shm_count.specs.declared.point.Aim.TheVariants.{Down}
-use Rattle.shm_count.specs.declared.point.StepPoint.TheVariants.{Era}
-use Rattle.shm_count.specs.declared.point.StepState.{StepState}
-use Rattle.shm_count.specs.declared.tear_point.TearPoint.TheVariants.{Begin}
-use Rattle.shm_count.specs.declared.tear_point.TearState.{TearState}
-use Rattle.shm_count.specs.Step.Machines.{down_control}
+use Rattle.shm_calls.specs.{declared.{or.Or.{Or, TheVariants.{First, Second}}, word.Word.Word}, Either.or_control}
+use Rattle.shm_calls.specs.{Words.word_control, Steering.Steered}
+use Rattle.shm_count.specs.declared.{answer.EraSpent.EraSpent, point.{Aim.TheVariants.Down, StepPoint.TheVariants.Era}}
+use Rattle.shm_count.specs.declared.{point.StepState.StepState, tear_point.TearPoint.TheVariants.Begin}
+use Rattle.shm_count.specs.{declared.tear_point.TearState.TearState, Step.Machines.down_control}
 use Rattle.shm_count.specs.Tear.Control.{tear_control}
-use Rattle.shm_ref.specs.declared.drop_root.DropPoint.{DropPoint}
-use Rattle.shm_ref.specs.declared.drop_root.DropPoint.TheVariants.{Load, Lower, Tear}
+use Rattle.shm_ref.specs.declared.drop_root.DropPoint.{DropPoint, TheVariants.{Load, Lower, Tear}}
 use Rattle.shm_ref.specs.declared.drop_root.DropState.{DropState}
 
 -- its calls, and what they answer
@@ -69,3 +60,16 @@ pub record DropInRange (m : DropState) : Type 0 where
 -- the control of its calls
 abbrev pub drop_parts : Control DropCall DropAnswer
 drop_parts = or_control word_control (or_control down_control tear_control)
+
+-- what the plan does: its identity and its line, its calls, and where it goes by their answers
+abbrev pub drop_steered : Steered DropState DropCall DropAnswer (Result Bool EraSpent)
+drop_steered =
+    record {
+      me = λ m. m.me;
+      line = λ m. [];
+      first = λ m. is_load m.point;
+      start = λ m. record m { block = 0; point = Load };
+      call = λ m. drop_call_at m m.point;
+      after = drop_after;
+      turns = drop_turns;
+    }

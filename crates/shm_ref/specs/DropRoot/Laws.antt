@@ -1,52 +1,33 @@
 -- what is owed of a drop of a root: each call leads on, to the next one or to what is left
 use Rattle.std.proofs.Common.{◌≡◌, ◌≢◌, ℕ, ◌+◌, ◌%◌, ◌≤◌, refl, sym, ap, ◌∙◌, subst, arith, Bool, true, false, not, List, [], ◌∷◌, ◌++◌, append-nil, inl, inr, ◌⊎◌, length}
-use Rattle.std.specs.Prelude.{◌==◌, if◌then◌else◌, Some, None, Result, Ok, Err}
-use Rattle.std.specs.List.{Contains}
-use Rattle.std.proofs.lemmas.Bool.{cases_eq, ne_eqb}
-use Rattle.std.proofs.lemmas.List.Elements.{All-nil}
-use Rattle.shm_graph.specs.Bounds.{down_steps, redo_steps, tear_steps}
+use Rattle.std.proofs.lemmas.{Bool.{cases_eq, ne_eqb}, List.Elements.All-nil}
+use Rattle.std.specs.{Prelude.{◌==◌, if◌then◌else◌, Some, None, Result, Ok, Err}, List.Contains}
+use Rattle.shm_graph.specs.{Bounds.{down_steps, redo_steps, tear_steps}, declared.spot.Spot.TheVariants.{Era, Root}}
+use Rattle.shm_graph.specs.{declared.memo.Memo.Memo, Asks.{Trail, IsWithin}, Events.Event, Laws.Outcome, Views.own_word}
+use Rattle.shm_graph.specs.Core.{core}
+use Rattle.shm_graph.specs.declared.ask.Ask.TheVariants as ask
+use Rattle.shm_graph.specs.Events as event
 use Rattle.shm_words.proofs.Placing.{total_small}
 use Rattle.shm_words.specs.Layout.{total_of, address_limit}
-use Rattle.shm_graph.specs.declared.ask.Ask.TheVariants as ask
-use Rattle.shm_graph.specs.declared.spot.Spot.TheVariants.{Era, Root}
-use Rattle.shm_graph.specs.declared.memo.Memo.{Memo}
-use Rattle.shm_graph.specs.Asks.{Trail, IsWithin}
-use Rattle.shm_graph.specs.Events.{Event}
-use Rattle.shm_graph.specs.Events as event
-use Rattle.shm_graph.specs.Laws.{Outcome}
-use Rattle.shm_graph.specs.Views.{own_word}
-use Rattle.shm_calls.specs.declared.or.Or.TheVariants.{First, Second}
-use Rattle.shm_calls.specs.CallTells.{within_more}
-use Rattle.shm_calls.specs.Either.{or_control, or_part, or_part_laws}
-use Rattle.shm_calls.specs.Parts.{IsHeld}
+use Rattle.shm_calls.specs.{declared.or.Or.TheVariants.{First, Second}, CallTells.within_more}
+use Rattle.shm_calls.specs.{Either.{or_control, or_part, or_part_laws}, Parts.IsHeld}
 use Rattle.shm_calls.specs.Plans.{PlanLaws, PlanStays, IsCall, Follows}
 use Rattle.shm_calls.specs.Words.{word_control, word_part_laws, WordLeaves}
-use Rattle.shm_count.specs.declared.answer.EraSpent.{EraSpent}
-use Rattle.shm_count.specs.CountParts.{tear_part, tear_part_laws}
-use Rattle.shm_count.specs.Lowering.{dies, torn_leaves}
-use Rattle.shm_count.specs.Slots.{Lost, StepLeft, Took}
-use Rattle.shm_count.specs.Slots.Parts.{down_slot_laws, down_slot_part, era_room}
-use Rattle.shm_count.specs.Roots.{root_word}
-use Rattle.shm_count.specs.Step.Control.{IsInside}
-use Rattle.shm_graph.specs.Core.{core}
-use Rattle.shm_count.specs.Step.Machines.{down_control, down_told}
+use Rattle.shm_count.specs.declared.{answer.EraSpent.EraSpent, point.Aim.TheVariants.Down}
+use Rattle.shm_count.specs.{CountParts.{tear_part, tear_part_laws}, Lowering.{dies, torn_leaves}}
+use Rattle.shm_count.specs.Slots.{Lost, StepLeft, Took, Parts.{down_slot_laws, down_slot_part, era_room}}
+use Rattle.shm_count.specs.{Roots.root_word, Step.{Control.IsInside, Machines.{down_control, down_told}}}
+use Rattle.shm_count.specs.Tear.{Control.tear_control, Events.{Visit, Walks, frees}, TearLeaves}
+use Rattle.shm_count.specs.Retaining.{remains_core}
 use Rattle.shm_steps.proofs.Cores.{here_same}
-use Rattle.shm_count.specs.Tear.Control.{tear_control}
-use Rattle.shm_count.specs.declared.point.Aim.TheVariants.{Down}
-use Rattle.shm_count.specs.Tear.Events.{Visit, Walks, frees}
-use Rattle.shm_count.specs.Tear.{TearLeaves}
-use Rattle.shm_ref.specs.declared.drop_root.DropPoint.{DropPoint}
-use Rattle.shm_ref.specs.declared.drop_root.DropPoint.TheVariants.{Load, Lower, Tear}
+use Rattle.shm_steps.specs.WordParts.{OwnLoaded}
+use Rattle.shm_ref.specs.declared.drop_root.DropPoint.{DropPoint, TheVariants.{Load, Lower, Tear}}
 use Rattle.shm_ref.specs.declared.drop_root.DropState.{DropState}
 use Rattle.shm_ref.specs.DropRoot.Control.{DropAnswer, drop_parts, root_at, drop_call_at, is_load}
 use Rattle.shm_ref.specs.DropRoot.{DropSpent, Dropped, IsLoaded, IsLowered, DropKnows, DropLeaves, drop_plan}
-use Rattle.shm_ref.specs.DropRoot.DropSpent.{AtStep, AtTear}
-use Rattle.shm_ref.specs.CoreLeaves.{lost_root, untouched_core}
+use Rattle.shm_ref.specs.{DropRoot.DropSpent.{AtStep, AtTear}, CoreLeaves.{lost_root, untouched_core}}
 use Rattle.shm_ref.specs.Leaving.{all_outside, left_core, left_took, left_untouched, may_still, named_events, remains_took, remains_untouched, root_took, stopped_at}
-use Rattle.shm_ref.specs.Lefts.{RootEvents}
-use Rattle.shm_steps.specs.WordParts.{OwnLoaded}
-use Rattle.shm_ref.specs.RootParts.{load_needs, load_part, lower_needs, root_names}
-use Rattle.shm_count.specs.Retaining.{remains_core}
+use Rattle.shm_ref.specs.{Lefts.RootEvents, RootParts.{load_needs, load_part, lower_needs, root_names}}
 
 stays : (m : DropState) (b : DropAnswer) → PlanStays drop_parts drop_plan m b
 stays m (First n) = record { same_me = refl; same_line = refl; same_start = refl; started = λ e. refl }

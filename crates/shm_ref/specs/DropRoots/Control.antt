@@ -1,15 +1,11 @@
 -- the control of a drop of all roots
-use Rattle.std.specs.Prelude.{◌+◌, ◌<◌, Bool, ◌==◌, if◌then◌else◌, Option, Some, None, Result, Ok, Err}
+use Rattle.std.specs.Prelude.{◌+◌, ◌<◌, Bool, ◌==◌, if◌then◌else◌, Option, Some, None, Result, Ok, Err, []}
 use Rattle.shm_words.specs.Layout.{GeometryFits}
-use Rattle.shm_graph.specs.declared.ask.Me.{Me}
-use Rattle.shm_graph.specs.Laws.{Control}
-use Rattle.shm_calls.specs.declared.calls.Calls.{Calls}
-use Rattle.shm_calls.specs.CallsControl.{calls_control, calls_of}
+use Rattle.shm_graph.specs.{declared.ask.Me.Me, Laws.Control}
+use Rattle.shm_calls.specs.{declared.calls.Calls.Calls, CallsControl.{calls_control, calls_of}, Steering.Steered}
 use Rattle.shm_count.specs.declared.answer.EraSpent.{EraSpent}
-use Rattle.shm_ref.specs.declared.drop_root.DropState.{DropState}
-use Rattle.shm_ref.specs.declared.drop_roots.RootsState.{RootsState}
-use Rattle.shm_ref.specs.DropRoot.Control.{DropCall, DropAnswer, drop_parts, dropping}
-use Rattle.shm_ref.specs.DropRoot.{drop_plan}
+use Rattle.shm_ref.specs.declared.{drop_root.DropState.DropState, drop_roots.RootsState.RootsState}
+use Rattle.shm_ref.specs.DropRoot.Control.{DropCall, DropAnswer, drop_parts, dropping, drop_steered}
 
 -- its calls, each the drop of a root
 abbrev pub RootsCall : Type 0
@@ -17,14 +13,14 @@ RootsCall = Calls DropState DropCall (Result Bool EraSpent) DropAnswer
 
 -- their control
 abbrev pub drop_root : Control RootsCall (Result Bool EraSpent)
-drop_root = calls_control drop_parts drop_plan
+drop_root = calls_control drop_parts drop_steered
 
 -- before its first call
 abbrev pub dropping_roots : Me → RootsState
 dropping_roots me = record { me = me; root = 0 }
 
 abbrev pub roots_call : RootsState → RootsCall
-roots_call m = calls_of drop_plan (dropping m.me m.root)
+roots_call m = calls_of drop_steered (dropping m.me m.root)
 
 abbrev pub roots_after : RootsState → Result Bool EraSpent → RootsState
 roots_after m (Ok z) = if m.root == 15 then m else record m { root = m.root + 1 }
@@ -39,3 +35,16 @@ pub record RootsInRange (m : RootsState) : Type 0 where
   pub geometry : GeometryFits m.me.geometry
   pub who : m.me.who < m.me.geometry.clients
   pub root : m.root < 16
+
+-- what the plan does: its identity and its line, its calls, and where it goes by their answers
+abbrev pub roots_steered : Steered RootsState RootsCall (Result Bool EraSpent) (Result (Unit {0}) EraSpent)
+roots_steered =
+    record {
+      me = λ m. m.me;
+      line = λ m. [];
+      first = λ m. m.root == 0;
+      start = λ m. record m { root = 0 };
+      call = roots_call;
+      after = roots_after;
+      turns = roots_turns;
+    }

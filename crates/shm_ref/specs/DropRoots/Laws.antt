@@ -1,29 +1,18 @@
 -- what is owed of a drop of all roots
 use Rattle.std.proofs.Common.{◌≡◌, ℕ, ◌+◌, ◌*◌, ◌<◌, ◌≢◌, refl, sym, ◌∙◌, subst, arith, Bool, true, false, List, [], ◌++◌, length, add-one, inl, inr}
+use Rattle.std.proofs.lemmas.Bool.{cases_eq, ne_eqb, eqb-true, eqb-false, Decides.nat_tests}
 use Rattle.std.specs.Prelude.{◌==◌, ◌||◌, nat_lt, if◌then◌else◌, Option, Some, None, Result, Ok, Err}
-use Rattle.std.proofs.lemmas.Bool.{cases_eq, ne_eqb, eqb-true, eqb-false}
-use Rattle.std.proofs.lemmas.Bool.Decides.{nat_tests}
-use Rattle.shm_ref.specs.Costs.{drops_more, drops_most, tear_sum}
-use Rattle.shm_graph.specs.Bounds.{redo_steps, tear_steps}
-use Rattle.shm_graph.specs.declared.ask.Me.{Me}
-use Rattle.shm_graph.specs.declared.memo.Memo.{Memo}
-use Rattle.shm_graph.specs.Asks.{Trail}
-use Rattle.shm_graph.specs.Events.{Event}
-use Rattle.shm_graph.specs.Laws.{Outcome}
-use Rattle.shm_calls.specs.CallTells.{within_more}
-use Rattle.shm_calls.specs.CallsPart.{MayCall, calls_part_laws}
-use Rattle.shm_calls.specs.Plans.{PlanLaws, PlanStays, Follows}
-use Rattle.shm_count.specs.declared.answer.EraSpent.{EraSpent}
-use Rattle.shm_count.specs.Roots.{root_word}
-use Rattle.shm_count.specs.Tear.Events.{frees}
-use Rattle.shm_ref.specs.declared.drop_roots.RootsState.{RootsState}
-use Rattle.shm_ref.specs.DropRoot.Control.{dropping, drop_parts}
-use Rattle.shm_ref.specs.DropRoot.{Dropped, DropLeaves, drop_plan}
-use Rattle.shm_ref.specs.DropRoot.Laws.{drop_laws}
+use Rattle.shm_ref.specs.{Costs.{drops_more, drops_most, tear_sum}, declared.drop_roots.RootsState.RootsState}
+use Rattle.shm_ref.specs.DropRoot.{Control.{dropping, drop_parts}, Dropped, DropLeaves, drop_plan, Laws.drop_laws}
 use Rattle.shm_ref.specs.Leaving.{left_core, left_more, left_then, left_root, left_empty, may_still, frees-append}
 use Rattle.shm_ref.specs.Lefts.{MayDrop, RootEvents, RootsEvents}
-use Rattle.shm_ref.specs.DropRoots.Control.{drop_root, dropping_roots, roots_call}
+use Rattle.shm_ref.specs.DropRoots.Control.{drop_root, dropping_roots, roots_call, roots_steered}
 use Rattle.shm_ref.specs.DropRoots.{AreGone, RootsKnows, RootsLeaves, roots_plan}
+use Rattle.shm_graph.specs.{Bounds.{redo_steps, tear_steps}, declared.{ask.Me.Me, memo.Memo.Memo}, Asks.Trail}
+use Rattle.shm_graph.specs.{Events.Event, Laws.Outcome}
+use Rattle.shm_calls.specs.{CallTells.within_more, CallsPart.{MayCall, calls_part_laws}}
+use Rattle.shm_calls.specs.Plans.{PlanLaws, PlanStays, Follows}
+use Rattle.shm_count.specs.{declared.answer.EraSpent.EraSpent, Roots.root_word, Tear.Events.frees}
 
 -- the next root
 abbrev on : RootsState → RootsState
@@ -112,7 +101,7 @@ roots_laws =
   where
     stays : (m : RootsState) (b : Result Bool EraSpent) → PlanStays drop_root roots_plan m b
     stays m (Err e) = record { same_me = refl; same_line = refl; same_start = refl; started = λ e. absurd (cc) }
-    stays m (Ok z) = record { same_me = same m (λ (x : RootsState). x.me) refl (m.root == 15); same_line = refl; same_start = same m roots_plan.start refl (m.root == 15); started = later m (m.root == 15) }
+    stays m (Ok z) = record { same_me = same m (λ (x : RootsState). x.me) refl (m.root == 15); same_line = refl; same_start = same m roots_steered.start refl (m.root == 15); started = later m (m.root == 15) }
 
     leads : (m : RootsState) (r0 rs r : Memo) (tr t : Trail) (es ds : List Event) (b : Result Bool EraSpent) → RootsKnows m r0 rs tr es → DropLeaves (dropping m.me m.root) rs r t ds b → Follows drop_root roots_plan m b r0 r (tr ++ t) (es ++ ds)
     leads m r0 rs r tr t es ds (Err e) h g = stopped m r0 rs r tr t es ds h e g

@@ -1,15 +1,10 @@
 -- the control of taking a latch
 use Rattle.std.specs.Prelude.{ℕ, ◌+◌, ◌-◌, ◌%◌, ◌<◌, Bool, true, false, ◌==◌, if◌then◌else◌, Option, Some, None, Result, Ok, Err, [], ◌∷◌}
-use Rattle.shm_words.specs.declared.place.Place.TheVariants as place
 use Rattle.shm_words.specs.Layout.{GeometryFits, address}
-use Rattle.shm_graph.specs.declared.ask.Ask.{Ask}
-use Rattle.shm_graph.specs.declared.ask.Ask.TheVariants.{Store, Exchange}
-use Rattle.shm_graph.specs.declared.ask.Me.{Me}
-use Rattle.shm_graph.specs.Asks.{Trail, pair}
-use Rattle.shm_calls.specs.declared.word.Word.{Word}
-use Rattle.shm_ref.specs.declared.answer.Busy.{Busy}
-use Rattle.shm_ref.specs.declared.hold.HoldPoint.{HoldPoint}
-use Rattle.shm_ref.specs.declared.hold.HoldPoint.TheVariants.{Want, Take, Back}
+use Rattle.shm_words.specs.declared.place.Place.TheVariants as place
+use Rattle.shm_graph.specs.{declared.ask.{Ask.{Ask, TheVariants.{Store, Exchange}}, Me.Me}, Asks.{Trail, pair}}
+use Rattle.shm_calls.specs.{declared.word.Word.Word, Steering.Steered}
+use Rattle.shm_ref.specs.declared.{answer.Busy.Busy, hold.HoldPoint.{HoldPoint, TheVariants.{Want, Take, Back}}}
 use Rattle.shm_ref.specs.declared.hold.HoldState.{HoldState}
 
 -- the taking of the latch of a, before its first word step
@@ -51,3 +46,16 @@ pub record HoldInRange (m : HoldState) : Type 0 where
   pub geometry : GeometryFits m.me.geometry
   pub who : m.me.who < m.me.geometry.clients
   pub author : m.author < m.me.geometry.clients
+
+-- what the plan does: its identity and its line, its calls, and where it goes by their answers
+abbrev pub hold_steered : Steered HoldState Word ℕ (Result (Unit {0}) Busy)
+hold_steered =
+    record {
+      me = λ m. m.me;
+      line = λ m. [];
+      first = λ m. is_want m.point;
+      start = λ m. record m { holder = 0; point = Want };
+      call = λ m. hold_call m m.point;
+      after = λ m. hold_after m m.point;
+      turns = λ m. hold_turns m m.point;
+    }

@@ -1,35 +1,19 @@
 -- what is owed of taking a latch
 use Rattle.std.proofs.Common.{◌≡◌, ◌≢◌, ℕ, ◌+◌, ◌%◌, ◌<◌, ◌≤◌, refl, ap, ◌∙◌, arith, Bool, true, false, List, [], ◌∷◌, ◌++◌, inl, inr}
-use Rattle.std.specs.Prelude.{◌-◌, ◌==◌, if◌then◌else◌, Some, None, Ok}
 use Rattle.std.proofs.lemmas.Bool.{cases_eq, cond-true, eqb-true, eqb-false, lt-ltb}
-use Rattle.shm_graph.specs.declared.ask.Me.{Me}
-use Rattle.shm_words.specs.declared.place.Place.TheVariants as place
+use Rattle.std.specs.Prelude.{◌-◌, ◌==◌, if◌then◌else◌, Some, None, Ok}
+use Rattle.shm_graph.specs.declared.{ask.Me.Me, spot.Spot.TheVariants.{Hold, Latch}, memo.{Memo.Memo, Step.Step}}
+use Rattle.shm_graph.specs.{Asks.{Trail, pair}, Blocks.classes, Changes.{called, with_call, with_end}, Events.Event}
+use Rattle.shm_graph.specs.{Laws.{Outcome, framed}, Spots.spot_at, Views.own_word, Core.core}
+use Rattle.shm_graph.proofs.{StepKinds.LoadKeeping.lost_kept, Spots.{SpotPlaces.spot-place, Spotting.same_spot_self}}
 use Rattle.shm_words.specs.Layout.{address}
-use Rattle.shm_graph.specs.declared.spot.Spot.TheVariants.{Hold, Latch}
-use Rattle.shm_graph.specs.declared.memo.Memo.{Memo}
-use Rattle.shm_graph.specs.declared.memo.Step.{Step}
-use Rattle.shm_graph.specs.Asks.{Trail, pair}
-use Rattle.shm_graph.specs.Blocks.{classes}
-use Rattle.shm_graph.specs.Changes.{called, with_call, with_end}
-use Rattle.shm_graph.specs.Events.{Event}
-use Rattle.shm_graph.specs.Laws.{Outcome, framed}
-use Rattle.shm_graph.specs.Spots.{spot_at}
-use Rattle.shm_graph.specs.Views.{own_word}
-use Rattle.shm_graph.proofs.StepKinds.LoadKeeping.{lost_kept}
-use Rattle.shm_graph.proofs.Spots.SpotPlaces.{spot-place}
-use Rattle.shm_graph.proofs.Spots.Spotting.{same_spot_self}
-use Rattle.shm_steps.proofs.OwnStores.{hold_stored}
-use Rattle.shm_steps.proofs.PageSteps.{latched}
+use Rattle.shm_words.specs.declared.place.Place.TheVariants as place
+use Rattle.shm_steps.proofs.{OwnStores.hold_stored, PageSteps.latched, Cores.{called_core, here_same}}
 use Rattle.shm_calls.specs.Plans.{PlanLaws, PlanStays, Follows}
-use Rattle.shm_calls.specs.Words.{word_control, word_part, word_part_laws, IsWord}
-use Rattle.shm_calls.specs.WordSteps.{word_at}
-use Rattle.shm_graph.specs.Core.{core}
-use Rattle.shm_steps.proofs.Cores.{called_core, here_same}
-use Rattle.shm_ref.specs.declared.hold.HoldPoint.{HoldPoint}
-use Rattle.shm_ref.specs.declared.hold.HoldPoint.TheVariants.{Want, Take, Back}
-use Rattle.shm_ref.specs.declared.hold.HoldState.{HoldState}
+use Rattle.shm_calls.specs.{Words.{word_control, word_part, word_part_laws, IsWord}, WordSteps.word_at}
+use Rattle.shm_ref.specs.declared.hold.{HoldPoint.{HoldPoint, TheVariants.{Want, Take, Back}}, HoldState.HoldState}
 use Rattle.shm_ref.specs.AskedParts.{asked_part_laws, one_more}
-use Rattle.shm_ref.specs.Hold.Control.{holding, hold_ask, hold_call, is_want}
+use Rattle.shm_ref.specs.Hold.Control.{holding, hold_ask, hold_call, is_want, hold_steered}
 use Rattle.shm_ref.specs.Hold.{MayTakeLatch, IsWanted, wants, HoldKnows, HoldLeaves, HoldFound, hold_part, hold_plan}
 
 -- ---- the word steps
@@ -138,7 +122,7 @@ hold_laws =
     stays : (m : HoldState) (y : HoldPoint) (n : ℕ) → PlanStays word_control hold_plan (record m { point = y }) n
     stays m Want n = record { same_me = refl; same_line = refl; same_start = refl; started = λ e. refl }
     stays m Back n = record { same_me = refl; same_line = refl; same_start = refl; started = λ e. absurd (cc) }
-    stays m Take n = record { same_me = same m n (λ (x : HoldState). x.me) refl refl (n == 0); same_line = refl; same_start = same m n hold_plan.start refl refl (n == 0); started = λ e. same m n (λ (x : HoldState). is_want x.point) refl refl (n == 0) }
+    stays m Take n = record { same_me = same m n (λ (x : HoldState). x.me) refl refl (n == 0); same_line = refl; same_start = same m n hold_steered.start refl refl (n == 0); started = λ e. same m n (λ (x : HoldState). is_want x.point) refl refl (n == 0) }
 
     leads : (m : HoldState) (y : HoldPoint) (r0 rs r : Memo) (tr t : Trail) (es ds : List Event) (n : ℕ) → HoldKnows (record m { point = y }) y r0 rs tr es → Leaves m y rs r t ds n → Follows word_control hold_plan (record m { point = y }) n r0 r (tr ++ t) (es ++ ds)
     leads m Want r0 rs r tr t es ds n h w = (

@@ -1,26 +1,15 @@
 -- what is owed of what the home of an author names
 use Rattle.std.proofs.Common.{◌≡◌, ◌≢◌, ℕ, ◌+◌, ◌%◌, ◌<◌, ◌≤◌, refl, sym, ap, ◌∙◌, subst, Bool, true, false, List, [], ◌∷◌, ◌++◌}
-use Rattle.std.specs.Prelude.{◌==◌, if◌then◌else◌, None, Some, Err}
 use Rattle.std.proofs.lemmas.Bool.{cond-false, eqb-false, eqb-true, ne_eqb}
+use Rattle.std.specs.Prelude.{◌==◌, if◌then◌else◌, None, Some, Err}
 use Rattle.shm_words.specs.Layout.{total_of, address_limit}
-use Rattle.shm_graph.specs.declared.spot.Spot.TheVariants.{Hold, Home}
-use Rattle.shm_graph.specs.declared.memo.Memo.{Memo}
-use Rattle.shm_graph.specs.Asks.{Trail}
-use Rattle.shm_graph.specs.Core.{core}
-use Rattle.shm_graph.specs.Events.{Event}
-use Rattle.shm_graph.specs.Laws.{Outcome}
-use Rattle.shm_graph.specs.Reach.{is_reached}
-use Rattle.shm_graph.specs.Views.{own_word}
-use Rattle.shm_steps.proofs.Cores.{core_cond}
-use Rattle.shm_steps.proofs.Words.Own.{hold_load}
-use Rattle.shm_steps.proofs.Words.Shared.{home_look}
-use Rattle.shm_calls.specs.Parts.{IsHeld}
-use Rattle.shm_calls.specs.Plans.{PlanLaws, PlanStays, Follows}
+use Rattle.shm_graph.specs.{declared.{spot.Spot.TheVariants.{Hold, Home}, memo.Memo.Memo}, Asks.Trail, Core.core}
+use Rattle.shm_graph.specs.{Events.Event, Laws.Outcome, Reach.is_reached, Views.own_word}
+use Rattle.shm_steps.proofs.{Cores.core_cond, Words.{Own.hold_load, Shared.home_look}}
+use Rattle.shm_calls.specs.{Parts.IsHeld, Plans.{PlanLaws, PlanStays, Follows}}
 use Rattle.shm_calls.specs.Words.{word_control, word_part, word_part_laws}
-use Rattle.shm_ref.specs.declared.home_of.HomeOfPoint.{HomeOfPoint}
-use Rattle.shm_ref.specs.declared.home_of.HomeOfPoint.TheVariants.{Whose, Find}
-use Rattle.shm_ref.specs.declared.home_of.HomeOfState.{HomeOfState}
-use Rattle.shm_ref.specs.AskedParts.{asked_part_laws, one_more}
+use Rattle.shm_ref.specs.declared.home_of.HomeOfPoint.{HomeOfPoint, TheVariants.{Whose, Find}}
+use Rattle.shm_ref.specs.{declared.home_of.HomeOfState.HomeOfState, AskedParts.{asked_part_laws, one_more}}
 use Rattle.shm_ref.specs.HomeOf.{HomeOfFound, HomeKnows, HomeLeaves, Found, IsFinding, find_ask, home_of_call, home_of_part, home_of_plan, hold_trail, is_whose}
 use Rattle.shm_ref.specs.ReadParts.{MayAsk, latch_by, looked_reached, reached_room, small_block}
 

@@ -1,34 +1,20 @@
 -- what is owed of a reference word of a block
 use Rattle.std.proofs.Common.{◌≡◌, ◌≢◌, ℕ, ◌+◌, ◌%◌, ◌<◌, ◌≤◌, refl, sym, ap, ◌∙◌, subst, arith, Bool, true, false, List, [], ◌∷◌, ◌++◌}
-use Rattle.std.specs.Prelude.{if◌then◌else◌, nat_lt, ◌==◌, None, Some, Err}
-use Rattle.std.specs.List.{Contains}
 use Rattle.std.proofs.lemmas.Bool.{cond-false, eqb-false, eqb-true, ltb-false, ltb-true, ne_eqb}
-use Rattle.shm_words.specs.declared.tag.Tag.{Tag as ATag}
-use Rattle.shm_words.specs.Layout.{total_of, address_limit}
+use Rattle.std.specs.{Prelude.{if◌then◌else◌, nat_lt, ◌==◌, None, Some, Err}, List.Contains}
+use Rattle.shm_words.specs.{declared.tag.Tag.Tag as ATag, Layout.{total_of, address_limit}}
 use Rattle.shm_words.specs.Tags.{tag_author, tag_plain, tag_refs}
-use Rattle.shm_graph.specs.declared.spot.Spot.TheVariants.{Body, Hold, Tag}
-use Rattle.shm_graph.specs.declared.memo.Memo.{Memo}
-use Rattle.shm_graph.specs.declared.memo.Stored.{Stored}
-use Rattle.shm_graph.specs.Asks.{Trail}
-use Rattle.shm_graph.specs.Core.{core}
-use Rattle.shm_graph.specs.Events.{Event}
-use Rattle.shm_graph.specs.Laws.{Outcome}
-use Rattle.shm_graph.specs.Reach.{is_reached, learnt}
-use Rattle.shm_graph.specs.MemoAfterRead.{reference_read, values_read}
-use Rattle.shm_graph.specs.Views.{own_word}
+use Rattle.shm_graph.specs.declared.{spot.Spot.TheVariants.{Body, Hold, Tag}, memo.{Memo.Memo, Stored.Stored}}
+use Rattle.shm_graph.specs.{Asks.Trail, Core.core, Events.Event, Laws.Outcome, Reach.{is_reached, learnt}}
+use Rattle.shm_graph.specs.{MemoAfterRead.{reference_read, values_read}, Views.own_word}
 use Rattle.shm_steps.specs.WordParts.{as_known}
-use Rattle.shm_steps.proofs.Cores.{core_cond}
-use Rattle.shm_steps.proofs.Covering.{reached_told}
-use Rattle.shm_steps.proofs.Words.Blocks.{idle_settled, reference_load, tag_load}
-use Rattle.shm_steps.proofs.Words.Own.{hold_load}
-use Rattle.shm_calls.specs.Parts.{IsHeld}
-use Rattle.shm_calls.specs.Plans.{PlanLaws, PlanStays, Follows}
+use Rattle.shm_steps.proofs.{Cores.core_cond, Covering.reached_told}
+use Rattle.shm_steps.proofs.Words.{Blocks.{idle_settled, reference_load, tag_load}, Own.hold_load}
+use Rattle.shm_calls.specs.{Parts.IsHeld, Plans.{PlanLaws, PlanStays, Follows}}
 use Rattle.shm_calls.specs.Words.{word_control, word_part, word_part_laws}
 use Rattle.shm_count.specs.Tear.Control.{tag_read}
-use Rattle.shm_ref.specs.declared.answer.LookFault.TheVariants.{NoSuchRef, NotHeld}
-use Rattle.shm_ref.specs.declared.look.LookPoint.{LookPoint}
-use Rattle.shm_ref.specs.declared.look.LookPoint.TheVariants.{Shape, Whose, Reference}
-use Rattle.shm_ref.specs.declared.look.LookState.{LookState}
+use Rattle.shm_ref.specs.declared.{answer.LookFault.TheVariants.{NoSuchRef, NotHeld}, look.LookPoint.LookPoint}
+use Rattle.shm_ref.specs.declared.look.{LookPoint.TheVariants.{Shape, Whose, Reference}, LookState.LookState}
 use Rattle.shm_ref.specs.AskedParts.{asked_part_laws, one_more}
 use Rattle.shm_ref.specs.Look.{IsLooking, LookFound, LookKnows, LookLeaves, Looked, MayLook, is_shape, look_ask, look_call, look_part, look_plan, tag_trail, whose_trail}
 use Rattle.shm_ref.specs.ReadParts.{IsTag, is_tag, latch_by, looked_reached, reached_room, reached_tagged, small_block, tagged}

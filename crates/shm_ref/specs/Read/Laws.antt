@@ -1,28 +1,16 @@
 -- what is owed of a plain word of a block
 use Rattle.std.proofs.Common.{◌≡◌, ℕ, ◌+◌, ◌<◌, ◌≤◌, refl, sym, ap, ◌∙◌, subst, arith, Bool, true, false, List, [], ◌∷◌, ◌++◌}
-use Rattle.std.specs.Prelude.{if◌then◌else◌, nat_lt, None, Some, Err}
-use Rattle.std.specs.List.{Contains}
 use Rattle.std.proofs.lemmas.Bool.{ltb-false, ltb-true}
-use Rattle.shm_words.specs.declared.tag.Tag.{Tag as ATag}
-use Rattle.shm_words.specs.Tags.{tag_plain, tag_refs}
-use Rattle.shm_graph.specs.declared.spot.Spot.TheVariants.{Body, Tag}
-use Rattle.shm_graph.specs.declared.memo.Memo.{Memo}
-use Rattle.shm_graph.specs.declared.memo.Stored.{Stored}
-use Rattle.shm_graph.specs.Asks.{Trail, pair}
-use Rattle.shm_graph.specs.Core.{core}
-use Rattle.shm_graph.specs.Events.{Event}
-use Rattle.shm_graph.specs.Laws.{Outcome}
-use Rattle.shm_graph.specs.Reach.{is_reached, learnt}
+use Rattle.std.specs.{Prelude.{if◌then◌else◌, nat_lt, None, Some, Err}, List.Contains}
+use Rattle.shm_words.specs.{declared.tag.Tag.Tag as ATag, Tags.{tag_plain, tag_refs}}
+use Rattle.shm_graph.specs.declared.{spot.Spot.TheVariants.{Body, Tag}, memo.{Memo.Memo, Stored.Stored}}
+use Rattle.shm_graph.specs.{Asks.{Trail, pair}, Core.core, Events.Event, Laws.Outcome, Reach.{is_reached, learnt}}
 use Rattle.shm_steps.specs.WordParts.{as_known}
-use Rattle.shm_steps.proofs.Covering.{reached_told}
-use Rattle.shm_steps.proofs.Words.Blocks.{idle_settled, plain_load, tag_load}
-use Rattle.shm_calls.specs.Parts.{IsHeld}
-use Rattle.shm_calls.specs.Plans.{PlanLaws, PlanStays, Follows}
+use Rattle.shm_steps.proofs.{Covering.reached_told, Words.Blocks.{idle_settled, plain_load, tag_load}}
+use Rattle.shm_calls.specs.{Parts.IsHeld, Plans.{PlanLaws, PlanStays, Follows}}
 use Rattle.shm_calls.specs.Words.{word_control, word_part, word_part_laws}
 use Rattle.shm_count.specs.Tear.Control.{tag_read}
-use Rattle.shm_ref.specs.declared.read.ReadPoint.{ReadPoint}
-use Rattle.shm_ref.specs.declared.read.ReadPoint.TheVariants.{Shape, Plain}
-use Rattle.shm_ref.specs.declared.read.ReadState.{ReadState}
+use Rattle.shm_ref.specs.declared.read.{ReadPoint.{ReadPoint, TheVariants.{Shape, Plain}}, ReadState.ReadState}
 use Rattle.shm_ref.specs.AskedParts.{asked_part_laws, one_more}
 use Rattle.shm_ref.specs.Read.{IsReading, ReadFound, ReadKnows, ReadLeaves, is_shape, read_ask, read_call, read_part, read_plan}
 use Rattle.shm_ref.specs.ReadParts.{IsTag, MayRead, is_tag, tagged}

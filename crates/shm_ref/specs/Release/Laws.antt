@@ -1,36 +1,19 @@
 -- what is owed of giving back a latch
 use Rattle.std.proofs.Common.{◌≡◌, ℕ, ◌+◌, ◌%◌, ◌<◌, refl, sym, ap, ◌∙◌, subst, arith, Bool, true, false, List, [], ◌++◌}
+use Rattle.std.proofs.{Math.Nat.mod-eq_of_lt, lemmas.Bool.lt-ltb}
 use Rattle.std.specs.Prelude.{◌-◌, ◌&&◌, ◌==◌, if◌then◌else◌, Some}
-use Rattle.std.proofs.Math.Nat.{mod-eq_of_lt}
-use Rattle.std.proofs.lemmas.Bool.{lt-ltb}
-use Rattle.shm_words.specs.declared.place.Place.TheVariants as place
 use Rattle.shm_words.specs.Layout.{address}
-use Rattle.shm_graph.specs.declared.spot.Spot.TheVariants.{Hold, Latch}
-use Rattle.shm_graph.specs.declared.memo.Memo.{Memo}
-use Rattle.shm_graph.specs.declared.memo.Op.{Op}
-use Rattle.shm_graph.specs.declared.memo.Op.TheVariants.{Nothing}
-use Rattle.shm_graph.specs.Agents.{recovers}
-use Rattle.shm_graph.specs.Asks.{Trail}
-use Rattle.shm_graph.specs.Blocks.{classes}
-use Rattle.shm_graph.specs.Changes.{called, with_call, with_end}
-use Rattle.shm_graph.specs.Events.{Event}
-use Rattle.shm_graph.specs.Laws.{framed}
-use Rattle.shm_graph.specs.Ops.{IsUncommitted}
-use Rattle.shm_graph.specs.Reach.{unlatched}
-use Rattle.shm_graph.specs.Spots.{spot_at}
+use Rattle.shm_words.specs.declared.place.Place.TheVariants as place
+use Rattle.shm_graph.specs.declared.{spot.Spot.TheVariants.{Hold, Latch}, memo.{Memo.Memo, Op.Op}}
+use Rattle.shm_graph.specs.{declared.memo.Op.TheVariants.Nothing, Agents.recovers, Asks.Trail, Blocks.classes}
+use Rattle.shm_graph.specs.{Changes.{called, with_call, with_end}, Events.Event, Laws.framed, Ops.IsUncommitted}
+use Rattle.shm_graph.specs.{Reach.unlatched, Spots.spot_at, Core.core}
 use Rattle.shm_graph.proofs.Spots.SpotPlaces.{spot-place}
-use Rattle.shm_steps.proofs.LatchBack.{latch_back}
-use Rattle.shm_steps.proofs.OwnStores.{hold_stored}
+use Rattle.shm_steps.proofs.{LatchBack.latch_back, OwnStores.hold_stored, Cores.{called_core, here_same}}
 use Rattle.shm_calls.specs.Plans.{PlanLaws, PlanStays, Follows}
-use Rattle.shm_calls.specs.Words.{word_control, word_part, word_part_laws, IsWord}
-use Rattle.shm_calls.specs.WordSteps.{load_at, word_at}
-use Rattle.shm_graph.specs.Core.{core}
-use Rattle.shm_steps.proofs.Cores.{called_core}
-use Rattle.shm_steps.proofs.Cores.{here_same}
-use Rattle.shm_ref.specs.declared.release.ReleasePoint.{ReleasePoint}
-use Rattle.shm_ref.specs.declared.release.ReleasePoint.TheVariants.{Whose, Give, Back}
-use Rattle.shm_ref.specs.declared.release.ReleaseState.{ReleaseState}
-use Rattle.shm_ref.specs.AskedParts.{asked_part_laws, one_more}
+use Rattle.shm_calls.specs.{Words.{word_control, word_part, word_part_laws, IsWord}, WordSteps.{load_at, word_at}}
+use Rattle.shm_ref.specs.declared.release.ReleasePoint.{ReleasePoint, TheVariants.{Whose, Give, Back}}
+use Rattle.shm_ref.specs.{declared.release.ReleaseState.ReleaseState, AskedParts.{asked_part_laws, one_more}}
 use Rattle.shm_ref.specs.Hold.{wants}
 use Rattle.shm_ref.specs.Release.{release_ask, release_call, is_whose, MayRelease, IsReleasing, whose_trail, given_trail, ReleaseKnows, ReleaseFound, release_part, release_plan}
 

@@ -3,19 +3,13 @@ use Rattle.std.proofs.Common.{◌≡◌, ℕ, ◌%◌, ◌<◌, refl, sym, ap, �
 use Rattle.std.proofs.lemmas.Bool.{cases_eq}
 use Rattle.shm_words.proofs.Placing.{total_small}
 use Rattle.shm_words.specs.Layout.{address_limit}
-use Rattle.shm_graph.specs.declared.memo.Memo.{Memo}
-use Rattle.shm_graph.specs.Asks.{Trail, pair}
-use Rattle.shm_graph.specs.Events.{Event}
-use Rattle.shm_graph.specs.declared.spot.Spot.TheVariants.{Root}
-use Rattle.shm_steps.specs.WordParts.{OwnLoaded}
-use Rattle.shm_calls.specs.Parts.{IsHeld}
-use Rattle.shm_calls.specs.Plans.{PlanLaws, Follows}
-use Rattle.shm_calls.specs.Words.{word_control, word_part_laws}
-use Rattle.shm_count.specs.Roots.{root_word}
+use Rattle.shm_graph.specs.{declared.{memo.Memo.Memo, spot.Spot.TheVariants.Root}, Asks.{Trail, pair}, Events.Event}
 use Rattle.shm_graph.specs.Core.{core}
-use Rattle.shm_ref.specs.declared.root_of.NamingState.{NamingState}
-use Rattle.shm_ref.specs.AskedParts.{asked_part_laws, one_pair}
-use Rattle.shm_ref.specs.RootOf.{IsNaming, naming_ask, naming_plan}
+use Rattle.shm_steps.specs.WordParts.{OwnLoaded}
+use Rattle.shm_calls.specs.{Parts.IsHeld, Plans.{PlanLaws, Follows}, Words.{word_control, word_part_laws}}
+use Rattle.shm_count.specs.Roots.{root_word}
+use Rattle.shm_ref.specs.{declared.root_of.NamingState.NamingState, AskedParts.{asked_part_laws, one_pair}}
+use Rattle.shm_ref.specs.RootOf.{IsNaming, naming_ask, naming_plan, naming_steered}
 use Rattle.shm_ref.specs.RootParts.{load_needs, load_part, root_names}
 
 -- what a root holds in a held state with no step in progress has 24 bits
@@ -41,7 +35,7 @@ naming_laws =
     }
   where
     -- the word that was found is what the root names
-    leads : (m : NamingState) (r0 rs r : Memo) (tr t : Trail) (es ds : List Event) (n : ℕ) → IsNaming m.me m.root r0 rs tr es → (naming_plan.part m).leaves (naming_plan.call m) rs r t ds n → IsHeld m.me r → Follows word_control naming_plan m n r0 r (tr ++ t) (es ++ ds)
+    leads : (m : NamingState) (r0 rs r : Memo) (tr t : Trail) (es ds : List Event) (n : ℕ) → IsNaming m.me m.root r0 rs tr es → (naming_plan.part m).leaves (naming_steered.call m) rs r t ds n → IsHeld m.me r → Follows word_control naming_plan m n r0 r (tr ++ t) (es ++ ds)
     leads m r0 rs r tr t es ds n h w held =
         let cored : core r ≡ core r0 = w.0.found.left ∙ ap core h.same in
         let names : n ≡ root_word m.me.who r0 m.root = w.0.found.found ∙ ap (λ (x : Memo). root_word m.me.who x m.root) h.same in

@@ -1,33 +1,21 @@
 -- what is owed of count steps at own roots: each is a part that needs what the memo shows between two calls
 use Rattle.std.proofs.Common.{◌≡◌, ◌≢◌, ℕ, ◌^◌, ◌<◌, ◌≤◌, true, false, refl, sym, ◌∙◌, subst, arith, inr}
 use Rattle.std.proofs.lemmas.Bool.{true≢false}
-use Rattle.shm_words.specs.declared.place.Place.TheVariants as place
 use Rattle.shm_words.specs.Layout.{address}
-use Rattle.shm_graph.specs.declared.ask.Me.{Me}
-use Rattle.shm_graph.specs.declared.memo.Memo.{Memo}
-use Rattle.shm_graph.specs.declared.spot.Spot.TheVariants.{Era, Root}
-use Rattle.shm_graph.specs.Agents.{recovers}
-use Rattle.shm_graph.specs.Operations.{IsReady}
-use Rattle.shm_graph.specs.Reach.{is_reached}
-use Rattle.shm_graph.specs.Views.{own_word}
-use Rattle.shm_calls.specs.Plans.{PlanLaws}
-use Rattle.shm_calls.specs.Tasks.{TaskLaws}
-use Rattle.shm_count.specs.declared.point.Aim.{Aim}
-use Rattle.shm_count.specs.declared.point.Aim.TheVariants.{Up, Down, Change}
-use Rattle.shm_count.specs.declared.point.Half.TheVariants.{First}
-use Rattle.shm_count.specs.Idles.{is_here, step_idle}
-use Rattle.shm_count.specs.Roots.{root_word}
+use Rattle.shm_words.specs.declared.place.Place.TheVariants as place
+use Rattle.shm_graph.specs.{declared.{ask.Me.Me, memo.Memo.Memo, spot.Spot.TheVariants.{Era, Root}}, Agents.recovers}
+use Rattle.shm_graph.specs.{Operations.IsReady, Reach.is_reached, Views.own_word}
+use Rattle.shm_calls.specs.{Plans.PlanLaws, Tasks.TaskLaws}
+use Rattle.shm_count.specs.declared.point.{Aim.{Aim, TheVariants.{Up, Down, Change}}, Half.TheVariants.First}
+use Rattle.shm_count.specs.{Idles.{is_here, step_idle}, Roots.root_word}
 use Rattle.shm_count.specs.Slots.Parts.{change_slot_laws, down_slot_laws, era_room, up_slot_laws}
 use Rattle.shm_count.specs.Slots.{IsSlotFor, MayStepAt}
 use Rattle.shm_count.specs.Step.Control.{AimFits, IsInside, block_at, last_era, raises, step_control}
-use Rattle.shm_count.specs.Step.Machines.{down_control, down_told, up_control, up_told}
-use Rattle.shm_count.specs.Step.{CanAim, CanStep}
+use Rattle.shm_count.specs.Step.{Machines.{down_control, down_told, up_control, up_told}, CanAim, CanStep}
 use Rattle.shm_count.specs.UpRoot.Laws.{reach_inside}
 use Rattle.shm_count.proofs.RootSpots.{can_root, fits_root}
-use Rattle.shm_ref.specs.declared.root_steps.ChangingState.{ChangingState}
-use Rattle.shm_ref.specs.declared.root_steps.LoweringState.{LoweringState}
-use Rattle.shm_ref.specs.declared.root_steps.RaisingState.{RaisingState}
-use Rattle.shm_ref.specs.RootParts.{root_names}
+use Rattle.shm_ref.specs.declared.root_steps.{ChangingState.ChangingState, LoweringState.LoweringState}
+use Rattle.shm_ref.specs.{declared.root_steps.RaisingState.RaisingState, RootParts.root_names}
 use Rattle.shm_ref.specs.RootSteps.{ChangingMay, LoweringMay, RaisingMay, change_call, change_me, change_part, changing_plan, lower_call, lower_me, lower_part, lowering_plan, raise_call, raise_me, raise_part, raising_plan, step_at}
 use Rattle.shm_ref.specs.Single.{single_laws, single_task}
 

@@ -1,47 +1,27 @@
 -- what is owed of setting the own home
 use Rattle.std.proofs.Common.{◌≡◌, ℕ, ◌%◌, ◌<◌, refl, sym, ap, ◌∙◌, subst, arith, true, false, not, ◌&&◌, List, [], ◌∷◌, ◌++◌, inl, inr, length}
-use Rattle.std.specs.Prelude.{◌==◌, if◌then◌else◌, Some, None, Result, Ok, Err}
 use Rattle.std.proofs.lemmas.Bool.{and_parts, cases_eq, lt-ltb, ne_eqb, false≢true}
-use Rattle.shm_graph.specs.Bounds.{up_steps}
-use Rattle.shm_words.specs.declared.place.Place.TheVariants as place
-use Rattle.shm_words.specs.Layout.{GeometryFits, address, is_in, address_limit}
-use Rattle.shm_words.proofs.Placing.{address_below, address_small, total_small}
+use Rattle.std.specs.Prelude.{◌==◌, if◌then◌else◌, Some, None, Result, Ok, Err}
+use Rattle.shm_graph.specs.{Bounds.up_steps, declared.{ask.Me.Me, memo.{Memo.Memo, Op.TheVariants.Nothing}}}
+use Rattle.shm_graph.specs.{declared.spot.Spot.TheVariants.Home, Agents.recovers, Asks.{Trail, IsWithin}, Core.core}
+use Rattle.shm_graph.specs.{Events.Event, Laws.Outcome, Reach.is_reached, MemoAfterRead.{home_read, is_held}}
+use Rattle.shm_graph.specs.{Spots.spot_address, Views.own_word}
 use Rattle.shm_graph.specs.declared.ask.Ask.TheVariants as ask
-use Rattle.shm_graph.specs.declared.ask.Me.{Me}
-use Rattle.shm_graph.specs.declared.memo.Memo.{Memo}
-use Rattle.shm_graph.specs.declared.memo.Op.TheVariants.{Nothing}
-use Rattle.shm_graph.specs.declared.spot.Spot.TheVariants.{Home}
-use Rattle.shm_graph.specs.Agents.{recovers}
-use Rattle.shm_graph.specs.Asks.{Trail, IsWithin}
-use Rattle.shm_graph.specs.Core.{core}
-use Rattle.shm_graph.specs.Events.{Event}
-use Rattle.shm_graph.specs.Laws.{Outcome}
-use Rattle.shm_graph.specs.Reach.{is_reached}
-use Rattle.shm_graph.specs.MemoAfterRead.{home_read, is_held}
-use Rattle.shm_graph.specs.Spots.{spot_address}
-use Rattle.shm_graph.specs.Views.{own_word}
 use Rattle.shm_graph.proofs.StepKinds.Loads.{choice}
-use Rattle.shm_calls.specs.declared.or.Or.TheVariants.{First, Second}
-use Rattle.shm_calls.specs.CallTells.{within_more}
-use Rattle.shm_calls.specs.Either.{or_part_laws}
-use Rattle.shm_calls.specs.Parts.{IsHeld}
-use Rattle.shm_calls.specs.Plans.{PlanLaws, PlanStays, IsCall, Follows}
+use Rattle.shm_words.specs.Layout.{GeometryFits, address, is_in, address_limit}
+use Rattle.shm_words.specs.declared.place.Place.TheVariants as place
+use Rattle.shm_words.proofs.Placing.{address_below, address_small, total_small}
+use Rattle.shm_calls.specs.{declared.or.Or.TheVariants.{First, Second}, CallTells.within_more, Either.or_part_laws}
+use Rattle.shm_calls.specs.{Parts.IsHeld, Plans.{PlanLaws, PlanStays, IsCall, Follows}}
 use Rattle.shm_calls.specs.Words.{word_control, word_part_laws, WordLeaves}
-use Rattle.shm_steps.proofs.Cores.{here_same}
-use Rattle.shm_steps.proofs.Reaching.{home_reached}
-use Rattle.shm_count.specs.declared.answer.UpFault.{UpFault}
-use Rattle.shm_count.specs.declared.answer.UpFault.TheVariants.{EraSpent, CountFull}
-use Rattle.shm_count.specs.declared.point.Aim.TheVariants.{Up}
-use Rattle.shm_count.specs.Slots.{StepLeft}
-use Rattle.shm_count.specs.Slots.Parts.{era_room, up_slot_part, up_slot_laws}
-use Rattle.shm_count.specs.Step.{CanStep, KeepsPart}
+use Rattle.shm_steps.proofs.{Cores.here_same, Reaching.home_reached}
+use Rattle.shm_count.specs.declared.answer.UpFault.{UpFault, TheVariants.{EraSpent, CountFull}}
+use Rattle.shm_count.specs.{declared.point.Aim.TheVariants.Up, Slots.StepLeft}
+use Rattle.shm_count.specs.{Slots.Parts.{era_room, up_slot_part, up_slot_laws}, Step.{CanStep, KeepsPart}}
 use Rattle.shm_count.specs.Step.Machines.{up_control, up_told}
-use Rattle.shm_ref.specs.declared.answer.HomeFault.TheVariants.{HomeSet}
-use Rattle.shm_ref.specs.declared.set_home.HomePoint.{HomePoint}
-use Rattle.shm_ref.specs.declared.set_home.HomePoint.TheVariants.{Load, Raise}
-use Rattle.shm_ref.specs.declared.set_home.HomeState.{HomeState}
-use Rattle.shm_ref.specs.CoreLeaves.{cause_core, filled_home, untouched_core}
-use Rattle.shm_ref.specs.CountedBlocks.{reached_counted}
+use Rattle.shm_ref.specs.declared.{answer.HomeFault.TheVariants.HomeSet, set_home.HomePoint.HomePoint}
+use Rattle.shm_ref.specs.declared.set_home.{HomePoint.TheVariants.{Load, Raise}, HomeState.HomeState}
+use Rattle.shm_ref.specs.{CoreLeaves.{cause_core, filled_home, untouched_core}, CountedBlocks.reached_counted}
 use Rattle.shm_ref.specs.HomeParts.{OwnHomeRead, home_address, home_needs, home_part}
 use Rattle.shm_ref.specs.SetHome.{HomeAnswer, HomeKnows, HomeLeaves, IsHomeless, MaySetHome, home_call_at, home_parts, home_plan, is_load}
 

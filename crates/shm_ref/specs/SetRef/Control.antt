@@ -1,33 +1,21 @@
 -- the control of setting a reference word of an own block: which call comes next, and where it goes by what that call answered
-use Rattle.std.specs.Prelude.{ℕ, ◌+◌, ◌%◌, ◌<◌, ◌≤◌, Bool, true, false, ◌==◌, nat_le, if◌then◌else◌, Option, Some, None, Result, Ok, Err}
+use Rattle.std.specs.Prelude.{ℕ, ◌+◌, ◌%◌, ◌<◌, ◌≤◌, Bool, true, false, ◌==◌, nat_le, if◌then◌else◌, Option, Some, None, Result, Ok, Err, []}
+use Rattle.shm_words.specs.{Layout.{GeometryFits, address, total_of, address_limit}, Tags.{tag_author, tag_refs}}
 use Rattle.shm_words.specs.declared.place.Place.TheVariants as place
-use Rattle.shm_words.specs.Layout.{GeometryFits, address, total_of, address_limit}
-use Rattle.shm_words.specs.Tags.{tag_author, tag_refs}
-use Rattle.shm_graph.specs.declared.ask.Ask.{Ask}
+use Rattle.shm_graph.specs.{declared.ask.{Ask.Ask, Me.Me}, Laws.Control}
 use Rattle.shm_graph.specs.declared.ask.Ask.TheVariants as ask
-use Rattle.shm_graph.specs.declared.ask.Me.{Me}
-use Rattle.shm_graph.specs.Laws.{Control}
-use Rattle.shm_calls.specs.declared.or.Or.{Or}
-use Rattle.shm_calls.specs.declared.or.Or.TheVariants.{First, Second}
-use Rattle.shm_calls.specs.declared.word.Word.{Word}
-use Rattle.shm_calls.specs.Either.{or_control}
-use Rattle.shm_calls.specs.Words.{word_control}
-use Rattle.shm_count.specs.declared.answer.EraSpent.{EraSpent as ASpent}
-use Rattle.shm_count.specs.declared.answer.UpFault.{UpFault}
-use Rattle.shm_count.specs.declared.answer.UpFault.TheVariants.{EraSpent, CountFull}
+use Rattle.shm_calls.specs.{declared.{or.Or.{Or, TheVariants.{First, Second}}, word.Word.Word}, Either.or_control}
+use Rattle.shm_calls.specs.{Words.word_control, Steering.Steered}
+use Rattle.shm_count.specs.declared.answer.{EraSpent.EraSpent as ASpent, UpFault.UpFault}
+use Rattle.shm_count.specs.declared.{answer.UpFault.TheVariants.{EraSpent, CountFull}, point.StepPoint.TheVariants.Era}
+use Rattle.shm_count.specs.declared.{point.StepState.StepState, tear_point.TearPoint.TheVariants.Begin}
+use Rattle.shm_count.specs.{declared.tear_point.TearState.TearState, Step.Control.step_control}
+use Rattle.shm_count.specs.{Step.Machines.{down_control, up_control}, Tear.Control.tear_control}
 use Rattle.shm_count.specs.declared.point.Aim.TheVariants as aims
-use Rattle.shm_count.specs.declared.point.StepPoint.TheVariants.{Era}
-use Rattle.shm_count.specs.declared.point.StepState.{StepState}
-use Rattle.shm_count.specs.declared.tear_point.TearPoint.TheVariants.{Begin}
-use Rattle.shm_count.specs.declared.tear_point.TearState.{TearState}
-use Rattle.shm_count.specs.Step.Control.{step_control}
-use Rattle.shm_count.specs.Step.Machines.{down_control, up_control}
-use Rattle.shm_count.specs.Tear.Control.{tear_control}
-use Rattle.shm_ref.specs.declared.answer.SetFault.{SetFault}
-use Rattle.shm_ref.specs.declared.answer.SetFault.TheVariants as fault
-use Rattle.shm_ref.specs.declared.set_ref.SetPoint.{SetPoint}
+use Rattle.shm_ref.specs.declared.{answer.SetFault.SetFault, set_ref.SetPoint.SetPoint}
 use Rattle.shm_ref.specs.declared.set_ref.SetPoint.TheVariants.{Tag, Held, Look, Raise, Lower, Change, Tear}
 use Rattle.shm_ref.specs.declared.set_ref.SetState.{SetState}
+use Rattle.shm_ref.specs.declared.answer.SetFault.TheVariants as fault
 
 -- its calls, and what they answer
 abbrev pub SetCall : Type 0
@@ -122,3 +110,16 @@ pub record SetInRange (m : SetState) : Type 0 where
 -- the control of its calls
 abbrev pub set_parts : Control SetCall SetAnswer
 set_parts = or_control word_control (or_control (or_control up_control down_control) (or_control step_control tear_control))
+
+-- what the plan does: its identity and its line, its calls, and where it goes by their answers
+abbrev pub set_steered : Steered SetState SetCall SetAnswer (Result (Unit {0}) SetFault)
+set_steered =
+    record {
+      me = λ m. m.me;
+      line = λ m. [];
+      first = λ m. is_tag m.point;
+      start = λ m. record m { before = 0; point = Tag };
+      call = λ m. set_call_at m m.point;
+      after = set_after;
+      turns = set_turns;
+    }

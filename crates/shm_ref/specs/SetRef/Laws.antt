@@ -1,63 +1,39 @@
 -- what is owed of setting a reference word of an own block
 use Rattle.std.proofs.Common.{◌≡◌, ◌≢◌, ℕ, zero, suc, ◌+◌, ◌%◌, ◌≤◌, refl, sym, ap, ◌∙◌, subst, arith, Bool, true, false, List, [], ◌∷◌, ◌++◌, append-nil, inl, inr, length}
-use Rattle.std.specs.Prelude.{◌==◌, nat_le, if◌then◌else◌, Some, None, Result, Ok, Err}
-use Rattle.std.specs.List.{Contains}
 use Rattle.std.proofs.lemmas.Bool.{cases_eq, cases_lt, eq-eqb, false≢true, le-leb, lt-leb, ne_eqb}
+use Rattle.std.specs.{Prelude.{◌==◌, nat_le, if◌then◌else◌, Some, None, Result, Ok, Err}, List.Contains}
 use Rattle.shm_words.proofs.Placing.{total_small}
-use Rattle.shm_words.specs.Layout.{total_of, address_limit}
-use Rattle.shm_words.specs.Tags.{tag_author, tag_refs}
-use Rattle.shm_graph.specs.declared.memo.Memo.{Memo}
-use Rattle.shm_graph.specs.declared.memo.Op.TheVariants.{Nothing}
-use Rattle.shm_graph.specs.declared.memo.Stored.{Stored}
-use Rattle.shm_graph.specs.declared.spot.Spot.{Spot}
+use Rattle.shm_words.specs.{Layout.{total_of, address_limit}, Tags.{tag_author, tag_refs}}
+use Rattle.shm_graph.specs.declared.{memo.{Memo.Memo, Op.TheVariants.Nothing, Stored.Stored}, spot.Spot.Spot}
+use Rattle.shm_graph.specs.{Agents.recovers, Asks.{Trail, IsWithin}, Bounds.{change_steps, tear_steps, up_steps}}
+use Rattle.shm_graph.specs.{Core.core, Events.Event, Laws.Outcome, Reach.is_reached, Views.own_word}
 use Rattle.shm_graph.specs.declared.spot.Spot.TheVariants as spot
-use Rattle.shm_graph.specs.Agents.{recovers}
-use Rattle.shm_graph.specs.Asks.{Trail, IsWithin}
-use Rattle.shm_graph.specs.Bounds.{change_steps, tear_steps, up_steps}
-use Rattle.shm_graph.specs.Core.{core}
-use Rattle.shm_graph.specs.Events.{Event}
 use Rattle.shm_graph.specs.Events as event
-use Rattle.shm_graph.specs.Laws.{Outcome}
-use Rattle.shm_graph.specs.Reach.{is_reached}
-use Rattle.shm_graph.specs.Views.{own_word}
-use Rattle.shm_calls.specs.declared.or.Or.TheVariants.{First, Second}
-use Rattle.shm_calls.specs.CallTells.{within_more}
-use Rattle.shm_calls.specs.Either.{or_control, or_part, or_part_laws}
-use Rattle.shm_calls.specs.Parts.{IsHeld}
+use Rattle.shm_calls.specs.{declared.or.Or.TheVariants.{First, Second}, CallTells.within_more}
+use Rattle.shm_calls.specs.{Either.{or_control, or_part, or_part_laws}, Parts.IsHeld}
 use Rattle.shm_calls.specs.Plans.{PlanLaws, PlanStays, IsCall, Follows}
 use Rattle.shm_calls.specs.Words.{word_control, word_part_laws, WordLeaves}
 use Rattle.shm_steps.specs.WordParts.{OwnLoaded, ReferenceLoaded, WordLoaded, as_known}
-use Rattle.shm_steps.proofs.BeginWords.{claim_by, listed_told}
-use Rattle.shm_steps.proofs.Words.Blocks.{told_inside}
-use Rattle.shm_count.specs.declared.answer.EraSpent.{EraSpent as ASpent}
-use Rattle.shm_count.specs.declared.answer.UpFault.{UpFault}
-use Rattle.shm_count.specs.declared.answer.UpFault.TheVariants.{CountFull, EraSpent}
-use Rattle.shm_count.specs.declared.point.Aim.{Aim}
-use Rattle.shm_count.specs.declared.point.Aim.TheVariants as aims
-use Rattle.shm_count.specs.declared.point.Half.TheVariants.{First as Half}
-use Rattle.shm_count.specs.CountParts.{tear_part, tear_part_laws}
-use Rattle.shm_count.specs.Lowering.{torn_leaves}
-use Rattle.shm_count.specs.Slots.{Lost, StepCause, StepLeft, Untouched}
+use Rattle.shm_steps.proofs.{BeginWords.{claim_by, listed_told}, Words.Blocks.told_inside}
+use Rattle.shm_count.specs.declared.answer.{EraSpent.EraSpent as ASpent, UpFault.UpFault}
+use Rattle.shm_count.specs.declared.{answer.UpFault.TheVariants.{CountFull, EraSpent}, point.Aim.Aim}
+use Rattle.shm_count.specs.{declared.point.Half.TheVariants.First as Half, CountParts.{tear_part, tear_part_laws}}
+use Rattle.shm_count.specs.{Lowering.torn_leaves, Slots.{Lost, StepCause, StepLeft, Untouched}}
 use Rattle.shm_count.specs.Slots.Parts.{change_slot_laws, change_slot_part, down_slot_laws, down_slot_part, era_room, up_slot_laws, up_slot_part}
 use Rattle.shm_count.specs.Step.Control.{IsInside, block_at, raises, step_control}
-use Rattle.shm_count.specs.Step.Machines.{down_control, down_told, up_control, up_told}
-use Rattle.shm_count.specs.Tear.Control.{tear_control}
-use Rattle.shm_count.specs.Tear.Events.{frees}
-use Rattle.shm_count.specs.Tear.{TearLeaves}
-use Rattle.shm_ref.specs.declared.answer.SetFault.{SetFault}
-use Rattle.shm_ref.specs.declared.answer.SetFault.TheVariants as fault
-use Rattle.shm_ref.specs.declared.set_ref.SetPoint.{SetPoint}
+use Rattle.shm_count.specs.{Step.Machines.{down_control, down_told, up_control, up_told}, Tear.Control.tear_control}
+use Rattle.shm_count.specs.Tear.{Events.frees, TearLeaves}
+use Rattle.shm_count.specs.declared.point.Aim.TheVariants as aims
+use Rattle.shm_ref.specs.declared.{answer.SetFault.SetFault, set_ref.SetPoint.SetPoint}
 use Rattle.shm_ref.specs.declared.set_ref.SetPoint.TheVariants.{Tag, Held, Look, Raise, Lower, Change, Tear}
-use Rattle.shm_ref.specs.declared.set_ref.SetState.{SetState}
-use Rattle.shm_ref.specs.CoreLeaves.{filled_word, lost_word, untouched_core}
-use Rattle.shm_ref.specs.CountedBlocks.{reached_counted}
-use Rattle.shm_ref.specs.Leaving.{frees-append, stopped_at}
+use Rattle.shm_ref.specs.{declared.set_ref.SetState.SetState, CoreLeaves.{filled_word, lost_word, untouched_core}}
+use Rattle.shm_ref.specs.{CountedBlocks.reached_counted, Leaving.{frees-append, stopped_at}}
 use Rattle.shm_ref.specs.SetRef.Control.{SetAnswer, is_tag, lowered_after, lowered_turns, set_ask, set_call_at, set_fault, set_parts, step_point}
 use Rattle.shm_ref.specs.SetRef.{IsLooked, IsRead, SetKnows, SetLeaves, aim_of, set_found, set_plan, set_word_part, taken_events}
-use Rattle.shm_ref.specs.SetRef.SetDid.{Kept, Raised, Taken}
-use Rattle.shm_ref.specs.SetRef.SetSpent.{AtStep, AtTear}
+use Rattle.shm_ref.specs.SetRef.{SetDid.{Kept, Raised, Taken}, SetSpent.{AtStep, AtTear}}
 use Rattle.shm_ref.specs.SetRef.Memos.{reference_core, seen_block, seen_dying, seen_op, seen_own, tag_seen, word_seen}
 use Rattle.shm_ref.specs.SetRef.Steps.{set_opens}
+use Rattle.shm_ref.specs.declared.answer.SetFault.TheVariants as fault
 
 -- ---- the step by which a word comes to be another
 

@@ -1,28 +1,17 @@
 -- the memo of an identity once a tag and a reference word of an own block were read under the own latch
 use Rattle.std.proofs.Common.{◌≡◌, ◌≢◌, ℕ, refl, sym, ap, ◌∙◌, subst, arith, true, false, eqb, ◌||◌, List, [], ◌∷◌, ◌++◌, map, inl, inr, append-nil}
-use Rattle.std.specs.Cmp.{nat_eq_equiv}
-use Rattle.std.specs.List.{Contains, filter, list_any}
-use Rattle.std.proofs.lemmas.Bool.{cond-false, eq-eqb, eqb-true, ne_eqb, or_left, or_right}
-use Rattle.std.proofs.lemmas.List.{map-append}
-use Rattle.std.proofs.lemmas.List.Elements.{Contains-append_cases, Contains-append_right}
-use Rattle.std.proofs.lemmas.List.Folds.{list_any-append}
+use Rattle.std.proofs.lemmas.{Bool.{cond-false, eq-eqb, eqb-true, ne_eqb, or_left, or_right}, List.map-append}
+use Rattle.std.proofs.lemmas.List.{Elements.{Contains-append_cases, Contains-append_right}, Folds.list_any-append}
 use Rattle.std.proofs.lemmas.Map.Views.{Contains-from_any, list_any-from_Contains}
-use Rattle.shm_graph.specs.declared.memo.Look.{Look}
-use Rattle.shm_graph.specs.declared.memo.Memo.{Memo}
-use Rattle.shm_graph.specs.declared.memo.Stored.{Stored}
-use Rattle.shm_graph.specs.declared.spot.Spot.{Spot}
-use Rattle.shm_graph.specs.declared.spot.Spot.TheVariants.{Body, Home, Root, Tag}
-use Rattle.shm_graph.specs.Core.{core}
-use Rattle.shm_graph.specs.Ops.{cover, cover_of}
+use Rattle.std.specs.{Cmp.nat_eq_equiv, List.{Contains, filter, list_any}}
+use Rattle.shm_graph.specs.declared.{memo.{Look.Look, Memo.Memo, Stored.Stored}, spot.Spot.Spot}
+use Rattle.shm_graph.specs.{declared.spot.Spot.TheVariants.{Body, Home, Root, Tag}, Core.core, Ops.{cover, cover_of}}
 use Rattle.shm_graph.specs.Reach.{is_reached, learnt, named_blocks, not_at, reached_blocks, shown}
-use Rattle.shm_graph.specs.MemoAfterRead.{reference_read, values_read}
-use Rattle.shm_graph.specs.Views.{own_word}
+use Rattle.shm_graph.specs.{MemoAfterRead.{reference_read, values_read}, Views.own_word}
 use Rattle.shm_graph.proofs.StepKinds.Loads.{choice}
 use Rattle.shm_laws.proofs.Keep.{Contains-filter}
-use Rattle.shm_steps.proofs.Cores.{core_cond}
-use Rattle.shm_steps.proofs.Reaching.{look_reached}
-use Rattle.shm_count.specs.Retaining.{named_reached, named_same, slots_learnt}
-use Rattle.shm_count.specs.Tear.Memos.{Knows, is_slot_word}
+use Rattle.shm_steps.proofs.{Cores.core_cond, Reaching.look_reached}
+use Rattle.shm_count.specs.{Retaining.{named_reached, named_same, slots_learnt}, Tear.Memos.{Knows, is_slot_word}}
 
 -- the tag of a block was read
 abbrev pub tag_seen : ℕ → ℕ → Memo → Memo

@@ -1,44 +1,23 @@
 -- the calls of setting a reference word of an own block may be made: its loads, its count steps, and the tear-down
 use Rattle.std.proofs.Common.{◌≡◌, ◌≢◌, ℕ, ◌+◌, ◌^◌, ◌<◌, ◌≤◌, refl, sym, ap, ◌∙◌, subst, arith, true, false, List, inl, inr}
-use Rattle.std.specs.Prelude.{Some}
-use Rattle.std.specs.List.{Contains}
 use Rattle.std.proofs.lemmas.Bool.{false≢true, true≢false}
+use Rattle.std.specs.{Prelude.Some, List.Contains}
 use Rattle.shm_words.proofs.Placing.{total_small}
 use Rattle.shm_words.specs.Layout.{address_limit}
-use Rattle.shm_graph.specs.declared.ask.Me.{Me}
-use Rattle.shm_graph.specs.declared.memo.Memo.{Memo}
-use Rattle.shm_graph.specs.declared.memo.Op.TheVariants.{Nothing}
-use Rattle.shm_graph.specs.declared.memo.Stored.{Stored}
-use Rattle.shm_graph.specs.declared.spot.Spot.{Spot}
+use Rattle.shm_graph.specs.declared.{ask.Me.Me, memo.{Memo.Memo, Op.TheVariants.Nothing, Stored.Stored}, spot.Spot.Spot}
+use Rattle.shm_graph.specs.{declared.table.Part.{Part, TheVariants.{Loose, Table}}, Asks.Trail, Events.Event}
+use Rattle.shm_graph.specs.{Held.is_loose, Reach.is_reached, Views.own_word}
 use Rattle.shm_graph.specs.declared.spot.Spot.TheVariants as spot
-use Rattle.shm_graph.specs.declared.table.Part.{Part}
-use Rattle.shm_graph.specs.declared.table.Part.TheVariants.{Loose, Table}
-use Rattle.shm_graph.specs.Asks.{Trail}
-use Rattle.shm_graph.specs.Events.{Event}
-use Rattle.shm_graph.specs.Held.{is_loose}
-use Rattle.shm_graph.specs.Reach.{is_reached}
-use Rattle.shm_graph.specs.Views.{own_word}
-use Rattle.shm_steps.specs.Beginning.{HasRoom, IsOwnWord}
-use Rattle.shm_steps.specs.Conditions.{IsHere}
-use Rattle.shm_steps.specs.Raising.{is_read}
-use Rattle.shm_steps.proofs.BeginWords.{claim_by, listed_told, word_address}
-use Rattle.shm_steps.proofs.Cores.{here_same}
-use Rattle.shm_steps.proofs.Covering.{reached_told}
-use Rattle.shm_steps.proofs.Words.Blocks.{idle_settled, reference_load, tag_load}
-use Rattle.shm_steps.proofs.Words.Own.{hold_load}
-use Rattle.shm_count.specs.declared.point.Aim.{Aim}
-use Rattle.shm_count.specs.declared.point.Aim.TheVariants.{Up, Down, Change}
-use Rattle.shm_count.specs.declared.point.Half.TheVariants.{First}
-use Rattle.shm_count.specs.declared.point.StepPoint.TheVariants.{Era}
-use Rattle.shm_count.specs.Lowering.{dies}
-use Rattle.shm_count.specs.Slots.{IsSlotFor, MayStepAt}
-use Rattle.shm_count.specs.Step.Control.{AimFits, AimSmall, IsInside, block_at, last_era, raises}
-use Rattle.shm_count.specs.Step.{CanAim, HasPut}
+use Rattle.shm_steps.specs.{Beginning.{HasRoom, IsOwnWord}, Conditions.IsHere, Raising.is_read}
+use Rattle.shm_steps.proofs.{BeginWords.{claim_by, listed_told, word_address}, Cores.here_same, Covering.reached_told}
+use Rattle.shm_steps.proofs.Words.{Blocks.{idle_settled, reference_load, tag_load}, Own.hold_load}
+use Rattle.shm_count.specs.declared.point.{Aim.{Aim, TheVariants.{Up, Down, Change}}, Half.TheVariants.First}
+use Rattle.shm_count.specs.{declared.point.StepPoint.TheVariants.Era, Lowering.dies, Slots.{IsSlotFor, MayStepAt}}
+use Rattle.shm_count.specs.Step.{Control.{AimFits, AimSmall, IsInside, block_at, last_era, raises}, CanAim, HasPut}
 use Rattle.shm_count.specs.Tear.{CanTear}
 use Rattle.shm_ref.specs.declared.set_ref.SetPoint.{SetPoint}
 use Rattle.shm_ref.specs.declared.set_ref.SetPoint.TheVariants.{Tag, Held, Look, Raise, Lower, Change as ToChange, Tear}
-use Rattle.shm_ref.specs.declared.set_ref.SetState.{SetState}
-use Rattle.shm_ref.specs.SetRef.Control.{set_ask, set_call_at}
+use Rattle.shm_ref.specs.{declared.set_ref.SetState.SetState, SetRef.Control.{set_ask, set_call_at}}
 use Rattle.shm_ref.specs.SetRef.{IsFallen, IsLatched, IsLooked, IsTagged, MaySetRef, SetKnows, set_plan, set_word_part}
 use Rattle.shm_ref.specs.SetRef.Memos.{seen_latch, seen_op, seen_part, seen_reached, seen_status, seen_tag, seen_word, tag_reached, word_seen}
 

@@ -1,9 +1,7 @@
 -- what is said where a reference word of an own block wasn't set
 use Rattle.std.specs.Prelude.{◌≡◌, ◌≢◌, ℕ, ◌^◌, ◌-◌, ◌<◌, ◌≤◌, Bool, true, Some}
 use Rattle.shm_words.specs.Tags.{tag_author, tag_refs}
-use Rattle.shm_graph.specs.declared.memo.Memo.{Memo}
-use Rattle.shm_graph.specs.declared.spot.Spot.TheVariants.{Tag}
-use Rattle.shm_graph.specs.Reach.{is_reached}
+use Rattle.shm_graph.specs.{declared.{memo.Memo.Memo, spot.Spot.TheVariants.Tag}, Reach.is_reached}
 use Rattle.shm_count.specs.Tear.Memos.{Knows}
 use Rattle.shm_ref.specs.declared.answer.SetFault.{SetFault}
 use Rattle.shm_ref.specs.declared.answer.SetFault.TheVariants.{CountFull, EraSpent, NoSuchRef, NotAuthor, NotHeld}

@@ -1,23 +1,15 @@
 -- a step that has begun at a word of the own partition: what it changes, the partition after it, and the map
 use Rattle.std.proofs.Common.{◌≡◌, ◌≢◌, ℕ, ◌<◌, true, refl, sym, ap, ◌∙◌, subst, false}
 use Rattle.shm_words.specs.declared.geometry.Geometry.{Geometry}
-use Rattle.shm_graph.specs.declared.spot.Spot.{Spot}
-use Rattle.shm_graph.specs.declared.spot.Spot.TheVariants.{Home, Era, Redo, RedoMore}
-use Rattle.shm_graph.specs.declared.memo.Memo.{Memo}
-use Rattle.shm_graph.specs.declared.memo.First.TheVariants.{Begun}
-use Rattle.shm_graph.specs.declared.memo.ChangeStage.TheVariants.{Raising}
-use Rattle.shm_graph.specs.declared.memo.Op.{Op}
-use Rattle.shm_graph.specs.declared.memo.Op.TheVariants.{Up, Down, Change}
-use Rattle.shm_graph.specs.Blocks.{classes, IsBlock}
-use Rattle.shm_graph.specs.Chains.{part_set}
+use Rattle.shm_graph.specs.declared.{spot.Spot.{Spot, TheVariants.{Home, Era, Redo, RedoMore}}, memo.Memo.Memo}
+use Rattle.shm_graph.specs.declared.memo.{First.TheVariants.Begun, ChangeStage.TheVariants.Raising, Op.Op}
+use Rattle.shm_graph.specs.{declared.memo.Op.TheVariants.{Up, Down, Change}, Blocks.{classes, IsBlock}, Chains.part_set}
 use Rattle.shm_graph.specs.Held.{HeldAt, OpTie, Allowed, is_loose}
-use Rattle.shm_graph.specs.Ops.{Quiet, On, cover, cover_of, slot_of, is_op, word_at}
-use Rattle.shm_graph.specs.References.{words_of}
+use Rattle.shm_graph.specs.{Ops.{Quiet, On, cover, cover_of, slot_of, is_op, word_at}, References.words_of}
 use Rattle.shm_graph.specs.Views.{view, own_word}
 use Rattle.shm_graph.proofs.States.Holders.{Holds}
 use Rattle.shm_laws.proofs.Keep.{block_not_zero}
-use Rattle.shm_steps.specs.Raising.{IsReparted}
-use Rattle.shm_steps.specs.Reparting.{sight, map_in, TableStep, map_after, Begins}
+use Rattle.shm_steps.specs.{Raising.IsReparted, Reparting.{sight, map_in, TableStep, map_after, Begins}}
 use Rattle.shm_steps.proofs.Partitions.Reparted.{table_reparted, table_mapped}
 
 module _ (g : Geometry) (w : Spot → ℕ) (r : ℕ → Memo) (c : ℕ) (h : HeldAt g w (view r)) (l : c < g.clients) where

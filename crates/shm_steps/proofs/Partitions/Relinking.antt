@@ -1,14 +1,12 @@
 -- chains of entries: what they are once one reference word has changed
 use Rattle.std.proofs.Common.{◌≡◌, ◌≢◌, ℕ, zero, suc, ◌%◌, refl, sym, ap, ◌∙◌, subst, arith, true, false, eqb, List, [], ◌∷◌, ◌++◌, map, get_or, Option, Some, None, inl, inr, nat_eq}
-use Rattle.std.specs.List.{IsDistinct, AllByRecursion}
 use Rattle.std.proofs.lemmas.Bool.{cases_Bool, eq-eqb, ne_eqb, cond-true, cond-false, false≢true, true≢false}
+use Rattle.std.specs.List.{IsDistinct, AllByRecursion}
 use Rattle.shm_words.specs.Tags.{tag_refs}
-use Rattle.shm_graph.specs.declared.spot.Spot.TheVariants.{Body}
-use Rattle.shm_graph.specs.declared.memo.Stored.{Stored}
-use Rattle.shm_graph.specs.declared.table.Entry.{Entry}
+use Rattle.shm_graph.specs.declared.{spot.Spot.TheVariants.Body, memo.Stored.Stored, table.Entry.Entry}
 use Rattle.shm_graph.specs.Tables.{Contents, HasShape, IsEntry, IsChain, find}
-use Rattle.shm_steps.specs.Reparting.{link_after}
 use Rattle.shm_graph.specs.Chains.{word_known, entry_known, chain_from, or_linked, relinked, chain_set, bucket_set}
+use Rattle.shm_steps.specs.Reparting.{link_after}
 
 -- ---- keys
 

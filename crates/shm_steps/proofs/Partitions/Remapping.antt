@@ -1,9 +1,7 @@
 -- the map of a partition: what it is once an entry is put in, is taken out or has another value
 use Rattle.std.proofs.Common.{◌≡◌, ◌≢◌, ℕ, ◌%◌, sym, ap, ◌∙◌, subst, true, false, cond, eqb, List, [], ◌∷◌, ◌++◌, Option, Some, None, inl, inr}
 use Rattle.std.proofs.lemmas.Bool.{cases_Bool, cases_eq, eq-eqb, ne_eqb, eqb-true, cond-true, cond-false}
-use Rattle.shm_graph.specs.declared.table.Entry.{Entry}
-use Rattle.shm_graph.specs.Tables.{find}
-use Rattle.shm_graph.specs.Views.{at1}
+use Rattle.shm_graph.specs.{declared.table.Entry.Entry, Tables.find, Views.at1}
 use Rattle.shm_graph.proofs.Runs.Lists.{at1_here, at1_other}
 use Rattle.shm_steps.proofs.Partitions.Relinking.{found_not, not_found, found_here, found_parts, AreKeyed, keyed_drop}
 

@@ -1,37 +1,27 @@
 -- the partition that a memo has after a count step at one of its words is the one that the new targets hold
 use Rattle.std.proofs.Common.{◌≡◌, ◌≢◌, ℕ, ◌%◌, ◌<◌, ◌≤◌, ◌⊎◌, refl, sym, ap, ◌∙◌, subst, arith, true, false, cond, eqb, ltb, List, [], ◌∷◌, ◌++◌, map, Option, Some, None, inl, inr, Bool}
-use Rattle.std.specs.List.{All, Contains}
 use Rattle.std.proofs.lemmas.Bool.{cases_Bool, cases_eq, eq-eqb, ne_eqb, lt-ltb, cond-true, cond-false, true≢false}
 use Rattle.std.proofs.lemmas.List.Elements.{All-nil, All-cons, All-head, All-tail, All-weaker, All-contains, Contains-append_cases}
-use Rattle.shm_words.specs.declared.geometry.Geometry.{Geometry}
-use Rattle.shm_words.specs.Tags.{tag_refs, tag_plain, tag_author}
-use Rattle.shm_graph.specs.declared.spot.Spot.{Spot}
-use Rattle.shm_graph.specs.declared.spot.Spot.TheVariants.{Home, Tag, Body}
-use Rattle.shm_graph.specs.declared.memo.Memo.{Memo}
-use Rattle.shm_graph.specs.declared.memo.Stored.{Stored}
-use Rattle.shm_graph.specs.declared.table.Entry.{Entry}
-use Rattle.shm_graph.specs.declared.table.Part.{Part}
-use Rattle.shm_graph.specs.declared.table.Part.TheVariants.{Loose, Table}
-use Rattle.shm_graph.specs.Spots.{same_spot, upd}
-use Rattle.shm_graph.specs.Blocks.{headers, IsLive}
-use Rattle.shm_graph.specs.References.{words_of, refs_of}
+use Rattle.std.specs.List.{All, Contains}
+use Rattle.shm_words.specs.{declared.geometry.Geometry.Geometry, Tags.{tag_refs, tag_plain, tag_author}}
+use Rattle.shm_graph.specs.declared.{spot.Spot.{Spot, TheVariants.{Home, Tag, Body}}, memo.{Memo.Memo, Stored.Stored}}
+use Rattle.shm_graph.specs.declared.table.{Entry.Entry, Part.{Part, TheVariants.{Loose, Table}}}
+use Rattle.shm_graph.specs.{Spots.{same_spot, upd}, Blocks.{headers, IsLive}, References.{words_of, refs_of}}
 use Rattle.shm_graph.specs.Ops.{Quiet, On, cover, cover_of, covered, slot_of, word_at}
 use Rattle.shm_graph.specs.Tables.{Contents, contents_of, HasShape, IsEntry, IsChain, IsPartition, find}
-use Rattle.shm_graph.specs.Views.{view, own_word, targets, at1}
-use Rattle.shm_graph.proofs.Spots.Updating.{upd_here, upd_other}
-use Rattle.shm_graph.specs.Held.{HeldAt, PartTie, is_loose}
+use Rattle.shm_graph.specs.{Views.{view, own_word, targets, at1}, Held.{HeldAt, PartTie, is_loose}}
 use Rattle.shm_graph.specs.Reach.{is_at, known_at}
 use Rattle.shm_graph.specs.Chains.{word_known, entry_known, or_zero, part_set, chains_set, bucket_set, relinked, chain_set}
-use Rattle.shm_steps.proofs.Partitions.Remapping.{map_in_one, map_out, map_put}
+use Rattle.shm_graph.proofs.Spots.Updating.{upd_here, upd_other}
+use Rattle.shm_graph.proofs.Spots.Spotting.{same_spot_self, same_spot_is, same_spot_not}
 use Rattle.shm_graph.proofs.States.Counting.{cover_slot, covered_none}
 use Rattle.shm_graph.proofs.States.Holders.{Holds, InReach, held_live_not_zero, reach_counted, step_holds}
-use Rattle.shm_graph.proofs.Memos.KnownChange.{KnownHolds, ValueHolds}
-use Rattle.shm_graph.proofs.States.Reached.{names_here}
-use Rattle.shm_graph.proofs.Spots.Spotting.{same_spot_self, same_spot_is, same_spot_not}
-use Rattle.shm_steps.proofs.BeginAt.{quiet_target}
-use Rattle.shm_steps.specs.Raising.{IsReparted, is_read}
+use Rattle.shm_graph.proofs.{States.Reached.names_here, Memos.KnownChange.{KnownHolds, ValueHolds}}
+use Rattle.shm_steps.proofs.Partitions.Remapping.{map_in_one, map_out, map_put}
 use Rattle.shm_steps.proofs.Partitions.Relinking.{AreKeyed, with_value, chains_at, unset, chain_part}
 use Rattle.shm_steps.proofs.Partitions.Repartition.{listed, keyed_at, partition_same, empty_at, empty_partition, same_left, without_new, not_home, entry_in, entry_out, entry_valued, has_home}
+use Rattle.shm_steps.proofs.BeginAt.{quiet_target}
+use Rattle.shm_steps.specs.Raising.{IsReparted, is_read}
 use Rattle.shm_steps.specs.Reparting.{Sight, sight, chain_in, map_in, link_after, IsKnown, IsTagged, IsBare, IsNew, IsValue, HasEntry, TableStep, map_after}
 use Rattle.shm_steps.specs.Reparting.TableStep.{Founds, Prepares, Links, Unlinks, Replaces}
 

@@ -1,16 +1,13 @@
 -- partitions: what they are once one reference word of the directory or of an entry has changed
 use Rattle.std.proofs.Common.{◌≡◌, ◌≢◌, ℕ, ◌%◌, ◌<◌, ◌⊎◌, refl, sym, ap, ◌∙◌, subst, arith, true, eqb, List, [], ◌∷◌, ◌++◌, map, get_or, replicate, None, inl, inr, nat_eq, zero, suc}
-use Rattle.std.specs.List.{IsDistinct}
 use Rattle.std.proofs.lemmas.Bool.{cases_eq, cases_lt, eq-eqb, ne_eqb, cond-true, cond-false}
+use Rattle.std.specs.List.{IsDistinct}
 use Rattle.shm_words.specs.Tags.{tag_refs, tag_author}
-use Rattle.shm_graph.specs.declared.spot.Spot.TheVariants.{Body}
-use Rattle.shm_graph.specs.declared.memo.Stored.{Stored}
-use Rattle.shm_graph.specs.declared.table.Entry.{Entry}
+use Rattle.shm_graph.specs.declared.{spot.Spot.TheVariants.Body, memo.Stored.Stored, table.Entry.Entry}
 use Rattle.shm_graph.specs.Tables.{Contents, HasShape, IsEntry, IsChain, IsPartition, find}
-use Rattle.shm_graph.specs.Chains.{word_known, entry_known, relinked, chain_set, bucket_set, chains_set}
-use Rattle.shm_graph.specs.Views.{at1}
-use Rattle.shm_steps.specs.Reparting.{link_after}
+use Rattle.shm_graph.specs.{Chains.{word_known, entry_known, relinked, chain_set, bucket_set, chains_set}, Views.at1}
 use Rattle.shm_graph.proofs.Runs.Lists.{at1_here, at1_other}
+use Rattle.shm_steps.specs.Reparting.{link_after}
 use Rattle.shm_steps.proofs.Partitions.Relinking.{AreKeyed, keyed, keyed_distinct, keyed_drop, keyed_put, IsWithout, AreApart, without_part, without_key, without_refs, other_bucket, chain_apart, chain_part, from_next, from_new, unset, chain_stays, unlinked, link_not, link_placed, with_value, revalued, bucket_here, bucket_other, chains_at, shape_set}
 
 -- the chains of a list, by bucket

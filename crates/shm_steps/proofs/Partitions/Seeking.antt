@@ -1,29 +1,21 @@
 -- a walk along the own partition over the loads of its words
 use Rattle.std.proofs.Common.{◌≡◌, ◌≢◌, ℕ, ◌%◌, ◌<◌, zero, suc, refl, sym, ap, ◌∙◌, subst, arith, true, false, not, eqb, eq-eqb, ◌||◌, inl, inr, List, [], ◌∷◌, ◌++◌, map, Some, Bool}
-use Rattle.std.specs.List.{Contains, filter, list_any}
 use Rattle.std.proofs.lemmas.Bool.{cases_Bool, cond-false, false≢true, or_left, or_right}
 use Rattle.std.proofs.lemmas.List.Elements.{Contains-append_right}
+use Rattle.std.specs.List.{Contains, filter, list_any}
 use Rattle.shm_words.specs.declared.geometry.Geometry.{Geometry}
-use Rattle.shm_graph.specs.declared.spot.Spot.{Spot}
-use Rattle.shm_graph.specs.declared.spot.Spot.TheVariants.{Home, Body}
-use Rattle.shm_graph.specs.declared.memo.Look.{Look}
-use Rattle.shm_graph.specs.declared.memo.Memo.{Memo}
-use Rattle.shm_graph.specs.declared.memo.Op.TheVariants.{Nothing}
-use Rattle.shm_graph.specs.declared.memo.Stored.{Stored}
-use Rattle.shm_graph.specs.declared.table.Entry.{Entry}
-use Rattle.shm_graph.specs.Held.{HeldAt, is_loose}
-use Rattle.shm_graph.specs.Ops.{Quiet, cover_of}
-use Rattle.shm_graph.specs.Reach.{learnt, not_at}
+use Rattle.shm_graph.specs.declared.{spot.Spot.{Spot, TheVariants.{Home, Body}}, memo.{Look.Look, Memo.Memo}}
+use Rattle.shm_graph.specs.declared.{memo.{Op.TheVariants.Nothing, Stored.Stored}, table.Entry.Entry}
+use Rattle.shm_graph.specs.{Held.{HeldAt, is_loose}, Ops.{Quiet, cover_of}, Reach.{learnt, not_at}}
 use Rattle.shm_graph.specs.Telling.{Role, Directory, Entry as AnEntry, Other, Played, role_in, role_read, roles_from, roles}
 use Rattle.shm_graph.specs.Views.{view, own_word}
 use Rattle.shm_graph.proofs.Spots.Spotting.{same_spot_not}
 use Rattle.shm_laws.proofs.Keep.{Contains-filter}
 use Rattle.shm_steps.specs.Reparting.{sight, chain_in, link_after, IsKnown}
-use Rattle.shm_steps.specs.Walking.{is_looked, IsIn, IsWalking, IsSeeking, IsVacant, Reads}
+use Rattle.shm_steps.specs.{Walking.{is_looked, IsIn, IsWalking, IsSeeking, IsVacant, Reads}, Beginning.IsOwnWord}
 use Rattle.shm_steps.proofs.Partitions.Words.{one_more_role, role_new, role_stays, directory_word, entry_word}
 use Rattle.shm_steps.proofs.Partitions.Walked.{walk_end, walk_first, walk_next, link_elsewhere, entry_not_home, entry_some}
 use Rattle.shm_steps.proofs.Reaching.{home_reached, look_reached}
-use Rattle.shm_steps.specs.Beginning.{IsOwnWord}
 
 -- ---- what is known
 

@@ -1,24 +1,16 @@
 -- a walk along a chain of the own partition: what a read of its words shows, and which steps may follow
 use Rattle.std.proofs.Common.{◌≡◌, ◌≢◌, ℕ, ◌%◌, ◌<◌, refl, sym, ap, ◌∙◌, subst, arith, false, List, [], ◌∷◌, ◌++◌, Option, Some, None, Bool}
-use Rattle.std.proofs.lemmas.Bool.{true≢false}
-use Rattle.shm_words.specs.declared.geometry.Geometry.{Geometry}
-use Rattle.shm_graph.specs.declared.spot.Spot.{Spot}
-use Rattle.shm_graph.specs.declared.spot.Spot.TheVariants.{Home, Tag, Body}
-use Rattle.shm_graph.specs.declared.memo.Memo.{Memo}
-use Rattle.shm_graph.specs.declared.table.Entry.{Entry}
-use Rattle.shm_graph.specs.declared.table.Part.{Part}
-use Rattle.shm_graph.specs.declared.table.Part.TheVariants.{Loose, Table}
-use Rattle.shm_graph.specs.Held.{HeldAt, PartTie, is_loose}
-use Rattle.shm_graph.specs.Ops.{Quiet, cover_of}
+use Rattle.std.proofs.lemmas.{Bool.true≢false, List.Elements.All-contains}
 use Rattle.std.specs.List.{Contains}
-use Rattle.std.proofs.lemmas.List.Elements.{All-contains}
-use Rattle.shm_words.specs.Tags.{tag_refs}
-use Rattle.shm_graph.proofs.Memos.KnownChange.{ValueHolds}
+use Rattle.shm_words.specs.{declared.geometry.Geometry.Geometry, Tags.tag_refs}
+use Rattle.shm_graph.specs.declared.{spot.Spot.{Spot, TheVariants.{Home, Tag, Body}}, memo.Memo.Memo, table.Entry.Entry}
+use Rattle.shm_graph.specs.{declared.table.Part.{Part, TheVariants.{Loose, Table}}, Held.{HeldAt, PartTie, is_loose}}
+use Rattle.shm_graph.specs.Ops.{Quiet, cover_of}
 use Rattle.shm_graph.specs.Tables.{Contents, contents_of, HasShape, IsEntry, IsChain, IsPartition, find}
 use Rattle.shm_graph.specs.Views.{view, own_word, targets}
+use Rattle.shm_graph.proofs.Memos.KnownChange.{ValueHolds}
 use Rattle.shm_steps.specs.Reparting.{IsNew, Sight, sight, chain_in, map_in, link_after, IsKnown, IsValue, HasEntry, TableStep}
-use Rattle.shm_steps.specs.Reparting.TableStep.{Unlinks, Replaces}
-use Rattle.shm_steps.specs.Walking.{Starts, IsWalking}
+use Rattle.shm_steps.specs.{Reparting.TableStep.{Unlinks, Replaces}, Walking.{Starts, IsWalking}}
 use Rattle.shm_steps.proofs.Partitions.Relinking.{found_joined, found_here, not_found, chain_part, IsWithout, AreApart}
 use Rattle.shm_steps.proofs.Partitions.Repartition.{has_home, not_home, without_home, apart_at}
 use Rattle.shm_steps.proofs.Partitions.Reparted.{home_so, some_block, body_so, known_target, tagged_own}

@@ -1,24 +1,16 @@
 -- words of the own partition that a memo tells by what it read of the table
 use Rattle.std.proofs.Common.{◌≡◌, ◌≢◌, ℕ, ◌<◌, refl, sym, ap, ◌∙◌, subst, true, false, eqb, eq-eqb, ◌==◌, if◌then◌else◌, inl, inr, List, [], ◌∷◌, ◌++◌, Some, Bool}
+use Rattle.std.proofs.lemmas.{Bool.{cases_Bool, eqb-true, cond-true, cond-false}, List.Elements.{All-head, All-tail}}
 use Rattle.std.specs.List.{Contains, All}
-use Rattle.std.proofs.lemmas.Bool.{cases_Bool, eqb-true, cond-true, cond-false}
-use Rattle.std.proofs.lemmas.List.Elements.{All-head, All-tail}
 use Rattle.shm_words.specs.declared.geometry.Geometry.{Geometry}
-use Rattle.shm_graph.specs.declared.spot.Spot.{Spot}
-use Rattle.shm_graph.specs.declared.spot.Spot.TheVariants.{Home, Body}
-use Rattle.shm_graph.specs.declared.memo.Memo.{Memo}
-use Rattle.shm_graph.specs.declared.memo.Look.{Look}
-use Rattle.shm_graph.specs.Held.{HeldAt, is_loose}
-use Rattle.shm_graph.specs.Reach.{is_reached}
-use Rattle.shm_graph.specs.Tables.{Contents, contents_of, HasShape}
+use Rattle.shm_graph.specs.declared.{spot.Spot.{Spot, TheVariants.{Home, Body}}, memo.{Memo.Memo, Look.Look}}
+use Rattle.shm_graph.specs.{Held.{HeldAt, is_loose}, Reach.is_reached, Tables.{Contents, contents_of, HasShape}}
 use Rattle.shm_graph.specs.Telling.{Role, Directory, Entry, Value, Other, Played, role_in, role_from, roles_from, roles, shaped}
 use Rattle.shm_graph.specs.Views.{view, targets}
 use Rattle.shm_graph.proofs.States.Claims.{played_here, part_here, directory_shape}
 use Rattle.shm_graph.proofs.States.Roles.{Plays, IsPlayed, chain_shape, role_plays}
-use Rattle.shm_steps.specs.Beginning.{IsOwnWord}
-use Rattle.shm_steps.specs.Reparting.{sight, IsTagged}
-use Rattle.shm_steps.proofs.BeginWords.{claim_by, listed_told}
-use Rattle.shm_steps.proofs.Covering.{role_told}
+use Rattle.shm_steps.specs.{Beginning.IsOwnWord, Reparting.{sight, IsTagged}}
+use Rattle.shm_steps.proofs.{BeginWords.{claim_by, listed_told}, Covering.role_told}
 
 -- ---- words that may be stored
 

@@ -1,59 +1,35 @@
 -- word steps at the headers, the tags and the words of blocks as parts: what each needs of the memo
 use Rattle.std.proofs.Common.{◌≡◌, ◌≢◌, ℕ, ◌+◌, ◌-◌, ◌*◌, ◌/◌, ◌%◌, ◌<◌, refl, sym, ap, ◌∙◌, subst, arith, Bool, true, false, cond, eqb, leb, not, ◌&&◌, ◌||◌, List, [], ◌∷◌, ◌++◌, map, get_or, Option, None, Some}
-use Rattle.std.specs.List.{All, Contains}
 use Rattle.std.proofs.lemmas.Bool.{and_from, cond-false, cond-true, eq-eqb, le-leb, lt-leb, lt-ltb, ne_eqb, or_left, or_right}
-use Rattle.std.proofs.lemmas.Cmp.{nat_eq_equiv}
-use Rattle.std.proofs.lemmas.List.Elements.{All-append, All-cons, All-contains, All-map, All-nil}
+use Rattle.std.proofs.lemmas.{Cmp.nat_eq_equiv, List.Elements.{All-append, All-cons, All-contains, All-map, All-nil}}
 use Rattle.std.proofs.lemmas.Map.Views.{list_any-from_Contains}
-use Rattle.shm_words.specs.Classes.{IsClass}
-use Rattle.shm_words.specs.Headers.{header_of}
-use Rattle.shm_words.specs.Layout.{bodies, total_of}
+use Rattle.std.specs.List.{All, Contains}
+use Rattle.shm_words.specs.{Classes.IsClass, Headers.header_of, Layout.{bodies, total_of}}
 use Rattle.shm_words.specs.Tags.{tag_author, tag_plain, tag_refs}
 use Rattle.shm_words.proofs.Classing.{class_room}
-use Rattle.shm_graph.specs.declared.ask.Ask.TheVariants.{Load, Store}
-use Rattle.shm_graph.specs.declared.ask.Me.{Me}
-use Rattle.shm_graph.specs.declared.spot.Spot.{Spot}
+use Rattle.shm_graph.specs.declared.{ask.{Ask.TheVariants.{Load, Store}, Me.Me}, spot.Spot.Spot}
 use Rattle.shm_graph.specs.declared.spot.Spot.TheVariants.{Body, Head, Spare, Tag, Unused}
-use Rattle.shm_graph.specs.declared.memo.Fact.TheVariants.{Class}
-use Rattle.shm_graph.specs.declared.memo.Memo.{Memo}
-use Rattle.shm_graph.specs.declared.memo.Op.{Op}
-use Rattle.shm_graph.specs.declared.memo.Op.TheVariants as op
-use Rattle.shm_graph.specs.declared.memo.Step.{Step}
-use Rattle.shm_graph.specs.declared.memo.Stored.{Stored}
-use Rattle.shm_graph.specs.Agents.{recovers}
-use Rattle.shm_graph.specs.Blocks.{classes, IsBlock}
-use Rattle.shm_graph.specs.Changes.{called, memo_on}
-use Rattle.shm_graph.specs.Core.{core}
-use Rattle.shm_graph.specs.Held.{HeldAt}
-use Rattle.shm_graph.specs.Laws.{Frame, Stands, framed}
-use Rattle.shm_graph.specs.Ops.{cover, cover_of, is_op, slot_of}
+use Rattle.shm_graph.specs.declared.memo.{Fact.TheVariants.Class, Memo.Memo, Op.Op, Step.Step, Stored.Stored}
+use Rattle.shm_graph.specs.{Agents.recovers, Blocks.{classes, IsBlock}, Changes.{called, memo_on}, Core.core}
+use Rattle.shm_graph.specs.{Held.HeldAt, Laws.{Frame, Stands, framed}, Ops.{cover, cover_of, is_op, slot_of}}
 use Rattle.shm_graph.specs.Reach.{is_dying, is_reached, learnt, reached_blocks}
 use Rattle.shm_graph.specs.MemoAfterRead.{is_held, is_latched, op_refused, raised_by, reference_read, word_read}
-use Rattle.shm_graph.proofs.Memos.Calls.{FactHolds}
-use Rattle.shm_graph.proofs.Spots.SpotPlaces.{body_spot_at}
-use Rattle.shm_graph.specs.Spots.{block_spot, class_at, segment_of, spot_at}
-use Rattle.shm_graph.specs.MemoAfterStore.{op_written, written}
+use Rattle.shm_graph.specs.{Spots.{block_spot, class_at, segment_of, spot_at}, MemoAfterStore.{op_written, written}}
 use Rattle.shm_graph.specs.Telling.{Claim, Directory, Entry, Other, Role, Value, bare, claim_of, claims, covers, role_claim, roles, shaped, tag_claim, tag_claims, word_of_block}
 use Rattle.shm_graph.specs.Views.{view}
-use Rattle.shm_graph.proofs.States.Claims.{ClaimSound, claims_sound}
-use Rattle.shm_graph.proofs.States.Holders.{Holds, held_live_block, reach_counted}
-use Rattle.shm_graph.proofs.StepKinds.Loads.{choice}
+use Rattle.shm_graph.specs.declared.memo.Op.TheVariants as op
+use Rattle.shm_graph.proofs.Memos.Calls.{FactHolds}
 use Rattle.shm_graph.proofs.Memos.LoadTold.{claim_found, claim_in_all, claim_here, claim_spot, claim_word}
-use Rattle.shm_graph.proofs.States.Reached.{reached_here}
-use Rattle.shm_graph.proofs.Spots.Spotting.{block_within, body_spot, in_pool, tag_spot}
-use Rattle.shm_calls.specs.Parts.{IsHeld}
-use Rattle.shm_calls.specs.Placed.{MayStand}
-use Rattle.shm_calls.specs.Words.{IsWord, word_more}
-use Rattle.shm_calls.specs.WordSteps.{IsThere, word_in}
+use Rattle.shm_graph.proofs.Spots.{SpotPlaces.body_spot_at, Spotting.{block_within, body_spot, in_pool, tag_spot}}
+use Rattle.shm_graph.proofs.States.{Claims.{ClaimSound, claims_sound}, Holders.{Holds, held_live_block, reach_counted}}
+use Rattle.shm_graph.proofs.{States.Reached.reached_here, StepKinds.Loads.choice}
+use Rattle.shm_calls.specs.{Parts.IsHeld, Placed.MayStand, Words.{IsWord, word_more}, WordSteps.{IsThere, word_in}}
 use Rattle.shm_laws.specs.Slotting.{Writes}
-use Rattle.shm_steps.specs.Conditions.{MayWrite}
-use Rattle.shm_steps.specs.LoadNeeds.{IsCovered, IsSettled, IsTold, MayLookBy}
+use Rattle.shm_steps.specs.{Conditions.MayWrite, LoadNeeds.{IsCovered, IsSettled, IsTold, MayLookBy}}
 use Rattle.shm_steps.specs.WordParts.{BodyStored, HeaderLoaded, HeaderSeen, IsDyingWord, IsLatchedWord, IsPlainWord, ReferenceLoaded, WordLoaded}
-use Rattle.shm_steps.proofs.BeginWords.{known_here}
-use Rattle.shm_steps.proofs.BlockTold.{dying_false, dying_true}
+use Rattle.shm_steps.proofs.{BeginWords.known_here, BlockTold.{dying_false, dying_true}}
 use Rattle.shm_steps.proofs.BodyLoads.{header_loaded, tag_loaded, word_loaded}
-use Rattle.shm_steps.proofs.Cores.{HasSlot, body_word, core_cond, header_core}
-use Rattle.shm_steps.proofs.SlotStores.{body_stored}
+use Rattle.shm_steps.proofs.{Cores.{HasSlot, body_word, core_cond, header_core}, SlotStores.body_stored}
 use Rattle.shm_steps.proofs.Words.Own.{at_step, word_for}
 
 -- ---- where the words of a block lie that is told

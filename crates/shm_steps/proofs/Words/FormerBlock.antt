@@ -1,44 +1,22 @@
 -- the exchange of a header in the second half of a change as a part: what it needs of the memo
 use Rattle.std.proofs.Common.{◌≡◌, ℕ, ◌<◌, refl, sym, ap, ◌∙◌, subst, arith, Bool, true, false, cond, eqb, leb, not, ◌&&◌, [], inl, inr}
+use Rattle.std.proofs.{lemmas.Bool.{cases_eq, cond-false, ne_eqb}, Math.Bool.and-false}
 use Rattle.std.specs.List.{Contains}
-use Rattle.std.proofs.lemmas.Bool.{cases_eq, cond-false, ne_eqb}
-use Rattle.std.proofs.Math.Bool.{and-false}
-use Rattle.shm_words.specs.Headers.{header_of}
-use Rattle.shm_words.specs.Layout.{total_of}
-use Rattle.shm_graph.specs.declared.ask.Ask.{Ask}
-use Rattle.shm_graph.specs.declared.ask.Ask.TheVariants.{Exchange}
-use Rattle.shm_graph.specs.declared.ask.Me.{Me}
-use Rattle.shm_graph.specs.declared.spot.Spot.{Spot}
+use Rattle.shm_words.specs.{Headers.header_of, Layout.total_of}
+use Rattle.shm_graph.specs.declared.{ask.{Ask.{Ask, TheVariants.Exchange}, Me.Me}, spot.Spot.Spot}
 use Rattle.shm_graph.specs.declared.spot.Spot.TheVariants.{Head, Redo, RedoMore, Era}
-use Rattle.shm_graph.specs.declared.memo.Fact.TheVariants.{Header as HeaderRead}
-use Rattle.shm_graph.specs.declared.memo.ChangeStage.TheVariants.{Lowering}
-use Rattle.shm_graph.specs.declared.memo.Memo.{Memo}
-use Rattle.shm_graph.specs.declared.memo.Op.{Op}
-use Rattle.shm_graph.specs.declared.memo.Op.TheVariants as op
-use Rattle.shm_graph.specs.declared.memo.Op.TheVariants.{Change}
-use Rattle.shm_graph.specs.declared.memo.Second.TheVariants.{Closed, Open}
-use Rattle.shm_graph.specs.declared.memo.Step.{Step}
-use Rattle.shm_graph.specs.Agents.{recovers}
-use Rattle.shm_graph.specs.Blocks.{classes}
-use Rattle.shm_graph.specs.Changes.{called}
-use Rattle.shm_graph.specs.Core.{core}
-use Rattle.shm_graph.specs.Events.{Nothing}
-use Rattle.shm_graph.specs.MemoAfterExchange.{committed, cut, exchanged_on, without_made}
-use Rattle.shm_graph.specs.Held.{OpTie}
-use Rattle.shm_graph.specs.Laws.{event_of, framed}
-use Rattle.shm_graph.specs.References.{words_of}
-use Rattle.shm_graph.specs.Reach.{sifted}
+use Rattle.shm_graph.specs.declared.memo.{Fact.TheVariants.Header as HeaderRead, ChangeStage.TheVariants.Lowering}
+use Rattle.shm_graph.specs.declared.memo.{Memo.Memo, Op.{Op, TheVariants.Change}, Second.TheVariants.{Closed, Open}}
+use Rattle.shm_graph.specs.{declared.memo.Step.Step, Agents.recovers, Blocks.classes, Changes.called, Core.core}
+use Rattle.shm_graph.specs.{Events.Nothing, MemoAfterExchange.{committed, cut, exchanged_on, without_made}, Held.OpTie}
+use Rattle.shm_graph.specs.{Laws.{event_of, framed}, References.words_of, Reach.sifted}
 use Rattle.shm_graph.specs.MemoAfterRead.{header_read, is_held, op_refused, raised_by}
-use Rattle.shm_calls.specs.EventWords.{IsEventWord, event_in}
-use Rattle.shm_calls.specs.WordSteps.{IsThere}
+use Rattle.shm_graph.specs.declared.memo.Op.TheVariants as op
+use Rattle.shm_calls.specs.{EventWords.{IsEventWord, event_in}, WordSteps.IsThere}
 use Rattle.shm_laws.specs.HeaderExchanges.{dying_after}
-use Rattle.shm_steps.specs.Lowering.{MayLowerFormer}
-use Rattle.shm_steps.specs.WordParts.{FormerLowered, former_event}
-use Rattle.shm_steps.proofs.BodyLoads.{header_lost}
-use Rattle.shm_steps.proofs.ChangeLowered.{change_lowered}
-use Rattle.shm_steps.proofs.Cores.{header_core}
-use Rattle.shm_steps.proofs.MemoCommits.{known_lowered, lowered_is}
-use Rattle.shm_steps.proofs.Words.Own.{at_step, word_for}
+use Rattle.shm_steps.specs.{Lowering.MayLowerFormer, WordParts.{FormerLowered, former_event}}
+use Rattle.shm_steps.proofs.{BodyLoads.header_lost, ChangeLowered.change_lowered, Cores.header_core}
+use Rattle.shm_steps.proofs.{MemoCommits.{known_lowered, lowered_is}, Words.Own.{at_step, word_for}}
 
 module _ (first : Bool) (me : Me) (m : Memo) (l : me.who < me.geometry.clients) (p : Spot) (a b e n from to : ℕ) where
   abbrev c : ℕ

@@ -1,49 +1,26 @@
 -- word steps at own words as parts: what each needs of the memo
 use Rattle.std.proofs.Common.{◌≡◌, ◌≢◌, ℕ, ◌+◌, ◌<◌, refl, sym, ap, ◌∙◌, subst, arith, Bool, true, false, not, cond, eqb, ◌&&◌, [], ◌∷◌}
-use Rattle.std.specs.Prelude.{None, Option}
-use Rattle.std.specs.List.{Contains}
 use Rattle.std.proofs.lemmas.Bool.{and_from, and_parts, cond-false, cond-true, eq-eqb, eqb-true, lt-ltb, ne_eqb}
-use Rattle.shm_words.specs.declared.place.Place.{Place}
+use Rattle.std.specs.{Prelude.{None, Option}, List.Contains}
+use Rattle.shm_words.specs.{declared.place.Place.Place, Layout.address}
 use Rattle.shm_words.specs.declared.place.Place.TheVariants as place
-use Rattle.shm_words.specs.Layout.{address}
-use Rattle.shm_graph.specs.declared.ask.Ask.{Ask}
-use Rattle.shm_graph.specs.declared.ask.Ask.TheVariants.{Load, Store}
-use Rattle.shm_graph.specs.declared.ask.Me.{Me}
-use Rattle.shm_graph.specs.declared.spot.Spot.{Spot}
+use Rattle.shm_graph.specs.declared.{ask.{Ask.{Ask, TheVariants.{Load, Store}}, Me.Me}, spot.Spot.Spot}
 use Rattle.shm_graph.specs.declared.spot.Spot.TheVariants.{Spare, Status, Redo, Hold, Home, Era, Root, Tail, QueueHead}
-use Rattle.shm_graph.specs.declared.memo.Fact.TheVariants.{Counter}
-use Rattle.shm_graph.specs.declared.memo.Memo.{Memo}
-use Rattle.shm_graph.specs.declared.memo.Op.TheVariants.{Nothing}
-use Rattle.shm_graph.specs.declared.memo.Step.{Step}
-use Rattle.shm_graph.specs.declared.memo.Status.TheVariants as status
-use Rattle.shm_graph.specs.declared.memo.Test.{Test}
-use Rattle.shm_graph.specs.Agents.{recovers}
-use Rattle.shm_graph.specs.Blocks.{classes}
-use Rattle.shm_graph.specs.Changes.{called, test_before}
-use Rattle.shm_graph.specs.Core.{core}
-use Rattle.shm_graph.specs.Held.{status_word}
-use Rattle.shm_graph.specs.Laws.{GoneNow, KeptAt, MayEnd, framed}
-use Rattle.shm_graph.specs.Ops.{IsUncommitted}
-use Rattle.shm_graph.specs.MemoAfterRead.{read_on, row_read}
-use Rattle.shm_graph.specs.Spots.{is_in_body, spot_at}
+use Rattle.shm_graph.specs.declared.memo.{Fact.TheVariants.Counter, Memo.Memo, Op.TheVariants.Nothing, Step.Step}
+use Rattle.shm_graph.specs.{declared.memo.Test.Test, Agents.recovers, Blocks.classes, Changes.{called, test_before}}
+use Rattle.shm_graph.specs.{Core.core, Held.status_word, Laws.{GoneNow, KeptAt, MayEnd, framed}, Ops.IsUncommitted}
+use Rattle.shm_graph.specs.{MemoAfterRead.{read_on, row_read}, Spots.{is_in_body, spot_at}}
 use Rattle.shm_graph.specs.MemoAfterStore.{era_stored, is_lowering, op_closed, stored_on, with_own, without_looks, written}
 use Rattle.shm_graph.specs.Views.{own_word, owner_is}
-use Rattle.shm_graph.proofs.Machines.Calling.{called_by}
-use Rattle.shm_graph.proofs.StepKinds.Keeping.{live_kept}
-use Rattle.shm_graph.proofs.StepKinds.Loads.{choice}
-use Rattle.shm_graph.proofs.Spots.SpotPlaces.{spot-place}
-use Rattle.shm_graph.proofs.StepKinds.StatusKeeping.{dead_kept, gone_kept}
+use Rattle.shm_graph.specs.declared.memo.Status.TheVariants as status
+use Rattle.shm_graph.proofs.{Machines.Calling.called_by, StepKinds.{Keeping.live_kept, Loads.choice}}
+use Rattle.shm_graph.proofs.{StepKinds.StatusKeeping.{dead_kept, gone_kept}, Spots.SpotPlaces.spot-place}
 use Rattle.shm_graph.proofs.Memos.MemoSteps.{recovers_called}
-use Rattle.shm_calls.specs.declared.word.Word.{Word}
-use Rattle.shm_calls.specs.Words.{IsWord, word_more}
-use Rattle.shm_calls.specs.WordSteps.{KindKept, load_at, word_at}
-use Rattle.shm_steps.specs.Conditions.{MayWrite}
-use Rattle.shm_steps.specs.OwnWords.{MayShow, MayHold, MayClose}
+use Rattle.shm_calls.specs.{declared.word.Word.Word, Words.{IsWord, word_more}, WordSteps.{KindKept, load_at, word_at}}
+use Rattle.shm_steps.specs.{Conditions.MayWrite, OwnWords.{MayShow, MayHold, MayClose}}
 use Rattle.shm_steps.specs.WordParts.{OwnLoaded, StatusLoaded, HoldLoaded, HoldStored, LiveStored, DeadStored, GoneStored, RowStored, EraClosed, EraClosedLowering, EraStored, CountLoaded, Makes, NamedStored}
-use Rattle.shm_steps.proofs.Cores.{called_core, core_cond}
-use Rattle.shm_steps.proofs.OwnStores.{hold_stored, row_stored}
-use Rattle.shm_steps.proofs.OwnStoresEra.{era_closed}
-use Rattle.shm_steps.proofs.SlotStores.{home_stored, root_stored}
+use Rattle.shm_steps.proofs.{Cores.{called_core, core_cond}, OwnStores.{hold_stored, row_stored}}
+use Rattle.shm_steps.proofs.{OwnStoresEra.era_closed, SlotStores.{home_stored, root_stored}}
 
 -- a word step as it is made
 abbrev pub word_for : Me → Ask → Word

@@ -1,46 +1,24 @@
 -- word steps at the slots, the tails and the heads of queues as parts: what each needs of the memo
 use Rattle.std.proofs.Common.{◌≡◌, ◌≢◌, ℕ, ◌+◌, ◌%◌, ◌<◌, ◌≤◌, refl, sym, ap, ◌∙◌, subst, arith, Bool, true, false, not, eqb, ◌&&◌, List, [], inl, inr}
-use Rattle.std.specs.Prelude.{slice_index}
-use Rattle.std.specs.List.{Contains, list_any}
 use Rattle.std.proofs.lemmas.Bool.{and_from, and_parts, cond-true, eq-eqb, eqb-true, lt-ltb, ne_eqb}
-use Rattle.std.proofs.lemmas.List.Elements.{All-contains, All-get_or}
-use Rattle.std.proofs.lemmas.List.Folds.{list_any_at}
-use Rattle.shm_words.specs.declared.place.Place.TheVariants as place
+use Rattle.std.proofs.lemmas.List.{Elements.{All-contains, All-get_or}, Folds.list_any_at}
+use Rattle.std.specs.{Prelude.slice_index, List.{Contains, list_any}}
 use Rattle.shm_words.specs.Layout.{address}
-use Rattle.shm_graph.specs.declared.ask.Ask.TheVariants.{Load, Store}
-use Rattle.shm_graph.specs.declared.ask.Me.{Me}
-use Rattle.shm_graph.specs.declared.spot.Spot.{Spot}
-use Rattle.shm_graph.specs.declared.spot.Spot.TheVariants.{QueueHead, Slot, Tail}
-use Rattle.shm_graph.specs.declared.memo.Fact.{Fact}
-use Rattle.shm_graph.specs.declared.memo.Fact.TheVariants.{Counter}
-use Rattle.shm_graph.specs.declared.memo.Memo.{Memo}
-use Rattle.shm_graph.specs.declared.memo.Step.{Step}
-use Rattle.shm_graph.specs.Blocks.{classes}
-use Rattle.shm_graph.specs.Changes.{called}
-use Rattle.shm_graph.specs.Core.{core}
-use Rattle.shm_graph.specs.Held.{HeldAt}
-use Rattle.shm_graph.specs.Laws.{KeptAt, framed}
-use Rattle.shm_graph.specs.Reach.{learnt}
-use Rattle.shm_graph.specs.MemoAfterRead.{is_head_slot, is_tail_above, valued}
-use Rattle.shm_graph.specs.Spots.{spot_at}
-use Rattle.shm_graph.specs.MemoAfterStore.{head_stored, tail_stored, written}
-use Rattle.shm_graph.specs.Views.{own_word, targets, view}
-use Rattle.shm_graph.proofs.Memos.Calls.{FactHolds}
-use Rattle.shm_graph.proofs.States.Holders.{Holds}
-use Rattle.shm_graph.proofs.StepKinds.Loads.{choice}
+use Rattle.shm_words.specs.declared.place.Place.TheVariants as place
+use Rattle.shm_graph.specs.declared.{ask.{Ask.TheVariants.{Load, Store}, Me.Me}, spot.Spot.Spot}
+use Rattle.shm_graph.specs.declared.{spot.Spot.TheVariants.{QueueHead, Slot, Tail}, memo.Fact.Fact}
+use Rattle.shm_graph.specs.{declared.memo.{Fact.TheVariants.Counter, Memo.Memo, Step.Step}, Blocks.classes}
+use Rattle.shm_graph.specs.{Changes.called, Core.core, Held.HeldAt, Laws.{KeptAt, framed}, Reach.learnt}
+use Rattle.shm_graph.specs.{MemoAfterRead.{is_head_slot, is_tail_above, valued}, Spots.spot_at}
+use Rattle.shm_graph.specs.{MemoAfterStore.{head_stored, tail_stored, written}, Views.{own_word, targets, view}}
+use Rattle.shm_graph.proofs.{Memos.Calls.FactHolds, States.Holders.Holds, StepKinds.Loads.choice}
 use Rattle.shm_graph.proofs.Spots.SpotPlaces.{spot-place}
-use Rattle.shm_calls.specs.Words.{IsWord}
-use Rattle.shm_calls.specs.WordSteps.{load_at}
-use Rattle.shm_steps.specs.Conditions.{MayWrite}
-use Rattle.shm_steps.specs.OwnWords.{MayReceive, MaySend}
+use Rattle.shm_calls.specs.{Words.IsWord, WordSteps.load_at}
+use Rattle.shm_steps.specs.{Conditions.MayWrite, OwnWords.{MayReceive, MaySend}}
 use Rattle.shm_steps.specs.WordParts.{HeadSlotLoaded, HeadStored, IsHeadSlot, IsTailSlot, SlotStored, TailSlotLoaded, TailStored}
-use Rattle.shm_steps.proofs.BeginAt.{word_target}
-use Rattle.shm_steps.proofs.BeginSlots.{room_left, room_unsent, tail_has}
-use Rattle.shm_steps.proofs.BeginWords.{known_here}
-use Rattle.shm_steps.proofs.Cores.{called_count}
+use Rattle.shm_steps.proofs.{BeginAt.word_target, BeginSlots.{room_left, room_unsent, tail_has}, BeginWords.known_here}
+use Rattle.shm_steps.proofs.{Cores.called_count, SlotStores.queue_stored, Words.Own.{at_step, store_at, word_for}}
 use Rattle.shm_steps.proofs.OwnStoresLanes as lanes
-use Rattle.shm_steps.proofs.SlotStores.{queue_stored}
-use Rattle.shm_steps.proofs.Words.Own.{at_step, store_at, word_for}
 
 -- what passes a test is found by it
 found_by : (p : Fact → Bool) (ks : List Fact) (k : Fact) → Contains ks k → p k ≡ true → list_any p ks ≡ true

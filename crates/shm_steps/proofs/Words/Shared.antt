@@ -1,39 +1,20 @@
 -- word steps at latches, homes, segments and pages as parts: what each needs of the memo
 use Rattle.std.proofs.Common.{◌≡◌, ◌≢◌, ℕ, ◌+◌, ◌<◌, refl, sym, ap, ◌∙◌, subst, arith, Bool, true, false, not, cond, eqb, ◌&&◌, List, [], ◌∷◌, ◌++◌, inl, inr}
-use Rattle.std.specs.Prelude.{None, Option, Some}
-use Rattle.std.specs.List.{Contains, list_any, filter}
 use Rattle.std.proofs.lemmas.Bool.{and_from, and_parts, cases_eq, eq-eqb, eqb-true, false≢true, lt-ltb, true≢false}
-use Rattle.std.proofs.lemmas.Cmp.{nat_eq_equiv}
-use Rattle.std.proofs.lemmas.Map.Views.{list_any-from_Contains}
-use Rattle.shm_words.specs.declared.place.Place.TheVariants as place
+use Rattle.std.proofs.lemmas.{Cmp.nat_eq_equiv, Map.Views.list_any-from_Contains}
+use Rattle.std.specs.{Prelude.{None, Option, Some}, List.{Contains, list_any, filter}}
 use Rattle.shm_words.specs.Layout.{address}
-use Rattle.shm_graph.specs.declared.ask.Ask.{Ask}
-use Rattle.shm_graph.specs.declared.ask.Ask.TheVariants.{Load, Store, Exchange}
-use Rattle.shm_graph.specs.declared.ask.Me.{Me}
-use Rattle.shm_graph.specs.declared.spot.Spot.TheVariants.{Home, Latch, Page, Segment}
-use Rattle.shm_graph.specs.declared.memo.Fact.TheVariants.{Class}
-use Rattle.shm_graph.specs.declared.memo.Memo.{Memo}
-use Rattle.shm_graph.specs.declared.memo.Step.{Step}
-use Rattle.shm_graph.specs.Blocks.{classes}
-use Rattle.shm_graph.specs.Changes.{called, with_call, with_end}
-use Rattle.shm_graph.specs.Core.{core}
-use Rattle.shm_graph.specs.Laws.{framed}
-use Rattle.shm_graph.specs.Reach.{unlatched}
-use Rattle.shm_graph.specs.MemoAfterRead.{is_held}
-use Rattle.shm_graph.specs.Spots.{spot_at}
-use Rattle.shm_graph.specs.MemoAfterStore.{not_segment}
-use Rattle.shm_graph.specs.Views.{own_word}
-use Rattle.shm_graph.proofs.StepKinds.LoadKeeping.{lost_kept}
-use Rattle.shm_graph.proofs.StepKinds.Loads.{choice}
-use Rattle.shm_graph.proofs.Spots.SpotPlaces.{spot-place}
-use Rattle.shm_calls.specs.Words.{IsWord}
-use Rattle.shm_calls.specs.WordSteps.{load_at, word_at}
-use Rattle.shm_steps.specs.Conditions.{IsHere}
-use Rattle.shm_steps.specs.Preparing.{MayGive, MayLatch}
-use Rattle.shm_steps.specs.Unlatching.{MayUnlatch}
+use Rattle.shm_words.specs.declared.place.Place.TheVariants as place
+use Rattle.shm_graph.specs.declared.ask.{Ask.{Ask, TheVariants.{Load, Store, Exchange}}, Me.Me}
+use Rattle.shm_graph.specs.declared.{spot.Spot.TheVariants.{Home, Latch, Page, Segment}, memo.Fact.TheVariants.Class}
+use Rattle.shm_graph.specs.{declared.memo.{Memo.Memo, Step.Step}, Blocks.classes, Changes.{called, with_call, with_end}}
+use Rattle.shm_graph.specs.{Core.core, Laws.framed, Reach.unlatched, MemoAfterRead.is_held, Spots.spot_at}
+use Rattle.shm_graph.specs.{MemoAfterStore.not_segment, Views.own_word}
+use Rattle.shm_graph.proofs.{StepKinds.{LoadKeeping.lost_kept, Loads.choice}, Spots.SpotPlaces.spot-place}
+use Rattle.shm_calls.specs.{Words.IsWord, WordSteps.{load_at, word_at}}
+use Rattle.shm_steps.specs.{Conditions.IsHere, Preparing.{MayGive, MayLatch}, Unlatching.MayUnlatch}
 use Rattle.shm_steps.specs.WordParts.{HomeLoaded, HomeLooked, LatchGiven, LatchLoaded, LatchTaken, PageLoaded, SegmentGiven, SegmentLoaded, SegmentTaken}
-use Rattle.shm_steps.proofs.LatchBack.{latch_back}
-use Rattle.shm_steps.proofs.PageSteps.{claimed, given_up, latched}
+use Rattle.shm_steps.proofs.{LatchBack.latch_back, PageSteps.{claimed, given_up, latched}}
 use Rattle.shm_steps.proofs.Words.Own.{at_step, store_at, word_for}
 
 -- a latch that is taken for held is held

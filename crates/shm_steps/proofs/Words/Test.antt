@@ -1,35 +1,19 @@
 -- the word steps of the commit test as parts: what each needs of the memo
 use Rattle.std.proofs.Common.{◌≡◌, ◌≢◌, ℕ, ◌<◌, refl, sym, ap, ◌∙◌, subst, arith, Bool, true, false, not, cond, eqb, ◌&&◌, List, [], ◌∷◌, None}
-use Rattle.std.specs.List.{Contains}
-use Rattle.std.proofs.lemmas.Bool.{and_from, cond-true, eq-eqb, lt-ltb, ne_eqb}
-use Rattle.std.proofs.lemmas.Cmp.{nat_eq_equiv}
+use Rattle.std.proofs.lemmas.{Bool.{and_from, cond-true, eq-eqb, lt-ltb, ne_eqb}, Cmp.nat_eq_equiv}
 use Rattle.std.proofs.lemmas.Map.Views.{list_any-from_Contains}
-use Rattle.shm_words.specs.declared.place.Place.TheVariants as place
+use Rattle.std.specs.List.{Contains}
 use Rattle.shm_words.specs.Layout.{address, total_of}
-use Rattle.shm_graph.specs.declared.ask.Ask.TheVariants.{Load}
-use Rattle.shm_graph.specs.declared.ask.Me.{Me}
-use Rattle.shm_graph.specs.declared.spot.Spot.TheVariants.{Era, Head, Spare}
-use Rattle.shm_graph.specs.declared.memo.Fact.TheVariants.{Counter}
-use Rattle.shm_graph.specs.declared.memo.Memo.{Memo}
-use Rattle.shm_graph.specs.declared.memo.Step.{Step}
-use Rattle.shm_graph.specs.Agents.{recovers}
-use Rattle.shm_graph.specs.Blocks.{classes}
-use Rattle.shm_graph.specs.Changes.{called, test_before}
-use Rattle.shm_graph.specs.Core.{core}
-use Rattle.shm_graph.specs.Laws.{framed}
-use Rattle.shm_graph.specs.MemoAfterRead.{op_refused, row_read, test_from, test_on}
-use Rattle.shm_graph.specs.Spots.{segment_of}
-use Rattle.shm_graph.specs.Views.{own_word}
-use Rattle.shm_graph.proofs.Spots.SpotPlaces.{spot-place}
-use Rattle.shm_graph.proofs.Spots.Spotting.{spot_zero}
-use Rattle.shm_graph.proofs.StepKinds.LoadKeeping.{load_kept}
+use Rattle.shm_words.specs.declared.place.Place.TheVariants as place
+use Rattle.shm_graph.specs.declared.{ask.{Ask.TheVariants.Load, Me.Me}, spot.Spot.TheVariants.{Era, Head, Spare}}
+use Rattle.shm_graph.specs.{declared.memo.{Fact.TheVariants.Counter, Memo.Memo, Step.Step}, Agents.recovers}
+use Rattle.shm_graph.specs.{Blocks.classes, Changes.{called, test_before}, Core.core, Laws.framed}
+use Rattle.shm_graph.specs.{MemoAfterRead.{op_refused, row_read, test_from, test_on}, Spots.segment_of, Views.own_word}
+use Rattle.shm_graph.proofs.{Spots.{SpotPlaces.spot-place, Spotting.spot_zero}, StepKinds.LoadKeeping.load_kept}
 use Rattle.shm_graph.proofs.Memos.MemoSteps.{recovers_called}
-use Rattle.shm_calls.specs.Words.{IsWord}
-use Rattle.shm_calls.specs.WordSteps.{IsThere, load_at, word_in}
+use Rattle.shm_calls.specs.{Words.IsWord, WordSteps.{IsThere, load_at, word_in}}
 use Rattle.shm_steps.specs.WordParts.{TestBegun, TestGoesOn}
-use Rattle.shm_steps.proofs.BodyLoads.{header_loaded}
-use Rattle.shm_steps.proofs.Cores.{header_core}
-use Rattle.shm_steps.proofs.Words.Blocks.{recoverer_goes_on}
+use Rattle.shm_steps.proofs.{BodyLoads.header_loaded, Cores.header_core, Words.Blocks.recoverer_goes_on}
 use Rattle.shm_steps.proofs.Words.Own.{at_step, word_for}
 
 module _ (first : Bool) (me : Me) (m : Memo) (l : me.who < me.geometry.clients) (dead : recovers m ≡ true) where

@@ -1,90 +1,65 @@
 -- what the whole trails of commands show of why they were refused
 use Rattle.std.proofs.Common.{◌≡◌, ℕ, refl, subst, Bool, true, false, [], ◌++◌, Option, Some, None}
 use Rattle.std.specs.Prelude.{Result, Ok, Err, ◌==◌, ◌-◌}
-use Rattle.shm_graph.specs.declared.ask.Me.{Me}
-use Rattle.shm_graph.specs.Asks.{Trail}
-use Rattle.shm_graph.specs.Laws.{Outcome}
-use Rattle.shm_calls.specs.declared.or.Or.TheVariants.{First, Second}
-use Rattle.shm_calls.specs.Plans.{plan_trail}
-use Rattle.shm_count.specs.declared.answer.EraSpent.{EraSpent}
-use Rattle.shm_count.specs.declared.answer.ShareFault.{ShareFault}
-use Rattle.shm_count.specs.declared.answer.UpFault.{UpFault}
+use Rattle.shm_graph.specs.{declared.ask.Me.Me, Asks.Trail, Laws.Outcome}
+use Rattle.shm_calls.specs.{declared.or.Or.TheVariants.{First, Second}, Plans.plan_trail}
+use Rattle.shm_count.specs.declared.answer.{EraSpent.EraSpent, ShareFault.ShareFault, UpFault.UpFault}
+use Rattle.shm_count.specs.UpRoot.Control.{rooting}
 use Rattle.shm_count.specs.declared.answer.UpFault.TheVariants as up
 use Rattle.shm_count.specs.declared.point.Aim.TheVariants as aims
-use Rattle.shm_count.specs.UpRoot.Control.{rooting}
 use Rattle.shm_alloc.specs.declared.alloc.AllocFault.{AllocFault}
-use Rattle.shm_queue.specs.declared.answer.SendFault.{SendFault}
-use Rattle.shm_queue.specs.declared.answer.SendFault.TheVariants as sent_fault
-use Rattle.shm_queue.specs.declared.send.SendPoint.{SendPoint}
-use Rattle.shm_queue.specs.declared.send.SendPoint.TheVariants as send
-use Rattle.shm_queue.specs.declared.send.SendState.{SendState}
+use Rattle.shm_queue.specs.declared.{answer.SendFault.SendFault, send.{SendPoint.SendPoint, SendState.SendState}}
 use Rattle.shm_queue.specs.Answers.{send_fault}
 use Rattle.shm_queue.specs.Send.Control.{SendAnswer, send_after, send_call_at, send_turns, sending, slot_at}
 use Rattle.shm_queue.specs.Send.{send_part, send_plan}
-use Rattle.shm_ref.specs.DropRoot.Control.{dropping}
-use Rattle.shm_ref.specs.DropRoot.{drop_plan}
+use Rattle.shm_queue.specs.declared.answer.SendFault.TheVariants as sent_fault
+use Rattle.shm_queue.specs.declared.send.SendPoint.TheVariants as send
+use Rattle.shm_ref.specs.DropRoot.{Control.dropping, drop_plan}
 use Rattle.shm_script.specs.declared.log.Answer.{Answer}
 use Rattle.shm_script.specs.declared.log.Answer.TheVariants as answer
-use Rattle.shm_table.specs.declared.answer.PutFault.{PutFault}
-use Rattle.shm_table.specs.declared.copy.CopyPoint.{CopyPoint}
-use Rattle.shm_table.specs.declared.copy.CopyPoint.TheVariants as copy
-use Rattle.shm_table.specs.declared.copy.CopyState.{CopyState}
-use Rattle.shm_table.specs.declared.del.DelPoint.{DelPoint}
-use Rattle.shm_table.specs.declared.del.DelPoint.TheVariants as del
-use Rattle.shm_table.specs.declared.del.DelState.{DelState}
-use Rattle.shm_table.specs.declared.enter.Entered.{Entered}
-use Rattle.shm_table.specs.declared.enter.Entered.TheVariants.{Linked, Unlinked, Unmade}
-use Rattle.shm_table.specs.declared.fetch.Fetched.{Fetched}
-use Rattle.shm_table.specs.declared.fetch.Fetched.TheVariants as fetched
-use Rattle.shm_table.specs.declared.fetch.FetchPoint.{FetchPoint}
-use Rattle.shm_table.specs.declared.fetch.FetchPoint.TheVariants as fetch
-use Rattle.shm_table.specs.declared.fetch.FetchState.{FetchState}
-use Rattle.shm_table.specs.declared.fetch_head.FetchedHead.{FetchedHead}
-use Rattle.shm_table.specs.declared.fetch_head.FetchedHead.TheVariants as head
-use Rattle.shm_table.specs.declared.fetch_head.FetchHeadPoint.{FetchHeadPoint}
-use Rattle.shm_table.specs.declared.fetch_head.FetchHeadPoint.TheVariants as fetch_head
-use Rattle.shm_table.specs.declared.fetch_head.FetchHeadState.{FetchHeadState}
-use Rattle.shm_table.specs.declared.find.Found.TheVariants.{Absent, At}
-use Rattle.shm_table.specs.declared.put.PutPoint.{PutPoint}
-use Rattle.shm_table.specs.declared.put.PutPoint.TheVariants as put
-use Rattle.shm_table.specs.declared.put.PutState.{PutState}
-use Rattle.shm_table.specs.declared.put_root.PutRootPoint.{PutRootPoint}
-use Rattle.shm_table.specs.declared.put_root.PutRootPoint.TheVariants as root
-use Rattle.shm_table.specs.declared.put_root.PutRootState.{PutRootState}
-use Rattle.shm_table.specs.declared.recv.RecvPoint.{RecvPoint}
-use Rattle.shm_table.specs.declared.recv.RecvPoint.TheVariants as recv
-use Rattle.shm_table.specs.declared.recv.RecvState.{RecvState}
-use Rattle.shm_table.specs.declared.send_key.SendKeyPoint.{SendKeyPoint}
-use Rattle.shm_table.specs.declared.send_key.SendKeyPoint.TheVariants as send_key
-use Rattle.shm_table.specs.declared.send_key.SendKeyState.{SendKeyState}
-use Rattle.shm_table.specs.declared.unlink.UnlinkPoint.{UnlinkPoint}
-use Rattle.shm_table.specs.declared.unlink.UnlinkPoint.TheVariants as unlink
-use Rattle.shm_table.specs.declared.unlink.UnlinkState.{UnlinkState}
-use Rattle.shm_table.specs.Answers.{fault_answer, made_fault, raised_fault}
+use Rattle.shm_table.specs.declared.{answer.PutFault.PutFault, copy.{CopyPoint.CopyPoint, CopyState.CopyState}}
+use Rattle.shm_table.specs.declared.{del.{DelPoint.DelPoint, DelState.DelState}, enter.Entered.Entered}
+use Rattle.shm_table.specs.declared.{enter.Entered.TheVariants.{Linked, Unlinked, Unmade}, fetch.Fetched.Fetched}
+use Rattle.shm_table.specs.declared.fetch.{FetchPoint.FetchPoint, FetchState.FetchState}
+use Rattle.shm_table.specs.declared.fetch_head.{FetchedHead.FetchedHead, FetchHeadPoint.FetchHeadPoint}
+use Rattle.shm_table.specs.declared.{fetch_head.FetchHeadState.FetchHeadState, find.Found.TheVariants.{Absent, At}}
+use Rattle.shm_table.specs.declared.{put.{PutPoint.PutPoint, PutState.PutState}, put_root.PutRootPoint.PutRootPoint}
+use Rattle.shm_table.specs.declared.{put_root.PutRootState.PutRootState, recv.RecvPoint.RecvPoint}
+use Rattle.shm_table.specs.declared.{recv.RecvState.RecvState, send_key.SendKeyPoint.SendKeyPoint}
+use Rattle.shm_table.specs.declared.{send_key.SendKeyState.SendKeyState, unlink.UnlinkPoint.UnlinkPoint}
+use Rattle.shm_table.specs.{declared.unlink.UnlinkState.UnlinkState, Answers.{fault_answer, made_fault, raised_fault}}
 use Rattle.shm_table.specs.Causes.{LoadsEra, Shows}
 use Rattle.shm_table.specs.CopyKey.Control.{CopyAnswer, copy_after, copy_answer, copy_call_at, copy_turns}
-use Rattle.shm_table.specs.CopyKey.Control as copies
 use Rattle.shm_table.specs.CopyKey.{copy_part, copy_plan}
-use Rattle.shm_table.specs.Del.Control.{DelCallAnswer, del_after, del_call_at, del_turns}
-use Rattle.shm_table.specs.Del.{del_part, del_plan}
+use Rattle.shm_table.specs.Del.{Control.{DelCallAnswer, del_after, del_call_at, del_turns}, del_part, del_plan}
 use Rattle.shm_table.specs.Enter.Control.{entering}
 use Rattle.shm_table.specs.Fetch.Control.{FetchAnswer, fetch_after, fetch_call, fetch_turns, fetching, shared_fault}
 use Rattle.shm_table.specs.Fetch.{fetch_part, fetch_plan}
 use Rattle.shm_table.specs.FetchHead.Control.{FetchHeadAnswer, fetch_head_call, fetch_head_after, fetch_head_turns, fetching_head, read_after, read_turns}
-use Rattle.shm_table.specs.FetchHead.{fetch_head_part, fetch_head_plan}
-use Rattle.shm_table.specs.OpenTable.Control.{opening}
+use Rattle.shm_table.specs.{FetchHead.{fetch_head_part, fetch_head_plan}, OpenTable.Control.opening}
 use Rattle.shm_table.specs.Put.Control.{PutAnswer, put_after, put_call_at, put_turns, value_request}
-use Rattle.shm_table.specs.Put.Control as puts
 use Rattle.shm_table.specs.Put.{put_part, put_plan}
 use Rattle.shm_table.specs.PutRoot.Control.{PutRootAnswer, fault_of, freed_turns, put_answer, put_root_after, put_root_call, put_root_turns, putting_root, root_or, stuck_answer}
 use Rattle.shm_table.specs.PutRoot.{put_root_part, put_root_plan}
-use Rattle.shm_table.specs.RecvKey.Control.{RecvAnswer, recv_after, recv_call_at, recv_turns}
-use Rattle.shm_table.specs.RecvKey.{recv_part, recv_plan}
+use Rattle.shm_table.specs.RecvKey.{Control.{RecvAnswer, recv_after, recv_call_at, recv_turns}, recv_part, recv_plan}
 use Rattle.shm_table.specs.Replace.Control.{replacing}
 use Rattle.shm_table.specs.SendKey.Control.{SendKeyAnswer, send_key_after, send_key_call, send_key_turns, sent_answer}
 use Rattle.shm_table.specs.SendKey.{send_key_part, send_key_plan}
 use Rattle.shm_table.specs.Unlink.Control.{UnlinkAnswer, link_at, unlink_after, unlink_call_at, unlink_turns, unlinking}
 use Rattle.shm_table.specs.Unlink.{unlink_plan}
+use Rattle.shm_table.specs.declared.copy.CopyPoint.TheVariants as copy
+use Rattle.shm_table.specs.declared.del.DelPoint.TheVariants as del
+use Rattle.shm_table.specs.declared.fetch.Fetched.TheVariants as fetched
+use Rattle.shm_table.specs.declared.fetch.FetchPoint.TheVariants as fetch
+use Rattle.shm_table.specs.declared.fetch_head.FetchedHead.TheVariants as head
+use Rattle.shm_table.specs.declared.fetch_head.FetchHeadPoint.TheVariants as fetch_head
+use Rattle.shm_table.specs.declared.put.PutPoint.TheVariants as put
+use Rattle.shm_table.specs.declared.put_root.PutRootPoint.TheVariants as root
+use Rattle.shm_table.specs.declared.recv.RecvPoint.TheVariants as recv
+use Rattle.shm_table.specs.declared.send_key.SendKeyPoint.TheVariants as send_key
+use Rattle.shm_table.specs.declared.unlink.UnlinkPoint.TheVariants as unlink
+use Rattle.shm_table.specs.CopyKey.Control as copies
+use Rattle.shm_table.specs.Put.Control as puts
 use Rattle.shm_table.proofs.CauseTrails.{Faulty, along_plan, alloc_shows, either_way, faulty_more, shows_later, shows_more, step_shows}
 use Rattle.shm_table.proofs.CauseTrails.Parts.{EnteredSo, drop_shows, enter_shows, open_shows, replace_shows, rooting_shows}
 

@@ -1,67 +1,43 @@
 -- what the whole trails of the parts of commands show of why they were refused
 use Rattle.std.proofs.Common.{◌≡◌, ◌≢◌, ℕ, ◌<◌, refl, sym, subst, arith, Bool, true, false, [], ◌∷◌, ◌++◌, Some, None, inl, inr}
-use Rattle.std.specs.List.{Contains}
-use Rattle.std.proofs.lemmas.Bool.{cases_eq, eqb-false, eqb-true}
-use Rattle.std.proofs.lemmas.List.Elements.{Contains-append_right}
-use Rattle.std.specs.Prelude.{Result, Ok, Err, if◌then◌else◌, ◌==◌, nat_lt, ◌+◌, ◌%◌, ◌-◌, ◌^◌}
-use Rattle.shm_words.specs.declared.place.Place.TheVariants as place
+use Rattle.std.proofs.lemmas.{Bool.{cases_eq, eqb-false, eqb-true}, List.Elements.Contains-append_right}
+use Rattle.std.specs.{List.Contains, Prelude.{Result, Ok, Err, if◌then◌else◌, ◌==◌, nat_lt, ◌+◌, ◌%◌, ◌-◌, ◌^◌}}
 use Rattle.shm_words.specs.Layout.{address, address_limit}
-use Rattle.shm_graph.specs.declared.ask.Ask.TheVariants.{Load}
-use Rattle.shm_graph.specs.declared.ask.Me.{Me}
-use Rattle.shm_graph.specs.Asks.{Trail, pair}
-use Rattle.shm_graph.specs.Laws.{Outcome}
-use Rattle.shm_graph.specs.Trails.{Chosen}
+use Rattle.shm_words.specs.declared.place.Place.TheVariants as place
+use Rattle.shm_graph.specs.{declared.ask.{Ask.TheVariants.Load, Me.Me}, Asks.{Trail, pair}, Laws.Outcome, Trails.Chosen}
 use Rattle.shm_laws.proofs.Keep.{newest}
-use Rattle.shm_calls.specs.declared.or.Or.TheVariants.{First, Second}
-use Rattle.shm_calls.specs.Plans.{plan_trail}
+use Rattle.shm_calls.specs.{declared.or.Or.TheVariants.{First, Second}, Plans.plan_trail}
 use Rattle.shm_alloc.specs.declared.alloc.AllocFault.{AllocFault}
-use Rattle.shm_count.specs.declared.answer.EraSpent.{EraSpent}
-use Rattle.shm_count.specs.declared.answer.ShareFault.{ShareFault}
-use Rattle.shm_count.specs.declared.answer.ShareFault.TheVariants as share
-use Rattle.shm_count.specs.declared.answer.UpFault.{UpFault}
-use Rattle.shm_count.specs.declared.answer.UpFault.TheVariants as up
-use Rattle.shm_count.specs.declared.point.Aim.{Aim}
-use Rattle.shm_count.specs.declared.point.Aim.TheVariants as aims
-use Rattle.shm_count.specs.declared.point.StepPoint.TheVariants as point
-use Rattle.shm_count.specs.declared.up_root.RootingPoint.{RootingPoint}
-use Rattle.shm_count.specs.declared.up_root.RootingPoint.TheVariants as rooting
-use Rattle.shm_count.specs.declared.up_root.RootingState.{RootingState}
-use Rattle.shm_count.specs.Step.Asks.{first_trail, more_trail, point_trail, redo_trail}
-use Rattle.shm_count.specs.Step.Control.{first_point}
-use Rattle.shm_count.specs.Step.Machines.{up_answer}
-use Rattle.shm_count.specs.Step.Refusing.{first_reads}
+use Rattle.shm_count.specs.declared.{answer.{EraSpent.EraSpent, ShareFault.ShareFault, UpFault.UpFault}, point.Aim.Aim}
+use Rattle.shm_count.specs.declared.up_root.{RootingPoint.RootingPoint, RootingState.RootingState}
+use Rattle.shm_count.specs.Step.{Asks.{first_trail, more_trail, point_trail, redo_trail}, Control.first_point}
+use Rattle.shm_count.specs.Step.{Machines.up_answer, Refusing.first_reads}
 use Rattle.shm_count.specs.UpRoot.Control.{RootingAnswer, rooting_after, rooting_ask, rooting_call, rooting_turns, share_fault, taken_up as taken_up_at}
 use Rattle.shm_count.specs.UpRoot.{rooting_part, rooting_plan}
-use Rattle.shm_ref.specs.declared.drop_root.DropPoint.{DropPoint}
-use Rattle.shm_ref.specs.declared.drop_root.DropPoint.TheVariants as drop
-use Rattle.shm_ref.specs.declared.drop_root.DropState.{DropState}
-use Rattle.shm_ref.specs.AskedParts.{one_pair}
+use Rattle.shm_count.specs.declared.answer.ShareFault.TheVariants as share
+use Rattle.shm_count.specs.declared.answer.UpFault.TheVariants as up
+use Rattle.shm_count.specs.declared.point.Aim.TheVariants as aims
+use Rattle.shm_count.specs.declared.point.StepPoint.TheVariants as point
+use Rattle.shm_count.specs.declared.up_root.RootingPoint.TheVariants as rooting
+use Rattle.shm_ref.specs.{declared.drop_root.{DropPoint.DropPoint, DropState.DropState}, AskedParts.one_pair}
 use Rattle.shm_ref.specs.DropRoot.Control.{DropAnswer, drop_after, drop_call_at, drop_turns, dropping, root_at}
-use Rattle.shm_ref.specs.DropRoot.{drop_plan}
-use Rattle.shm_ref.specs.HomeParts.{home_address}
+use Rattle.shm_ref.specs.{DropRoot.drop_plan, HomeParts.home_address}
+use Rattle.shm_ref.specs.declared.drop_root.DropPoint.TheVariants as drop
 use Rattle.shm_script.specs.declared.log.Answer.TheVariants as answer
-use Rattle.shm_table.specs.declared.answer.PutFault.{PutFault}
-use Rattle.shm_table.specs.declared.enter.EnterPoint.{EnterPoint}
-use Rattle.shm_table.specs.declared.enter.EnterPoint.TheVariants as enter
-use Rattle.shm_table.specs.declared.enter.EnterState.{EnterState}
-use Rattle.shm_table.specs.declared.enter.Entered.{Entered}
-use Rattle.shm_table.specs.declared.enter.Entered.TheVariants.{Linked, Unlinked, Unmade}
-use Rattle.shm_table.specs.declared.open_table.OpenPoint.{OpenPoint}
-use Rattle.shm_table.specs.declared.open_table.OpenPoint.TheVariants as open_point
-use Rattle.shm_table.specs.declared.open_table.OpenState.{OpenState}
-use Rattle.shm_table.specs.declared.replace.ReplacePoint.{ReplacePoint}
-use Rattle.shm_table.specs.declared.replace.ReplacePoint.TheVariants as replace
-use Rattle.shm_table.specs.declared.replace.ReplaceState.{ReplaceState}
-use Rattle.shm_table.specs.Answers.{fault_answer, made_fault, raised_fault}
-use Rattle.shm_table.specs.Causes.{LoadsEra, LoadsRoot, Shows}
+use Rattle.shm_table.specs.declared.{answer.PutFault.PutFault, enter.{EnterPoint.EnterPoint, EnterState.EnterState}}
+use Rattle.shm_table.specs.declared.enter.Entered.{Entered, TheVariants.{Linked, Unlinked, Unmade}}
+use Rattle.shm_table.specs.declared.open_table.{OpenPoint.OpenPoint, OpenState.OpenState}
+use Rattle.shm_table.specs.declared.replace.{ReplacePoint.ReplacePoint, ReplaceState.ReplaceState}
+use Rattle.shm_table.specs.{Answers.{fault_answer, made_fault, raised_fault}, Causes.{LoadsEra, LoadsRoot, Shows}}
 use Rattle.shm_table.specs.Enter.Control.{EnterAnswer, enter_after, enter_block, enter_call_at, enter_turns, enter_word, entry_request, raised_after, raised_turns}
-use Rattle.shm_table.specs.Enter.{enter_part, enter_plan}
-use Rattle.shm_table.specs.Fetch.Control.{shared_fault}
+use Rattle.shm_table.specs.{Enter.{enter_part, enter_plan}, Fetch.Control.shared_fault}
 use Rattle.shm_table.specs.OpenTable.Control.{OpenAnswer, directory_request, open_after, open_call_at, open_turns}
-use Rattle.shm_table.specs.OpenTable.{open_plan}
-use Rattle.shm_table.specs.PutRoot.Control.{fault_of}
+use Rattle.shm_table.specs.{OpenTable.open_plan, PutRoot.Control.fault_of}
 use Rattle.shm_table.specs.Replace.Control.{ReplaceAnswer, replace_after, replace_call_at, replace_turns}
 use Rattle.shm_table.specs.Replace.{replace_plan}
+use Rattle.shm_table.specs.declared.enter.EnterPoint.TheVariants as enter
+use Rattle.shm_table.specs.declared.open_table.OpenPoint.TheVariants as open_point
+use Rattle.shm_table.specs.declared.replace.ReplacePoint.TheVariants as replace
 use Rattle.shm_table.proofs.CauseTrails.{Faulty, along_plan, alloc_shows, either_way, root_more, shows_later, step_shows}
 use Rattle.shm_table.proofs.CauseTrails.Eras.{first_full, step_era, tear_era}
 

@@ -1,25 +1,17 @@
 -- an allocation that is refused as spent has read that era, and one that found no empty root has read all roots
 use Rattle.std.proofs.Common.{◌≡◌, ◌≢◌, ℕ, zero, suc, ◌+◌, ◌-◌, ◌*◌, ◌/◌, ◌^◌, ◌<◌, ◌≤◌, refl, sym, subst, arith, Bool, true, false, [], ◌∷◌, inl, inr}
-use Rattle.std.specs.Prelude.{◌==◌, nat_lt, Ok, Err, slice_index}
-use Rattle.std.specs.List.{Contains}
-use Rattle.std.proofs.lemmas.Bool.{cases_eq, eqb-false}
-use Rattle.std.proofs.lemmas.List.Elements.{Contains-append_right}
+use Rattle.std.proofs.lemmas.{Bool.{cases_eq, eqb-false}, List.Elements.Contains-append_right}
+use Rattle.std.specs.{Prelude.{◌==◌, nat_lt, Ok, Err, slice_index}, List.Contains}
+use Rattle.shm_words.specs.{Layout.address, Redos.{first_word, second_word}}
 use Rattle.shm_words.specs.declared.place.Place.TheVariants as place
-use Rattle.shm_words.specs.Layout.{address}
-use Rattle.shm_words.specs.Redos.{first_word, second_word}
-use Rattle.shm_graph.specs.declared.ask.Ask.{Ask}
-use Rattle.shm_graph.specs.declared.ask.Ask.TheVariants.{Load, Store, Exchange}
-use Rattle.shm_graph.specs.declared.ask.Me.{Me}
-use Rattle.shm_graph.specs.declared.memo.Seen.{Seen}
-use Rattle.shm_graph.specs.Asks.{Trail, pair}
-use Rattle.shm_graph.specs.Trails.{Answers, Asked, Chosen}
+use Rattle.shm_graph.specs.declared.{ask.{Ask.{Ask, TheVariants.{Load, Store, Exchange}}, Me.Me}, memo.Seen.Seen}
+use Rattle.shm_graph.specs.{Asks.{Trail, pair}, Trails.{Answers, Asked, Chosen}}
 use Rattle.shm_laws.proofs.Keep.{newest}
 use Rattle.shm_count.specs.declared.answer.Made.{Made}
-use Rattle.shm_alloc.specs.declared.alloc.AllocFault.{AllocFault}
-use Rattle.shm_alloc.specs.declared.alloc.AllocFault.TheVariants.{EraSpent, RootsFull, Full}
+use Rattle.shm_alloc.specs.declared.alloc.AllocFault.{AllocFault, TheVariants.{EraSpent, RootsFull, Full}}
 use Rattle.shm_alloc.specs.declared.request.Request.{Request}
 use Rattle.shm_alloc.specs.Alloc.Asks.{AllocTrails, alloc_trail, block_trail, class_trail, close_trail, commit_trail, first_trail, header_trail, headers_trail, live_trail, more_trail, page_trail, plain_trail, reference_trail, root_trail, segment_trail, slot_trail}
-use Rattle.shm_alloc.specs.Alloc.Control.{class_asked, header_made, redo_asked, tag_asked}
+use Rattle.shm_alloc.specs.Alloc.Control.{class_asked, header_made, index_at, page_at, redo_asked, segment_at, tag_asked}
 use Rattle.shm_table.specs.Causes.{LoadsEra, LoadsRoot}
 
 -- it is refused since no block was free
@@ -76,8 +68,8 @@ module _ (me : Me) (q : Request) where
   header_late : (n i at e k used : ℕ) (rest : ℕ → AllocTrails) → ((u : ℕ) → Late (rest u)) → Late (header_trail me q n i at e k used rest)
   header_late zero i at e k used rest s = s used
   header_late (suc n) i at e k used rest s =
-      late_asked (Load (at + class_asked q * i)) (λ x. Chosen (x == 0) (block_trail me q e k (at + class_asked q * i)) (header_trail me q n (i + 1) at e k (used + 1) rest))
-      (λ x. late_chosen (x == 0) (block_trail me q e k (at + class_asked q * i)) (header_trail me q n (i + 1) at e k (used + 1) rest) (block_late e k (at + class_asked q * i)) (header_late n (i + 1) at e k (used + 1) rest s))
+      late_asked (Load (at + class_asked q * index_at q i)) (λ x. Chosen (x == 0) (block_trail me q e k (at + class_asked q * index_at q i)) (header_trail me q n (i + 1) at e k (used + 1) rest))
+      (λ x. late_chosen (x == 0) (block_trail me q e k (at + class_asked q * index_at q i)) (header_trail me q n (i + 1) at e k (used + 1) rest) (block_late e k (at + class_asked q * index_at q i)) (header_late n (i + 1) at e k (used + 1) rest s))
 
   headers_late : (s p e k used : ℕ) (rest : ℕ → AllocTrails) → ((u : ℕ) → Late (rest u)) → Late (headers_trail me q s p e k used rest)
   headers_late s p e k used rest h = header_late (128 / class_asked q) 0 (address me.geometry (place.Body s p 0)) e k used rest h
@@ -85,23 +77,25 @@ module _ (me : Me) (q : Request) where
   page_late : (n p s e k used : ℕ) (rest : ℕ → AllocTrails) → ((u : ℕ) → Late (rest u)) → Late (page_trail me q n p s e k used rest)
   page_late zero p s e k used rest h = h used
   page_late (suc n) p s e k used rest h =
+      let j : ℕ = page_at q p in
       let next : ℕ → AllocTrails = λ u. page_trail me q n (p + 1) s e k u rest in
       let late : (u : ℕ) → Late (next u) = λ u. page_late n (p + 1) s e k u rest h in
-      late_asked (Load (address me.geometry (place.Page s p))) (λ x. Chosen (x == 0) (class_trail me q s p e k used next) (Chosen (x == class_asked q) (headers_trail me q s p e k used next) (next used)))
-      (λ x. late_chosen (x == 0) (class_trail me q s p e k used next) (Chosen (x == class_asked q) (headers_trail me q s p e k used next) (next used))
-      (late_asked (Store (address me.geometry (place.Page s p)) (class_asked q)) (λ _. headers_trail me q s p e k used next) (λ _. headers_late s p e k used next late))
-      (late_chosen (x == class_asked q) (headers_trail me q s p e k used next) (next used) (headers_late s p e k used next late) (late used)))
+      late_asked (Load (address me.geometry (place.Page s j))) (λ x. Chosen (x == 0) (class_trail me q s j e k used next) (Chosen (x == class_asked q) (headers_trail me q s j e k used next) (next used)))
+      (λ x. late_chosen (x == 0) (class_trail me q s j e k used next) (Chosen (x == class_asked q) (headers_trail me q s j e k used next) (next used))
+      (late_asked (Store (address me.geometry (place.Page s j)) (class_asked q)) (λ _. headers_trail me q s j e k used next) (λ _. headers_late s j e k used next late))
+      (late_chosen (x == class_asked q) (headers_trail me q s j e k used next) (next used) (headers_late s j e k used next late) (late used)))
 
   segment_late : (n s e k taken used : ℕ) → Late (segment_trail me q n s e k taken used)
   segment_late zero s e k taken used tr a h = let same = h.1 in let is : Full taken used ≡ a = cc in subst IsFull is tt
   segment_late (suc n) s e k taken used tr a h =
-      let own : AllocTrails = page_trail me q 16 0 s e k used (λ u. segment_trail me q n (s + 1) e k taken u) in
+      let j : ℕ = segment_at me q s in
+      let own : AllocTrails = page_trail me q 16 0 j e k used (λ u. segment_trail me q n (s + 1) e k taken u) in
       let other : AllocTrails = segment_trail me q n (s + 1) e k (taken + 1) used in
-      let own_late : Late own = page_late 16 0 s e k used (λ u. segment_trail me q n (s + 1) e k taken u) (λ u. segment_late n (s + 1) e k taken u) in
+      let own_late : Late own = page_late 16 0 j e k used (λ u. segment_trail me q n (s + 1) e k taken u) (λ u. segment_late n (s + 1) e k taken u) in
       let other_late : Late other = segment_late n (s + 1) e k (taken + 1) used in
-      late_asked (Load (address me.geometry (place.Segment s))) (λ x. Chosen (x == 0) (Asked (Exchange (address me.geometry (place.Segment s)) 0 (me.who + 1)) (λ y. Chosen (y == 0) own other)) (Chosen (x == me.who + 1) own other))
-      (λ x. late_chosen (x == 0) (Asked (Exchange (address me.geometry (place.Segment s)) 0 (me.who + 1)) (λ y. Chosen (y == 0) own other)) (Chosen (x == me.who + 1) own other)
-      (late_asked (Exchange (address me.geometry (place.Segment s)) 0 (me.who + 1)) (λ y. Chosen (y == 0) own other) (λ y. late_chosen (y == 0) own other own_late other_late))
+      late_asked (Load (address me.geometry (place.Segment j))) (λ x. Chosen (x == 0) (Asked (Exchange (address me.geometry (place.Segment j)) 0 (me.who + 1)) (λ y. Chosen (y == 0) own other)) (Chosen (x == me.who + 1) own other))
+      (λ x. late_chosen (x == 0) (Asked (Exchange (address me.geometry (place.Segment j)) 0 (me.who + 1)) (λ y. Chosen (y == 0) own other)) (Chosen (x == me.who + 1) own other)
+      (late_asked (Exchange (address me.geometry (place.Segment j)) 0 (me.who + 1)) (λ y. Chosen (y == 0) own other) (λ y. late_chosen (y == 0) own other own_late other_late))
       (late_chosen (x == me.who + 1) own other own_late other_late)) tr a h
 
   -- ---- the roots

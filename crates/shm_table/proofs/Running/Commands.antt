@@ -1,74 +1,41 @@
 -- removals, and each command: while one runs the own map is what it was, until its deciding step, and from then on the one that the answer shown leaves
 use Rattle.std.proofs.Common.{◌≡◌, ℕ, refl, ap, ◌∙◌, subst, Bool, true, false, List, [], ◌∷◌, Option, None, ◌+◌}
 use Rattle.std.specs.Prelude.{◌==◌, if◌then◌else◌}
-use Rattle.shm_graph.specs.declared.ask.Me.{Me}
-use Rattle.shm_graph.specs.declared.memo.Memo.{Memo}
-use Rattle.shm_graph.specs.Asks.{Trail}
-use Rattle.shm_graph.specs.Events.{Event}
-use Rattle.shm_graph.specs.Laws.{Control, Steady, is_some}
-use Rattle.shm_graph.specs.Tells.{after_all}
-use Rattle.shm_graph.specs.Bounds.{redo_steps}
-use Rattle.shm_calls.specs.declared.or.Or.TheVariants.{First, Second}
-use Rattle.shm_calls.specs.CallsFit.{CallsFits}
+use Rattle.shm_graph.specs.{declared.{ask.Me.Me, memo.Memo.Memo}, Asks.Trail, Events.Event}
+use Rattle.shm_graph.specs.{Laws.{Control, Steady, is_some}, Tells.after_all, Bounds.redo_steps}
+use Rattle.shm_calls.specs.{declared.or.Or.TheVariants.{First, Second}, CallsFit.CallsFits}
 use Rattle.shm_calls.specs.Deciding.{StillRuns, where_decided}
 use Rattle.shm_steps.specs.Reparting.{map_in}
-use Rattle.shm_script.specs.declared.line.Line.{Line}
+use Rattle.shm_script.specs.declared.{line.Line.Line, log.Answer.Answer}
 use Rattle.shm_script.specs.declared.line.Line.TheVariants as line
-use Rattle.shm_script.specs.declared.log.Answer.{Answer}
 use Rattle.shm_script.specs.declared.log.Answer.TheVariants as answer
-use Rattle.shm_table.specs.declared.del.DelPoint.{DelPoint}
-use Rattle.shm_table.specs.declared.del.DelPoint.TheVariants as deletes
-use Rattle.shm_table.specs.declared.del.DelState.{DelState}
+use Rattle.shm_table.specs.declared.del.{DelPoint.DelPoint, DelState.DelState}
 use Rattle.shm_table.specs.Command.{CommandCall, CommandFits, command_control, command_effect, command_of}
-use Rattle.shm_table.specs.Command.Laws.{command_laws}
-use Rattle.shm_table.specs.Command.Maps.{MapSoFar, answered_map}
-use Rattle.shm_table.specs.CopyKey.Control.{copy_parts}
-use Rattle.shm_table.specs.CopyKey.{copy_plan}
-use Rattle.shm_table.specs.CopyKey.Laws.{copy_laws}
+use Rattle.shm_table.specs.{Command.{Laws.command_laws, Maps.{MapSoFar, answered_map}}, CopyKey.Control.copy_parts}
+use Rattle.shm_table.specs.CopyKey.{copy_plan, Laws.copy_laws}
 use Rattle.shm_table.specs.Del.Control.{DelCall, DelCalls, del_call_at, del_parts}
-use Rattle.shm_table.specs.Del.{DelKnows, DelSays, del_part, del_plan}
-use Rattle.shm_table.specs.Del.Laws.{del_laws, found_unlinks}
+use Rattle.shm_table.specs.Del.{DelKnows, DelSays, del_part, del_plan, Laws.{del_laws, found_unlinks}}
 use Rattle.shm_table.specs.Effects.{copy_at, del_at, is_removed, put_at, recv_at, send_key_at, unlink_decided}
-use Rattle.shm_table.specs.Enter.Laws.{enter_laws}
-use Rattle.shm_table.specs.Fetch.Laws.{fetch_laws}
-use Rattle.shm_table.specs.FetchHead.Laws.{fetch_head_laws}
-use Rattle.shm_table.specs.Get.Control.{get_parts}
-use Rattle.shm_table.specs.Get.{get_plan}
-use Rattle.shm_table.specs.Get.Laws.{get_laws}
-use Rattle.shm_table.specs.Locate.Laws.{locate_laws}
-use Rattle.shm_table.specs.Machines.Change.{del}
-use Rattle.shm_table.specs.OpenTable.Laws.{open_laws}
-use Rattle.shm_table.specs.Put.Control.{put_parts}
-use Rattle.shm_table.specs.Put.{put_plan}
-use Rattle.shm_table.specs.Put.Laws.{put_laws}
-use Rattle.shm_table.specs.PutRoot.Laws.{put_root_laws}
-use Rattle.shm_table.specs.PutRoot.Steps.{same_more}
-use Rattle.shm_table.specs.RecvKey.Control.{recv_parts}
-use Rattle.shm_table.specs.RecvKey.{recv_plan}
-use Rattle.shm_table.specs.RecvKey.Laws.{recv_laws}
-use Rattle.shm_table.specs.Replace.Laws.{replace_laws}
-use Rattle.shm_table.specs.SendKey.Control.{send_key_parts}
-use Rattle.shm_table.specs.SendKey.{send_key_plan}
-use Rattle.shm_table.specs.SendKey.Laws.{send_key_laws}
-use Rattle.shm_table.specs.Staying.{MapCut, SameMap}
-use Rattle.shm_table.specs.Staying.Laws.{latched_else, rests_read, same_map}
-use Rattle.shm_table.specs.TakeHead.Laws.{take_head_laws}
-use Rattle.shm_table.specs.Unlink.Control.{unlink_parts, unlinking}
-use Rattle.shm_table.specs.Unlink.{unlink_plan}
-use Rattle.shm_table.specs.Unlink.Laws.{unlink_laws}
-use Rattle.shm_table.proofs.DecidingEvents.{kept_along, plan_kept}
-use Rattle.shm_table.proofs.Running.Entries.{MapBy, UnlinkDoes, unlink_so}
-use Rattle.shm_table.proofs.Running.Fetching.{get_still, send_key_still}
-use Rattle.shm_table.proofs.Running.Puts.{copy_so, put_so, recv_so}
-use Rattle.shm_table.proofs.Running.Reading.{locate_still, unlatch_still}
-use Rattle.shm_table.proofs.Running.Roots.{by_call, by_then, start_kept}
+use Rattle.shm_table.specs.{Enter.Laws.enter_laws, Fetch.Laws.fetch_laws, FetchHead.Laws.fetch_head_laws}
+use Rattle.shm_table.specs.{Get.{Control.get_parts, get_plan, Laws.get_laws}, Locate.Laws.locate_laws}
+use Rattle.shm_table.specs.{Machines.Change.del, OpenTable.Laws.open_laws, Put.{Control.put_parts, put_plan}}
+use Rattle.shm_table.specs.{Put.Laws.put_laws, PutRoot.{Laws.put_root_laws, Steps.same_more}}
+use Rattle.shm_table.specs.{RecvKey.{Control.recv_parts, recv_plan, Laws.recv_laws}, Replace.Laws.replace_laws}
+use Rattle.shm_table.specs.SendKey.{Control.send_key_parts, send_key_plan, Laws.send_key_laws}
+use Rattle.shm_table.specs.Staying.{MapCut, SameMap, Laws.{latched_else, rests_read, same_map}}
+use Rattle.shm_table.specs.{TakeHead.Laws.take_head_laws, Unlink.Control.{unlink_parts, unlinking, unlink_steered}}
+use Rattle.shm_table.specs.Unlink.{unlink_plan, Laws.unlink_laws}
+use Rattle.shm_table.specs.declared.del.DelPoint.TheVariants as deletes
+use Rattle.shm_table.proofs.{DecidingEvents.{kept_along, plan_kept}, Running.Entries.{MapBy, UnlinkDoes, unlink_so}}
+use Rattle.shm_table.proofs.Running.{Fetching.{get_still, send_key_still}, Puts.{copy_so, put_so, recv_so}}
+use Rattle.shm_table.proofs.Running.{Reading.{locate_still, unlatch_still}, Roots.{by_call, by_then, start_kept}}
 use Rattle.shm_table.proofs.Running.Still.{same_now}
 
 -- ---- removals
 
 abbrev DelCalled : DelState → DelPoint → DelCall → Type 0
 DelCalled m y (First c) = y ≡ deletes.Search
-DelCalled m y (Second (First c)) = (y ≡ deletes.Cut) × (unlink_plan.start c.plan ≡ unlinking m.me m.entry m.before m.word)
+DelCalled m y (Second (First c)) = (y ≡ deletes.Cut) × (unlink_steered.start c.plan ≡ unlinking m.me m.entry m.before m.word)
 DelCalled m y (Second (Second c)) = y ≡ deletes.Back
 
 del_called : (m : DelCalls) (t : Trail) → after_all del_parts (del_call_at m.plan m.plan.point) t ≡ m.call → DelCalled m.plan m.plan.point m.call

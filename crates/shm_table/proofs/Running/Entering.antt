@@ -1,35 +1,21 @@
 -- a new entry: while its machine runs the own map is what it was, until the bucket names the entry, and from then on the key has its value block
 use Rattle.std.proofs.Common.{◌≡◌, ◌≢◌, ℕ, ◌%◌, ◌<◌, refl, sym, ap, ◌∙◌, subst, arith, Bool, true, false, cond, eqb, List, Some}
-use Rattle.shm_graph.specs.declared.ask.Me.{Me}
-use Rattle.shm_graph.specs.declared.memo.Memo.{Memo}
-use Rattle.shm_graph.specs.declared.spot.Spot.TheVariants.{Body, Home}
-use Rattle.shm_graph.specs.Asks.{Trail}
-use Rattle.shm_graph.specs.Events.{Event}
-use Rattle.shm_graph.specs.Tells.{after_all}
-use Rattle.shm_graph.specs.Views.{own_word}
-use Rattle.shm_calls.specs.declared.or.Or.TheVariants.{First, Second}
-use Rattle.shm_calls.specs.CallsFit.{CallsFits}
-use Rattle.shm_steps.specs.Beginning.{IsOwnWord}
-use Rattle.shm_steps.specs.Reparting.{IsKnown, IsValue, TableStep, sight}
+use Rattle.shm_graph.specs.{declared.{ask.Me.Me, memo.Memo.Memo, spot.Spot.TheVariants.{Body, Home}}, Asks.Trail}
+use Rattle.shm_graph.specs.{Events.Event, Tells.after_all, Views.own_word}
+use Rattle.shm_calls.specs.{declared.or.Or.TheVariants.{First, Second}, CallsFit.CallsFits}
+use Rattle.shm_steps.specs.{Beginning.IsOwnWord, Reparting.{IsKnown, IsValue, TableStep, sight}}
 use Rattle.shm_steps.specs.Reparting.TableStep.{Links, Prepares}
+use Rattle.shm_count.specs.Step.{ExchangeMade.step_exchanged, Parts.part_after}
 use Rattle.shm_count.specs.declared.point.Aim.TheVariants as aims
-use Rattle.shm_count.specs.Step.ExchangeMade.{step_exchanged}
-use Rattle.shm_count.specs.Step.Parts.{part_after}
-use Rattle.shm_table.specs.declared.enter.EnterPoint.{EnterPoint}
-use Rattle.shm_table.specs.declared.enter.EnterPoint.TheVariants as entering
-use Rattle.shm_table.specs.declared.enter.EnterState.{EnterState}
+use Rattle.shm_table.specs.declared.enter.{EnterPoint.EnterPoint, EnterState.EnterState}
 use Rattle.shm_table.specs.Effects.{enter_at, enter_decided}
 use Rattle.shm_table.specs.Enter.Control.{EnterCall, enter_call_at, enter_parts, enter_to}
 use Rattle.shm_table.specs.Enter.{EnterKnows, IsMade, enter_part, enter_plan}
 use Rattle.shm_table.specs.Enter.Steps.{bucket_own, entry_own, first_apart, value_number}
-use Rattle.shm_table.specs.PutRoot.Control.{EnterCalls, enter_control}
-use Rattle.shm_table.specs.PutRoot.Steps.{same_more}
-use Rattle.shm_table.specs.Staying.{MapSet, SameMap}
-use Rattle.shm_table.specs.Staying.Laws.{same_map}
-use Rattle.shm_table.specs.Staying.Steps.{map_word}
-use Rattle.shm_table.proofs.DecidingEvents.{kept_along}
-use Rattle.shm_table.proofs.Running.Entries.{MapBy, aimed_part, by_part}
-use Rattle.shm_table.proofs.Running.Steps.{PartBy}
+use Rattle.shm_table.specs.{PutRoot.{Control.{EnterCalls, enter_control}, Steps.same_more}, Staying.{MapSet, SameMap}}
+use Rattle.shm_table.specs.Staying.{Laws.same_map, Steps.map_word}
+use Rattle.shm_table.specs.declared.enter.EnterPoint.TheVariants as entering
+use Rattle.shm_table.proofs.{DecidingEvents.kept_along, Running.{Entries.{MapBy, aimed_part, by_part}, Steps.PartBy}}
 use Rattle.shm_table.proofs.Running.Still.{alloc_still, same_now}
 
 -- ---- the count steps

@@ -1,40 +1,24 @@
 -- machines that change the own map at an entry: while they run it is what it was when they began, until their deciding step, and from then on as they leave it
 use Rattle.std.proofs.Common.{◌≡◌, ℕ, refl, sym, ap, ◌∙◌, subst, Bool, true, false, List}
-use Rattle.shm_graph.specs.declared.ask.Me.{Me}
-use Rattle.shm_graph.specs.declared.memo.Memo.{Memo}
-use Rattle.shm_graph.specs.declared.spot.Spot.{Spot}
-use Rattle.shm_graph.specs.declared.spot.Spot.TheVariants.{Body}
-use Rattle.shm_graph.specs.declared.table.Part.{Part}
-use Rattle.shm_graph.specs.Asks.{Trail}
-use Rattle.shm_graph.specs.Events.{Event}
-use Rattle.shm_graph.specs.Tells.{after_all}
-use Rattle.shm_calls.specs.declared.or.Or.TheVariants.{First, Second}
-use Rattle.shm_calls.specs.CallsFit.{CallsFits}
+use Rattle.shm_graph.specs.declared.{ask.Me.Me, memo.Memo.Memo, spot.Spot.{Spot, TheVariants.Body}, table.Part.Part}
+use Rattle.shm_graph.specs.{Asks.Trail, Events.Event, Tells.after_all}
+use Rattle.shm_calls.specs.{declared.or.Or.TheVariants.{First, Second}, CallsFit.CallsFits}
 use Rattle.shm_steps.specs.Reparting.{map_in, sight}
-use Rattle.shm_count.specs.declared.point.Aim.{Aim}
+use Rattle.shm_count.specs.{declared.point.{Aim.Aim, StepState.StepState}, Step.Control.{step_control, value_after}}
+use Rattle.shm_count.specs.Step.{ExchangeMade.step_exchanged, Parts.part_after, StepFits}
 use Rattle.shm_count.specs.declared.point.Aim.TheVariants as aims
-use Rattle.shm_count.specs.declared.point.StepState.{StepState}
-use Rattle.shm_count.specs.Step.Control.{step_control, value_after}
-use Rattle.shm_count.specs.Step.ExchangeMade.{step_exchanged}
-use Rattle.shm_count.specs.Step.Parts.{part_after}
-use Rattle.shm_count.specs.Step.{StepFits}
-use Rattle.shm_table.specs.declared.replace.ReplacePoint.{ReplacePoint}
-use Rattle.shm_table.specs.declared.replace.ReplacePoint.TheVariants as replacing
-use Rattle.shm_table.specs.declared.replace.ReplaceState.{ReplaceState}
-use Rattle.shm_table.specs.declared.unlink.UnlinkPoint.{UnlinkPoint}
-use Rattle.shm_table.specs.declared.unlink.UnlinkPoint.TheVariants as unlinking
-use Rattle.shm_table.specs.declared.unlink.UnlinkState.{UnlinkState}
+use Rattle.shm_table.specs.declared.replace.{ReplacePoint.ReplacePoint, ReplaceState.ReplaceState}
+use Rattle.shm_table.specs.declared.unlink.{UnlinkPoint.UnlinkPoint, UnlinkState.UnlinkState}
 use Rattle.shm_table.specs.Effects.{replace_at, replace_decided, unlink_at, unlink_decided}
-use Rattle.shm_table.specs.PutRoot.Control.{ReplaceCalls, replace_control}
-use Rattle.shm_table.specs.PutRoot.Steps.{same_more}
+use Rattle.shm_table.specs.PutRoot.{Control.{ReplaceCalls, replace_control}, Steps.same_more}
 use Rattle.shm_table.specs.Replace.Control.{ReplaceCall, replace_call_at, replace_parts}
-use Rattle.shm_table.specs.Replace.{IsSeen, MayReplace, ReplaceKnows, replace_plan}
-use Rattle.shm_table.specs.Staying.{MapCut, MapSet, SameMap}
+use Rattle.shm_table.specs.{Replace.{IsSeen, MayReplace, ReplaceKnows, replace_plan}, Staying.{MapCut, MapSet, SameMap}}
 use Rattle.shm_table.specs.Staying.Laws.{same_map}
-use Rattle.shm_table.specs.Unlink.Control.{UnlinkCall, unlink_call_at, unlink_parts}
-use Rattle.shm_table.specs.Unlink.{IsSeen as IsNextSeen, MayUnlink, UnlinkCalls, UnlinkKnows, unlink_control, unlink_plan}
-use Rattle.shm_table.proofs.DecidingEvents.{kept_along}
-use Rattle.shm_table.proofs.Running.Steps.{PartBy, step_part}
+use Rattle.shm_table.specs.Unlink.Control.{UnlinkCall, unlink_call_at, unlink_parts, UnlinkCalls, unlink_control}
+use Rattle.shm_table.specs.Unlink.{IsSeen as IsNextSeen, MayUnlink, UnlinkKnows, unlink_plan}
+use Rattle.shm_table.specs.declared.replace.ReplacePoint.TheVariants as replacing
+use Rattle.shm_table.specs.declared.unlink.UnlinkPoint.TheVariants as unlinking
+use Rattle.shm_table.proofs.{DecidingEvents.kept_along, Running.Steps.{PartBy, step_part}}
 use Rattle.shm_table.proofs.Running.Still.{same_now, tear_still, word_still}
 
 -- ---- the form

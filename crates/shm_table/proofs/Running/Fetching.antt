@@ -1,67 +1,36 @@
 -- machines that leave the own map: what a key has is read, sent or given a root, the head of a queue is given a root, and a home comes to name a directory
 use Rattle.std.proofs.Common.{◌≡◌, ℕ, refl, ap, ◌∙◌, subst, Bool, true, false, List}
-use Rattle.shm_graph.specs.declared.ask.Me.{Me}
-use Rattle.shm_graph.specs.declared.memo.Memo.{Memo}
+use Rattle.shm_graph.specs.{declared.{ask.Me.Me, memo.Memo.Memo}, Asks.Trail, Events.Event, Tells.after_all}
 use Rattle.shm_graph.specs.declared.spot.Spot.TheVariants as spot
-use Rattle.shm_graph.specs.Asks.{Trail}
-use Rattle.shm_graph.specs.Events.{Event}
-use Rattle.shm_graph.specs.Tells.{after_all}
-use Rattle.shm_calls.specs.declared.or.Or.TheVariants.{First, Second}
-use Rattle.shm_calls.specs.CallsFit.{CallsFits}
-use Rattle.shm_calls.specs.Either.{or_control}
+use Rattle.shm_calls.specs.{declared.or.Or.TheVariants.{First, Second}, CallsFit.CallsFits, Either.or_control}
 use Rattle.shm_calls.specs.Words.{word_control}
 use Rattle.shm_steps.specs.Reparting.TableStep.{Founds}
-use Rattle.shm_count.specs.declared.point.Aim.{Aim}
+use Rattle.shm_count.specs.{declared.point.Aim.Aim, Step.{Control.value_after, ExchangeMade.step_exchanged}}
+use Rattle.shm_count.specs.UpRoot.{AsPart.up_root, Control.rooting_parts, rooting_plan}
 use Rattle.shm_count.specs.declared.point.Aim.TheVariants as aims
-use Rattle.shm_count.specs.Step.Control.{value_after}
-use Rattle.shm_count.specs.Step.ExchangeMade.{step_exchanged}
-use Rattle.shm_count.specs.UpRoot.AsPart.{up_root}
-use Rattle.shm_count.specs.UpRoot.Control.{rooting_parts}
-use Rattle.shm_count.specs.UpRoot.{rooting_plan}
-use Rattle.shm_queue.specs.Machines.{send}
-use Rattle.shm_queue.specs.Send.Control.{send_parts}
-use Rattle.shm_queue.specs.Send.{send_plan}
+use Rattle.shm_queue.specs.{Machines.send, Send.{Control.send_parts, send_plan}}
 use Rattle.shm_script.specs.declared.log.Answer.{Answer}
 use Rattle.shm_script.specs.declared.log.Answer.TheVariants as answer
-use Rattle.shm_table.specs.declared.fetch.Fetched.{Fetched}
+use Rattle.shm_table.specs.declared.fetch.{Fetched.Fetched, FetchPoint.FetchPoint, FetchState.FetchState}
+use Rattle.shm_table.specs.declared.fetch_head.{FetchHeadPoint.FetchHeadPoint, FetchHeadState.FetchHeadState}
+use Rattle.shm_table.specs.declared.{get.{GetPoint.GetPoint, GetState.GetState}, open_table.OpenPoint.OpenPoint}
+use Rattle.shm_table.specs.declared.{open_table.OpenState.OpenState, send_key.SendKeyPoint.SendKeyPoint}
+use Rattle.shm_table.specs.{declared.send_key.SendKeyState.SendKeyState, CopyKey.Control.fetch_control}
+use Rattle.shm_table.specs.Fetch.{Control.fetch_parts, FetchKnows, GiveKnows, fetch_plan, got}
+use Rattle.shm_table.specs.FetchHead.{Control.fetch_head_parts, FetchHeadKnows, fetch_head_plan}
+use Rattle.shm_table.specs.{Get.{Control.get_parts, GetKnows, get_plan}, Locate.Control.{locate_parts, locate_control}}
+use Rattle.shm_table.specs.{Locate.locate_plan, Machines.{Get.get, Send.send_key}}
+use Rattle.shm_table.specs.OpenTable.{Control.{OpenCall, open_call_at, open_parts}, OpenKnows, open_plan}
+use Rattle.shm_table.specs.PutRoot.{Control.{OpenCalls, open_control}, Steps.same_more}
+use Rattle.shm_table.specs.{RecvKey.Control.fetch_head_control, SendKey.Control.send_key_parts}
+use Rattle.shm_table.specs.{SendKey.{GiveKnows as SaysKnows, SendKeyKnows, got as sent, send_key_plan}, Staying.SameMap}
+use Rattle.shm_table.specs.{Staying.{Laws.same_map, Steps.map_home}, Unlatch.{unlatch_control, unlatch_plan}}
 use Rattle.shm_table.specs.declared.fetch.Fetched.TheVariants as fetched
-use Rattle.shm_table.specs.declared.fetch.FetchPoint.{FetchPoint}
 use Rattle.shm_table.specs.declared.fetch.FetchPoint.TheVariants as fetching
-use Rattle.shm_table.specs.declared.fetch.FetchState.{FetchState}
-use Rattle.shm_table.specs.declared.fetch_head.FetchHeadPoint.{FetchHeadPoint}
 use Rattle.shm_table.specs.declared.fetch_head.FetchHeadPoint.TheVariants as heading
-use Rattle.shm_table.specs.declared.fetch_head.FetchHeadState.{FetchHeadState}
-use Rattle.shm_table.specs.declared.get.GetPoint.{GetPoint}
 use Rattle.shm_table.specs.declared.get.GetPoint.TheVariants as getting
-use Rattle.shm_table.specs.declared.get.GetState.{GetState}
-use Rattle.shm_table.specs.declared.open_table.OpenPoint.{OpenPoint}
 use Rattle.shm_table.specs.declared.open_table.OpenPoint.TheVariants as opening
-use Rattle.shm_table.specs.declared.open_table.OpenState.{OpenState}
-use Rattle.shm_table.specs.declared.send_key.SendKeyPoint.{SendKeyPoint}
 use Rattle.shm_table.specs.declared.send_key.SendKeyPoint.TheVariants as keys
-use Rattle.shm_table.specs.declared.send_key.SendKeyState.{SendKeyState}
-use Rattle.shm_table.specs.CopyKey.Control.{fetch_control}
-use Rattle.shm_table.specs.Fetch.Control.{fetch_parts}
-use Rattle.shm_table.specs.Fetch.{FetchKnows, GiveKnows, fetch_plan, got}
-use Rattle.shm_table.specs.FetchHead.Control.{fetch_head_parts}
-use Rattle.shm_table.specs.FetchHead.{FetchHeadKnows, fetch_head_plan}
-use Rattle.shm_table.specs.Get.Control.{get_parts}
-use Rattle.shm_table.specs.Get.{GetKnows, get_plan}
-use Rattle.shm_table.specs.Locate.Control.{locate_parts}
-use Rattle.shm_table.specs.Locate.{locate_control, locate_plan}
-use Rattle.shm_table.specs.Machines.Get.{get}
-use Rattle.shm_table.specs.Machines.Send.{send_key}
-use Rattle.shm_table.specs.OpenTable.Control.{OpenCall, open_call_at, open_parts}
-use Rattle.shm_table.specs.OpenTable.{OpenKnows, open_plan}
-use Rattle.shm_table.specs.PutRoot.Control.{OpenCalls, open_control}
-use Rattle.shm_table.specs.PutRoot.Steps.{same_more}
-use Rattle.shm_table.specs.RecvKey.Control.{fetch_head_control}
-use Rattle.shm_table.specs.SendKey.Control.{send_key_parts}
-use Rattle.shm_table.specs.SendKey.{GiveKnows as SaysKnows, SendKeyKnows, got as sent, send_key_plan}
-use Rattle.shm_table.specs.Staying.{SameMap}
-use Rattle.shm_table.specs.Staying.Laws.{same_map}
-use Rattle.shm_table.specs.Staying.Steps.{map_home}
-use Rattle.shm_table.specs.Unlatch.{unlatch_control, unlatch_plan}
 use Rattle.shm_table.proofs.DecidingEvents.{kept_along}
 use Rattle.shm_table.proofs.Running.Reading.{drop_still, locate_still, rooting_still, send_still, unlatch_still}
 use Rattle.shm_table.proofs.Running.Steps.{PartBy, step_part}

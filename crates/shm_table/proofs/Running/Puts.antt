@@ -1,46 +1,26 @@
 -- puts, copies and receives: while one runs the own map is what it was, until its deciding step, and from then on its key has its value block
 use Rattle.std.proofs.Common.{◌≡◌, ℕ, refl, sym, subst, Bool, true, false, List, Option, Some, None}
-use Rattle.shm_graph.specs.declared.ask.Me.{Me}
-use Rattle.shm_graph.specs.declared.memo.Memo.{Memo}
-use Rattle.shm_graph.specs.Asks.{Trail}
-use Rattle.shm_graph.specs.Events.{Event}
-use Rattle.shm_graph.specs.Tells.{after_all}
-use Rattle.shm_calls.specs.declared.or.Or.TheVariants.{First, Second}
-use Rattle.shm_calls.specs.CallsFit.{CallsFits}
-use Rattle.shm_table.specs.declared.answer.PutFault.{PutFault}
-use Rattle.shm_table.specs.declared.copy.CopyPoint.{CopyPoint}
-use Rattle.shm_table.specs.declared.copy.CopyPoint.TheVariants as copies
-use Rattle.shm_table.specs.declared.copy.CopyState.{CopyState}
-use Rattle.shm_table.specs.declared.put.PutPoint.{PutPoint}
-use Rattle.shm_table.specs.declared.put.PutPoint.TheVariants as puts
-use Rattle.shm_table.specs.declared.put.PutState.{PutState}
-use Rattle.shm_table.specs.declared.recv.RecvPoint.{RecvPoint}
-use Rattle.shm_table.specs.declared.recv.RecvPoint.TheVariants as receives
-use Rattle.shm_table.specs.declared.recv.RecvState.{RecvState}
-use Rattle.shm_table.specs.Commands.{ValueSo}
+use Rattle.shm_graph.specs.{declared.{ask.Me.Me, memo.Memo.Memo}, Asks.Trail, Events.Event, Tells.after_all}
+use Rattle.shm_calls.specs.{declared.or.Or.TheVariants.{First, Second}, CallsFit.CallsFits}
+use Rattle.shm_table.specs.declared.{answer.PutFault.PutFault, copy.{CopyPoint.CopyPoint, CopyState.CopyState}}
+use Rattle.shm_table.specs.declared.{put.{PutPoint.PutPoint, PutState.PutState}, recv.RecvPoint.RecvPoint}
+use Rattle.shm_table.specs.{declared.recv.RecvState.RecvState, Commands.ValueSo}
 use Rattle.shm_table.specs.CopyKey.Control.{CopyCall, CopyCalls, copy_call_at, copy_parts}
 use Rattle.shm_table.specs.CopyKey.{CopyKnows, copy_part, copy_plan}
-use Rattle.shm_table.specs.Effects.{copy_at, put_at, put_root_decided, recv_at, settled}
-use Rattle.shm_table.specs.Enter.Laws.{enter_laws}
-use Rattle.shm_table.specs.Locate.Laws.{locate_laws}
-use Rattle.shm_table.specs.Machines.Copy.{copy_control}
-use Rattle.shm_table.specs.Machines.Put.{put}
-use Rattle.shm_table.specs.Machines.Recv.{recv_control}
-use Rattle.shm_table.specs.OpenTable.Laws.{open_laws}
-use Rattle.shm_table.specs.Put.Control.{PutCall, PutCalls, put_call_at, put_parts}
+use Rattle.shm_table.specs.{Effects.{copy_at, put_at, put_root_decided, recv_at, settled}, Enter.Laws.enter_laws}
+use Rattle.shm_table.specs.{Locate.Laws.locate_laws, Machines.{Copy.copy_control, Put.put, Recv.recv_control}}
+use Rattle.shm_table.specs.{OpenTable.Laws.open_laws, Put.Control.{PutCall, PutCalls, put_call_at, put_parts}}
 use Rattle.shm_table.specs.Put.{PutKnows, put_part, put_plan}
-use Rattle.shm_table.specs.PutRoot.Control.{PutRootCalls, put_root_parts, putting_root}
-use Rattle.shm_table.specs.PutRoot.{put_root_control, put_root_plan}
-use Rattle.shm_table.specs.PutRoot.Laws.{put_root_laws}
-use Rattle.shm_table.specs.PutRoot.Steps.{same_more, set_after, set_then}
+use Rattle.shm_table.specs.PutRoot.Control.{PutRootCalls, put_root_parts, putting_root, put_root_steered, put_root_control}
+use Rattle.shm_table.specs.PutRoot.{put_root_plan, Laws.put_root_laws, Steps.{same_more, set_after, set_then}}
 use Rattle.shm_table.specs.RecvKey.Control.{RecvCall, RecvCalls, recv_call_at, recv_parts}
-use Rattle.shm_table.specs.RecvKey.{RecvKnows, recv_part, recv_plan}
-use Rattle.shm_table.specs.Replace.Laws.{replace_laws}
+use Rattle.shm_table.specs.{RecvKey.{RecvKnows, recv_part, recv_plan}, Replace.Laws.replace_laws}
 use Rattle.shm_table.specs.Staying.{MapSet, SameMap}
-use Rattle.shm_table.proofs.DecidingEvents.{kept_along}
-use Rattle.shm_table.proofs.Running.Entries.{MapBy}
-use Rattle.shm_table.proofs.Running.Fetching.{fetch_head_still, fetch_still}
-use Rattle.shm_table.proofs.Running.Reading.{drop_still, take_head_still}
+use Rattle.shm_table.specs.declared.copy.CopyPoint.TheVariants as copies
+use Rattle.shm_table.specs.declared.put.PutPoint.TheVariants as puts
+use Rattle.shm_table.specs.declared.recv.RecvPoint.TheVariants as receives
+use Rattle.shm_table.proofs.{DecidingEvents.kept_along, Running.Entries.MapBy}
+use Rattle.shm_table.proofs.Running.{Fetching.{fetch_head_still, fetch_still}, Reading.{drop_still, take_head_still}}
 use Rattle.shm_table.proofs.Running.Roots.{RootDoes, by_call, by_then, put_root_so, start_kept}
 use Rattle.shm_table.proofs.Running.Still.{alloc_still, same_now}
 
@@ -48,7 +28,7 @@ use Rattle.shm_table.proofs.Running.Still.{alloc_still, same_now}
 
 -- the machine that brings the value block in was made so
 abbrev Brings : Me → ℕ → ℕ → PutRootCalls → Type 0
-Brings me key v c = put_root_plan.start c.plan ≡ putting_root me key v
+Brings me key v c = put_root_steered.start c.plan ≡ putting_root me key v
 
 brings_kept : (me : Me) (key v : ℕ) (c : PutRootCalls) (n : ℕ) → Brings me key v c → Brings me key v (put_root_control.after c n)
 brings_kept me key v c n e = start_kept put_root_parts put_root_plan (put_root_laws open_laws locate_laws replace_laws enter_laws) (putting_root me key v) c n e

@@ -1,69 +1,40 @@
 -- the machines that leave the own map: latches, searches, readings, roots that are given and dropped, sends, and the parts of receives
 use Rattle.std.proofs.Common.{◌%◌, ap, ◌∙◌, List}
-use Rattle.shm_graph.specs.declared.memo.Memo.{Memo}
+use Rattle.shm_graph.specs.{declared.memo.Memo.Memo, Asks.Trail, Events.Event}
 use Rattle.shm_graph.specs.declared.spot.Spot.TheVariants as spot
-use Rattle.shm_graph.specs.Asks.{Trail}
-use Rattle.shm_graph.specs.Events.{Event}
-use Rattle.shm_calls.specs.CallsControl.{calls_control}
-use Rattle.shm_calls.specs.CallsFit.{CallsFits}
-use Rattle.shm_calls.specs.Either.{or_control}
-use Rattle.shm_calls.specs.Words.{word_control}
+use Rattle.shm_calls.specs.{CallsControl.calls_control, CallsFit.CallsFits, Either.or_control, Words.word_control}
 use Rattle.shm_steps.specs.Reparting.{sight}
-use Rattle.shm_count.specs.Step.Control.{first_point}
-use Rattle.shm_count.specs.declared.up_root.RootingPoint.{RootingPoint}
+use Rattle.shm_count.specs.Step.{Control.first_point, Machines.{down_control, up_control}}
+use Rattle.shm_count.specs.{declared.up_root.{RootingPoint.RootingPoint, RootingState.RootingState}, StepsAt.DownFitsAt}
+use Rattle.shm_count.specs.{StepsFrom.FitsFrom, Tear.{Control.tear_control, TearFits}, UpRoot.AsPart.up_root}
+use Rattle.shm_count.specs.UpRoot.{Control.rooting_parts, RootingKnows, rooting_part, rooting_plan}
 use Rattle.shm_count.specs.declared.up_root.RootingPoint.TheVariants as rooting
-use Rattle.shm_count.specs.declared.up_root.RootingState.{RootingState}
-use Rattle.shm_count.specs.Step.Machines.{down_control, up_control}
-use Rattle.shm_count.specs.StepsAt.{DownFitsAt}
-use Rattle.shm_count.specs.StepsFrom.{FitsFrom}
-use Rattle.shm_count.specs.Tear.Control.{tear_control}
-use Rattle.shm_count.specs.Tear.{TearFits}
-use Rattle.shm_count.specs.UpRoot.AsPart.{up_root}
-use Rattle.shm_count.specs.UpRoot.Control.{rooting_parts}
-use Rattle.shm_count.specs.UpRoot.{RootingKnows, rooting_part, rooting_plan}
-use Rattle.shm_ref.specs.declared.drop_root.DropPoint.{DropPoint}
+use Rattle.shm_ref.specs.declared.{drop_root.{DropPoint.DropPoint, DropState.DropState}, hold.HoldPoint.HoldPoint}
+use Rattle.shm_ref.specs.{declared.hold.HoldState.HoldState, DropRoot.{Control.drop_parts, DropKnows, drop_plan}}
+use Rattle.shm_ref.specs.{DropRoots.Control.drop_root, Hold.{HoldKnows, hold_plan, Control.hold_steered}}
 use Rattle.shm_ref.specs.declared.drop_root.DropPoint.TheVariants as dropping
-use Rattle.shm_ref.specs.declared.drop_root.DropState.{DropState}
-use Rattle.shm_ref.specs.declared.hold.HoldPoint.{HoldPoint}
 use Rattle.shm_ref.specs.declared.hold.HoldPoint.TheVariants as holding
-use Rattle.shm_ref.specs.declared.hold.HoldState.{HoldState}
-use Rattle.shm_ref.specs.DropRoot.Control.{drop_parts}
-use Rattle.shm_ref.specs.DropRoot.{DropKnows, drop_plan}
-use Rattle.shm_ref.specs.DropRoots.Control.{drop_root}
-use Rattle.shm_ref.specs.Hold.{HoldKnows, hold_plan}
-use Rattle.shm_queue.specs.declared.send.SendPoint.{SendPoint}
+use Rattle.shm_queue.specs.{declared.send.{SendPoint.SendPoint, SendState.SendState}, Machines.send}
+use Rattle.shm_queue.specs.Send.{Control.send_parts, SendKnows, send_plan}
 use Rattle.shm_queue.specs.declared.send.SendPoint.TheVariants as sending
-use Rattle.shm_queue.specs.declared.send.SendState.{SendState}
-use Rattle.shm_queue.specs.Machines.{send}
-use Rattle.shm_queue.specs.Send.Control.{send_parts}
-use Rattle.shm_queue.specs.Send.{SendKnows, send_plan}
-use Rattle.shm_table.specs.declared.find.FindPoint.{FindPoint}
-use Rattle.shm_table.specs.declared.find.FindPoint.TheVariants as finding
-use Rattle.shm_table.specs.declared.find.FindState.{FindState}
-use Rattle.shm_table.specs.declared.locate.LocatePoint.{LocatePoint}
-use Rattle.shm_table.specs.declared.locate.LocatePoint.TheVariants as locating
-use Rattle.shm_table.specs.declared.locate.LocateState.{LocateState}
-use Rattle.shm_table.specs.declared.take_head.TakeHeadPoint.{TakeHeadPoint}
-use Rattle.shm_table.specs.declared.take_head.TakeHeadPoint.TheVariants as taking
-use Rattle.shm_table.specs.declared.take_head.TakeHeadState.{TakeHeadState}
-use Rattle.shm_table.specs.declared.unlatch.UnlatchPoint.{UnlatchPoint}
-use Rattle.shm_table.specs.declared.unlatch.UnlatchPoint.TheVariants as giving
-use Rattle.shm_table.specs.declared.unlatch.UnlatchState.{UnlatchState}
-use Rattle.shm_table.specs.Find.{FindKnows, find_plan}
-use Rattle.shm_table.specs.Locate.Control.{find_control, locate_parts}
-use Rattle.shm_table.specs.Locate.{LocateKnows, locate_control, locate_plan}
-use Rattle.shm_table.specs.RecvKey.Control.{take_head_control}
-use Rattle.shm_table.specs.Staying.{SameMap}
-use Rattle.shm_table.specs.Staying.Laws.{same_map}
-use Rattle.shm_table.specs.TakeHead.Control.{take_head_parts}
-use Rattle.shm_table.specs.TakeHead.{TakeHeadKnows, take_head_plan}
+use Rattle.shm_table.specs.declared.{find.{FindPoint.FindPoint, FindState.FindState}, locate.LocatePoint.LocatePoint}
+use Rattle.shm_table.specs.declared.{locate.LocateState.LocateState, take_head.TakeHeadPoint.TakeHeadPoint}
+use Rattle.shm_table.specs.declared.{take_head.TakeHeadState.TakeHeadState, unlatch.UnlatchPoint.UnlatchPoint}
+use Rattle.shm_table.specs.{declared.unlatch.UnlatchState.UnlatchState, Find.{FindKnows, find_plan}}
+use Rattle.shm_table.specs.Locate.{Control.{find_control, locate_parts, locate_control}, LocateKnows, locate_plan}
+use Rattle.shm_table.specs.{RecvKey.Control.take_head_control, Staying.{SameMap, Laws.same_map}}
+use Rattle.shm_table.specs.TakeHead.{Control.take_head_parts, TakeHeadKnows, take_head_plan}
 use Rattle.shm_table.specs.Unlatch.{UnlatchKnows, unlatch_control, unlatch_plan}
+use Rattle.shm_table.specs.declared.find.FindPoint.TheVariants as finding
+use Rattle.shm_table.specs.declared.locate.LocatePoint.TheVariants as locating
+use Rattle.shm_table.specs.declared.take_head.TakeHeadPoint.TheVariants as taking
+use Rattle.shm_table.specs.declared.unlatch.UnlatchPoint.TheVariants as giving
 use Rattle.shm_table.proofs.Running.Steps.{lane_after, root_after, root_from}
 use Rattle.shm_table.proofs.Running.Still.{IsStill, calls_still, lane_down_still, lane_up_still, or_still, root_down_still, root_up_still, same_now, tear_still, word_still}
 
 -- ---- latches
 
-pub hold_still : IsStill (calls_control word_control hold_plan) (CallsFits word_control hold_plan)
+pub hold_still : IsStill (calls_control word_control hold_steered) (CallsFits word_control hold_plan)
 hold_still = calls_still word_control hold_plan (λ m. known m m.point) (λ m. word_still _)
   where
     known : (m : HoldState) (y : HoldPoint) (r0 r : Memo) (tr : Trail) (es : List Event) → HoldKnows m y r0 r tr es → SameMap r0 r
@@ -92,7 +63,7 @@ find_still = calls_still word_control find_plan (λ m. known m m.point) (λ m. w
 pub locate_still : IsStill locate_control (CallsFits locate_parts locate_plan)
 locate_still =
     calls_still locate_parts locate_plan (λ m. known m m.point)
-    (λ m. or_still (calls_control word_control hold_plan) find_control (CallsFits word_control hold_plan) (CallsFits word_control find_plan) hold_still find_still)
+    (λ m. or_still (calls_control word_control hold_steered) find_control (CallsFits word_control hold_plan) (CallsFits word_control find_plan) hold_still find_still)
   where
     known : (m : LocateState) (y : LocatePoint) (r0 r : Memo) (tr : Trail) (es : List Event) → LocateKnows m y r0 r tr es → SameMap r0 r
     known m locating.Search r0 r tr es h = same_map r0 r (ap (λ (x : Memo). x.part) h.took.memo)

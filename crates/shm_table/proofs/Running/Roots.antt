@@ -1,44 +1,29 @@
 -- a value block comes into the own table: while the machine runs the own map is what it was, until its deciding step, and from then on the key has the block
 use Rattle.std.proofs.Common.{◌≡◌, ℕ, refl, ◌∙◌, subst, Bool, true, false, List, Option, Some, None}
-use Rattle.shm_graph.specs.declared.ask.Me.{Me}
-use Rattle.shm_graph.specs.declared.memo.Memo.{Memo}
-use Rattle.shm_graph.specs.Asks.{Trail}
-use Rattle.shm_graph.specs.Events.{Event}
-use Rattle.shm_graph.specs.Laws.{Control}
+use Rattle.shm_graph.specs.{declared.{ask.Me.Me, memo.Memo.Memo}, Asks.Trail, Events.Event, Laws.Control}
 use Rattle.shm_graph.specs.Tells.{after_all}
-use Rattle.shm_calls.specs.declared.calls.Calls.{Calls}
-use Rattle.shm_calls.specs.declared.or.Or.TheVariants.{First, Second}
-use Rattle.shm_calls.specs.CallsControl.{calls_control}
-use Rattle.shm_calls.specs.CallsFit.{CallsFits}
-use Rattle.shm_calls.specs.Plans.{PlanLaws, Planned}
+use Rattle.shm_calls.specs.{declared.{calls.Calls.Calls, or.Or.TheVariants.{First, Second}}, CallsControl.calls_control}
+use Rattle.shm_calls.specs.{CallsFit.CallsFits, Plans.{PlanLaws, Planned}}
 use Rattle.shm_steps.specs.Reparting.{IsValue, sight}
-use Rattle.shm_table.specs.declared.answer.PutFault.{PutFault}
-use Rattle.shm_table.specs.declared.put_root.PutRootPoint.{PutRootPoint}
-use Rattle.shm_table.specs.declared.put_root.PutRootPoint.TheVariants as rooting
+use Rattle.shm_table.specs.declared.{answer.PutFault.PutFault, put_root.PutRootPoint.PutRootPoint}
 use Rattle.shm_table.specs.declared.put_root.PutRootState.{PutRootState}
 use Rattle.shm_table.specs.Effects.{put_root_at, put_root_decided, replace_decided, enter_decided, settled}
-use Rattle.shm_table.specs.Enter.Control.{enter_parts, entering}
-use Rattle.shm_table.specs.Enter.{enter_plan}
-use Rattle.shm_table.specs.Enter.Laws.{enter_laws}
-use Rattle.shm_table.specs.PutRoot.Control.{PutRootCall, PutRootCalls, put_root_call, put_root_parts}
-use Rattle.shm_table.specs.PutRoot.{IsPutting, MapSo, PutRootKnows, put_root_control, put_root_part, put_root_plan}
+use Rattle.shm_table.specs.Enter.{Control.{enter_parts, entering, enter_steered}, enter_plan, Laws.enter_laws}
+use Rattle.shm_table.specs.PutRoot.Control.{PutRootCall, PutRootCalls, put_root_call, put_root_parts, put_root_control}
+use Rattle.shm_table.specs.PutRoot.{IsPutting, MapSo, PutRootKnows, put_root_part, put_root_plan}
 use Rattle.shm_table.specs.PutRoot.Steps.{same_more, set_after}
-use Rattle.shm_table.specs.Replace.Control.{replace_parts, replacing}
-use Rattle.shm_table.specs.Replace.{MayReplace, replace_plan}
-use Rattle.shm_table.specs.Replace.Laws.{replace_laws}
-use Rattle.shm_table.specs.Staying.{MapSet, SameMap}
-use Rattle.shm_table.proofs.DecidingEvents.{kept_along, plan_kept}
-use Rattle.shm_table.proofs.Running.Entering.{EnterDoes, enter_so}
-use Rattle.shm_table.proofs.Running.Entries.{MapBy, ReplaceDoes, replace_so}
-use Rattle.shm_table.proofs.Running.Fetching.{open_still}
-use Rattle.shm_table.proofs.Running.Reading.{drop_still, locate_still, unlatch_still}
-use Rattle.shm_table.proofs.Running.Still.{same_now}
+use Rattle.shm_table.specs.Replace.{Control.{replace_parts, replacing, replace_steered}, MayReplace, replace_plan}
+use Rattle.shm_table.specs.{Replace.Laws.replace_laws, Staying.{MapSet, SameMap}}
+use Rattle.shm_table.specs.declared.put_root.PutRootPoint.TheVariants as rooting
+use Rattle.shm_table.proofs.{DecidingEvents.{kept_along, plan_kept}, Running.Entering.{EnterDoes, enter_so}}
+use Rattle.shm_table.proofs.Running.{Entries.{MapBy, ReplaceDoes, replace_so}, Fetching.open_still}
+use Rattle.shm_table.proofs.Running.{Reading.{drop_still, locate_still, unlatch_still}, Still.same_now}
 
 -- ---- the form
 
 -- what a plan was at its first call stays
-pub start_kept : {P C B A : Type 0} (k : Control C B) (q : Planned P C B A) → PlanLaws k q → (s : P) (m : Calls P C A B) (n : ℕ) → q.start m.plan ≡ s → q.start ((calls_control k q).after m n).plan ≡ s
-start_kept k q l s m n e = plan_kept k q (λ p. q.start p ≡ s) (λ p b h. (l.stays p b).same_start ∙ h) m n e
+pub start_kept : {P C B A : Type 0} (k : Control C B) (q : Planned P C B A) → PlanLaws k q → (s : P) (m : Calls P C A B) (n : ℕ) → q.steered.start m.plan ≡ s → q.steered.start ((calls_control k q.steered).after m n).plan ≡ s
+start_kept k q l s m n e = plan_kept k q (λ p. q.steered.start p ≡ s) (λ p b h. (l.stays p b).same_start ∙ h) m n e
 
 -- where the map is what it was when the call began, and the call does this
 pub by_call : (z : Bool) (D E : Type 0) (r0 rs r : Memo) → SameMap r0 rs → (D → E) → MapBy z D rs r → MapBy z E r0 r
@@ -56,8 +41,8 @@ by_then true D E r0 rs r so same h = so h
 abbrev RootCalled : PutRootState → PutRootPoint → PutRootCall → Type 0
 RootCalled m y (First (First c)) = y ≡ rooting.Open
 RootCalled m y (First (Second c)) = y ≡ rooting.Locate
-RootCalled m y (Second (First (First c))) = (y ≡ rooting.Replace) × (replace_plan.start c.plan ≡ replacing m.me m.entry m.value)
-RootCalled m y (Second (First (Second c))) = (y ≡ rooting.Enter) × (enter_plan.start c.plan ≡ entering m.me m.key m.value m.home m.first)
+RootCalled m y (Second (First (First c))) = (y ≡ rooting.Replace) × (replace_steered.start c.plan ≡ replacing m.me m.entry m.value)
+RootCalled m y (Second (First (Second c))) = (y ≡ rooting.Enter) × (enter_steered.start c.plan ≡ entering m.me m.key m.value m.home m.first)
 RootCalled m y (Second (Second (First c))) = y ≡ rooting.Unlatch
 RootCalled m y (Second (Second (Second c))) = y ≡ rooting.Drop
 

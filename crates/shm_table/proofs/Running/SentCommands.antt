@@ -1,35 +1,26 @@
 -- each command: while one runs nothing was sent, but by a send from its deciding step on, and then the value block that its key had
 use Rattle.std.proofs.Common.{◌≡◌, ℕ, refl, sym, ap, ◌∙◌, subst, Bool, true, false, cond, eqb, List, [], ◌∷◌, ◌++◌, inl, inr}
-use Rattle.std.specs.Prelude.{slice_index_or, Option, None, Some}
 use Rattle.std.proofs.lemmas.Bool.{cases_eq, cond-false, ne_eqb}
-use Rattle.shm_graph.specs.declared.ask.Me.{Me}
-use Rattle.shm_graph.specs.declared.memo.Memo.{Memo}
-use Rattle.shm_graph.specs.Agents.{died}
-use Rattle.shm_graph.specs.Asks.{Trail}
-use Rattle.shm_graph.specs.Events.{Event}
-use Rattle.shm_graph.specs.MemoAfterStore.{lane_with}
-use Rattle.shm_graph.specs.Tells.{after_all}
-use Rattle.shm_calls.specs.declared.or.Or.TheVariants.{First, Second}
-use Rattle.shm_calls.specs.CallsFit.{CallsFits}
+use Rattle.std.specs.Prelude.{slice_index_or, Option, None, Some}
+use Rattle.shm_graph.specs.{declared.{ask.Me.Me, memo.Memo.Memo}, Agents.died, Asks.Trail, Events.Event}
+use Rattle.shm_graph.specs.{MemoAfterStore.lane_with, Tells.after_all}
+use Rattle.shm_calls.specs.{declared.or.Or.TheVariants.{First, Second}, CallsFit.CallsFits}
 use Rattle.shm_calls.specs.Deciding.{StillRuns, where_decided}
 use Rattle.shm_steps.specs.Reparting.{map_in}
 use Rattle.shm_steps.proofs.Items.{put_at}
-use Rattle.shm_script.specs.declared.line.Line.{Line}
+use Rattle.shm_script.specs.declared.{line.Line.Line, log.Answer.Answer}
 use Rattle.shm_script.specs.declared.line.Line.TheVariants as line
-use Rattle.shm_script.specs.declared.log.Answer.{Answer}
 use Rattle.shm_script.specs.declared.log.Answer.TheVariants as answer
-use Rattle.shm_table.specs.declared.get.GetPoint.TheVariants as getting
-use Rattle.shm_table.specs.declared.send_key.SendKeyPoint.{SendKeyPoint}
-use Rattle.shm_table.specs.declared.send_key.SendKeyPoint.TheVariants as keys
-use Rattle.shm_table.specs.declared.send_key.SendKeyState.{SendKeyState}
+use Rattle.shm_table.specs.declared.send_key.{SendKeyPoint.SendKeyPoint, SendKeyState.SendKeyState}
 use Rattle.shm_table.specs.Command.{CommandCall, CommandFits, command_control, command_effect, command_of}
 use Rattle.shm_table.specs.Command.Sends.{SameSent, SentOne, SentSoFar, sent_to}
 use Rattle.shm_table.specs.Effects.{copy_at, del_at, is_sent, put_at as stored_at, recv_at, send_key_at}
 use Rattle.shm_table.specs.Machines.Send.{send_key}
 use Rattle.shm_table.specs.SendKey.Control.{SendKeyCall, SendKeyCalls, send_key_call, send_key_parts}
 use Rattle.shm_table.specs.SendKey.{GiveKnows, SendKeyKnows, got, send_key_part, send_key_plan}
-use Rattle.shm_table.proofs.DecidingEvents.{kept_along}
-use Rattle.shm_table.proofs.Running.Commands.{command_going, line_along, line_of}
+use Rattle.shm_table.specs.declared.get.GetPoint.TheVariants as getting
+use Rattle.shm_table.specs.declared.send_key.SendKeyPoint.TheVariants as keys
+use Rattle.shm_table.proofs.{DecidingEvents.kept_along, Running.Commands.{command_going, line_along, line_of}}
 use Rattle.shm_table.proofs.Running.SentMachines.{copy_sends, del_sends, get_sends, get_sent, locate_sends, put_sends, recv_sends, send_sends, unlatch_sends}
 use Rattle.shm_table.proofs.Running.SentSteps.{SentSame, sent_now, word_sends}
 

@@ -1,140 +1,80 @@
 -- the machines that send nothing while they run: latches, searches, roots and readings, a send up to the store of its tail, and the machines that change the own map
 use Rattle.std.proofs.Common.{ℕ, ◌+◌, ◌%◌, refl, sym, ap, ◌∙◌, Bool, true, false, cond, List, Option, Some, None, inl, inr}
-use Rattle.shm_graph.specs.declared.memo.Memo.{Memo}
+use Rattle.shm_graph.specs.{declared.memo.Memo.Memo, Asks.Trail, Bounds.redo_steps, Events.Event}
 use Rattle.shm_graph.specs.declared.spot.Spot.TheVariants as spot
-use Rattle.shm_graph.specs.Asks.{Trail}
-use Rattle.shm_graph.specs.Bounds.{redo_steps}
-use Rattle.shm_graph.specs.Events.{Event}
-use Rattle.shm_calls.specs.CallsControl.{calls_control}
-use Rattle.shm_calls.specs.CallsFit.{CallsFits}
-use Rattle.shm_calls.specs.Either.{or_control}
-use Rattle.shm_calls.specs.Words.{word_control}
+use Rattle.shm_calls.specs.{CallsControl.calls_control, CallsFit.CallsFits, Either.or_control, Words.word_control}
+use Rattle.shm_count.specs.declared.up_root.{RootingPoint.RootingPoint, RootingState.RootingState}
+use Rattle.shm_count.specs.Step.{Control.{first_point, step_control}, Machines.{down_control, up_control}}
+use Rattle.shm_count.specs.{Step.{BeforeExchange.ready_part, PointHas}, StepsAt.{ChangeFitsAt, DownFitsAt, UpFitsAt}}
+use Rattle.shm_count.specs.{StepsFrom.FitsFrom, Tear.{Control.tear_control, TearFits}, UpRoot.AsPart.up_root}
+use Rattle.shm_count.specs.UpRoot.{Control.rooting_parts, RootingKnows, rooting_part, rooting_plan}
 use Rattle.shm_count.specs.declared.point.StepPoint.TheVariants as point
-use Rattle.shm_count.specs.declared.up_root.RootingPoint.{RootingPoint}
 use Rattle.shm_count.specs.declared.up_root.RootingPoint.TheVariants as rooting
-use Rattle.shm_count.specs.declared.up_root.RootingState.{RootingState}
-use Rattle.shm_count.specs.Step.Control.{first_point, step_control}
-use Rattle.shm_count.specs.Step.Machines.{down_control, up_control}
-use Rattle.shm_count.specs.Step.BeforeExchange.{ready_part}
-use Rattle.shm_count.specs.Step.{PointHas}
-use Rattle.shm_count.specs.StepsAt.{ChangeFitsAt, DownFitsAt, UpFitsAt}
-use Rattle.shm_count.specs.StepsFrom.{FitsFrom}
-use Rattle.shm_count.specs.Tear.Control.{tear_control}
-use Rattle.shm_count.specs.Tear.{TearFits}
-use Rattle.shm_count.specs.UpRoot.AsPart.{up_root}
-use Rattle.shm_count.specs.UpRoot.Control.{rooting_parts}
-use Rattle.shm_count.specs.UpRoot.{RootingKnows, rooting_part, rooting_plan}
-use Rattle.shm_alloc.specs.Alloc.Control.{alloc_control}
-use Rattle.shm_alloc.specs.Alloc.{AllocFits}
-use Rattle.shm_ref.specs.declared.drop_root.DropPoint.{DropPoint}
+use Rattle.shm_alloc.specs.Alloc.{Control.alloc_control, AllocFits}
+use Rattle.shm_ref.specs.declared.{drop_root.{DropPoint.DropPoint, DropState.DropState}, hold.HoldPoint.HoldPoint}
+use Rattle.shm_ref.specs.{declared.hold.HoldState.HoldState, DropRoot.{Control.drop_parts, DropKnows, drop_plan}}
+use Rattle.shm_ref.specs.{DropRoots.Control.drop_root, Hold.{HoldKnows, hold_plan, Control.hold_steered}}
 use Rattle.shm_ref.specs.declared.drop_root.DropPoint.TheVariants as dropping
-use Rattle.shm_ref.specs.declared.drop_root.DropState.{DropState}
-use Rattle.shm_ref.specs.declared.hold.HoldPoint.{HoldPoint}
 use Rattle.shm_ref.specs.declared.hold.HoldPoint.TheVariants as holding
-use Rattle.shm_ref.specs.declared.hold.HoldState.{HoldState}
-use Rattle.shm_ref.specs.DropRoot.Control.{drop_parts}
-use Rattle.shm_ref.specs.DropRoot.{DropKnows, drop_plan}
-use Rattle.shm_ref.specs.DropRoots.Control.{drop_root}
-use Rattle.shm_ref.specs.Hold.{HoldKnows, hold_plan}
-use Rattle.shm_queue.specs.declared.send.SendPoint.{SendPoint}
+use Rattle.shm_queue.specs.{declared.send.{SendPoint.SendPoint, SendState.SendState}, Machines.send}
+use Rattle.shm_queue.specs.Send.{Control.send_parts, SendKnows, send_plan}
 use Rattle.shm_queue.specs.declared.send.SendPoint.TheVariants as sending
-use Rattle.shm_queue.specs.declared.send.SendState.{SendState}
-use Rattle.shm_queue.specs.Machines.{send}
-use Rattle.shm_queue.specs.Send.Control.{send_parts}
-use Rattle.shm_queue.specs.Send.{SendKnows, send_plan}
-use Rattle.shm_table.specs.declared.answer.PutFault.{PutFault}
-use Rattle.shm_table.specs.declared.copy.CopyPoint.{CopyPoint}
-use Rattle.shm_table.specs.declared.copy.CopyPoint.TheVariants as copies
-use Rattle.shm_table.specs.declared.copy.CopyState.{CopyState}
-use Rattle.shm_table.specs.declared.del.DelPoint.{DelPoint}
-use Rattle.shm_table.specs.declared.del.DelPoint.TheVariants as deletes
-use Rattle.shm_table.specs.declared.del.DelState.{DelState}
-use Rattle.shm_table.specs.declared.enter.EnterPoint.{EnterPoint}
-use Rattle.shm_table.specs.declared.enter.EnterPoint.TheVariants as entering
-use Rattle.shm_table.specs.declared.enter.EnterState.{EnterState}
-use Rattle.shm_table.specs.declared.fetch.Fetched.{Fetched}
-use Rattle.shm_table.specs.declared.fetch.Fetched.TheVariants as fetched
-use Rattle.shm_table.specs.declared.fetch.FetchPoint.{FetchPoint}
-use Rattle.shm_table.specs.declared.fetch.FetchPoint.TheVariants as fetching
-use Rattle.shm_table.specs.declared.fetch.FetchState.{FetchState}
-use Rattle.shm_table.specs.declared.fetch_head.FetchHeadPoint.{FetchHeadPoint}
-use Rattle.shm_table.specs.declared.fetch_head.FetchHeadPoint.TheVariants as heading
-use Rattle.shm_table.specs.declared.fetch_head.FetchHeadState.{FetchHeadState}
-use Rattle.shm_table.specs.declared.find.FindPoint.{FindPoint}
-use Rattle.shm_table.specs.declared.find.FindPoint.TheVariants as finding
-use Rattle.shm_table.specs.declared.find.FindState.{FindState}
-use Rattle.shm_table.specs.declared.get.GetPoint.{GetPoint}
-use Rattle.shm_table.specs.declared.get.GetPoint.TheVariants as getting
-use Rattle.shm_table.specs.declared.get.GetState.{GetState}
-use Rattle.shm_table.specs.declared.locate.LocatePoint.{LocatePoint}
-use Rattle.shm_table.specs.declared.locate.LocatePoint.TheVariants as locating
-use Rattle.shm_table.specs.declared.locate.LocateState.{LocateState}
-use Rattle.shm_table.specs.declared.open_table.OpenPoint.{OpenPoint}
-use Rattle.shm_table.specs.declared.open_table.OpenPoint.TheVariants as opening
-use Rattle.shm_table.specs.declared.open_table.OpenState.{OpenState}
-use Rattle.shm_table.specs.declared.put.PutPoint.{PutPoint}
-use Rattle.shm_table.specs.declared.put.PutPoint.TheVariants as puts
-use Rattle.shm_table.specs.declared.put.PutState.{PutState}
-use Rattle.shm_table.specs.declared.put_root.PutRootPoint.{PutRootPoint}
-use Rattle.shm_table.specs.declared.put_root.PutRootPoint.TheVariants as bringing
-use Rattle.shm_table.specs.declared.put_root.PutRootState.{PutRootState}
-use Rattle.shm_table.specs.declared.recv.RecvPoint.{RecvPoint}
-use Rattle.shm_table.specs.declared.recv.RecvPoint.TheVariants as receives
-use Rattle.shm_table.specs.declared.recv.RecvState.{RecvState}
-use Rattle.shm_table.specs.declared.replace.ReplacePoint.{ReplacePoint}
-use Rattle.shm_table.specs.declared.replace.ReplacePoint.TheVariants as replacing
-use Rattle.shm_table.specs.declared.replace.ReplaceState.{ReplaceState}
-use Rattle.shm_table.specs.declared.take_head.TakeHeadPoint.{TakeHeadPoint}
-use Rattle.shm_table.specs.declared.take_head.TakeHeadPoint.TheVariants as taking
-use Rattle.shm_table.specs.declared.take_head.TakeHeadState.{TakeHeadState}
-use Rattle.shm_table.specs.declared.unlatch.UnlatchPoint.{UnlatchPoint}
-use Rattle.shm_table.specs.declared.unlatch.UnlatchPoint.TheVariants as giving
-use Rattle.shm_table.specs.declared.unlatch.UnlatchState.{UnlatchState}
-use Rattle.shm_table.specs.declared.unlink.UnlinkPoint.{UnlinkPoint}
-use Rattle.shm_table.specs.declared.unlink.UnlinkPoint.TheVariants as unlinking
-use Rattle.shm_table.specs.declared.unlink.UnlinkState.{UnlinkState}
-use Rattle.shm_script.specs.declared.log.Answer.{Answer}
-use Rattle.shm_script.specs.declared.log.Answer.TheVariants as answer
-use Rattle.shm_table.specs.CopyKey.Control.{copy_parts, fetch_control}
-use Rattle.shm_table.specs.CopyKey.{CopyKnows, copy_plan}
-use Rattle.shm_table.specs.Del.Control.{del_parts}
-use Rattle.shm_table.specs.Del.{DelKnows, DelSays, del_plan}
-use Rattle.shm_table.specs.Enter.Control.{enter_parts, enter_spot}
-use Rattle.shm_table.specs.Enter.{EnterKnows, enter_plan}
-use Rattle.shm_table.specs.Fetch.Control.{fetch_parts}
-use Rattle.shm_table.specs.Fetch.{FetchKnows, GiveKnows, fetch_plan, got}
-use Rattle.shm_table.specs.FetchHead.Control.{fetch_head_parts}
-use Rattle.shm_table.specs.FetchHead.{FetchHeadKnows, fetch_head_plan}
-use Rattle.shm_table.specs.Find.{FindKnows, find_plan}
-use Rattle.shm_table.specs.Get.Control.{get_parts}
-use Rattle.shm_table.specs.Get.{GetKnows, get_plan}
-use Rattle.shm_table.specs.Locate.Control.{find_control, locate_parts}
-use Rattle.shm_table.specs.Locate.{LocateKnows, locate_control, locate_plan}
-use Rattle.shm_table.specs.Machines.Change.{del}
-use Rattle.shm_table.specs.Machines.Copy.{copy_control}
-use Rattle.shm_table.specs.Machines.Put.{put}
-use Rattle.shm_table.specs.Machines.Get.{get}
-use Rattle.shm_table.specs.Machines.Recv.{recv_control}
-use Rattle.shm_table.specs.OpenTable.Control.{open_parts}
-use Rattle.shm_table.specs.OpenTable.{OpenKnows, name_part, open_plan}
-use Rattle.shm_table.specs.Put.Control.{put_parts}
+use Rattle.shm_table.specs.declared.{answer.PutFault.PutFault, copy.{CopyPoint.CopyPoint, CopyState.CopyState}}
+use Rattle.shm_table.specs.declared.{del.{DelPoint.DelPoint, DelState.DelState}, enter.EnterPoint.EnterPoint}
+use Rattle.shm_table.specs.declared.{enter.EnterState.EnterState, fetch.{Fetched.Fetched, FetchPoint.FetchPoint}}
+use Rattle.shm_table.specs.declared.{fetch.FetchState.FetchState, fetch_head.FetchHeadPoint.FetchHeadPoint}
+use Rattle.shm_table.specs.declared.{fetch_head.FetchHeadState.FetchHeadState, find.FindPoint.FindPoint}
+use Rattle.shm_table.specs.declared.{find.FindState.FindState, get.{GetPoint.GetPoint, GetState.GetState}}
+use Rattle.shm_table.specs.declared.locate.{LocatePoint.LocatePoint, LocateState.LocateState}
+use Rattle.shm_table.specs.declared.{open_table.{OpenPoint.OpenPoint, OpenState.OpenState}, put.PutPoint.PutPoint}
+use Rattle.shm_table.specs.declared.{put.PutState.PutState, put_root.PutRootPoint.PutRootPoint}
+use Rattle.shm_table.specs.declared.{put_root.PutRootState.PutRootState, recv.RecvPoint.RecvPoint}
+use Rattle.shm_table.specs.declared.{recv.RecvState.RecvState, replace.ReplacePoint.ReplacePoint}
+use Rattle.shm_table.specs.declared.{replace.ReplaceState.ReplaceState, take_head.TakeHeadPoint.TakeHeadPoint}
+use Rattle.shm_table.specs.declared.{take_head.TakeHeadState.TakeHeadState, unlatch.UnlatchPoint.UnlatchPoint}
+use Rattle.shm_table.specs.declared.{unlatch.UnlatchState.UnlatchState, unlink.UnlinkPoint.UnlinkPoint}
+use Rattle.shm_table.specs.{declared.unlink.UnlinkState.UnlinkState, CopyKey.Control.{copy_parts, fetch_control}}
+use Rattle.shm_table.specs.{CopyKey.{CopyKnows, copy_plan}, Del.{Control.del_parts, DelKnows, DelSays, del_plan}}
+use Rattle.shm_table.specs.Enter.{Control.{enter_parts, enter_spot}, EnterKnows, enter_plan}
+use Rattle.shm_table.specs.Fetch.{Control.fetch_parts, FetchKnows, GiveKnows, fetch_plan, got}
+use Rattle.shm_table.specs.FetchHead.{Control.fetch_head_parts, FetchHeadKnows, fetch_head_plan}
+use Rattle.shm_table.specs.{Find.{FindKnows, find_plan}, Get.{Control.get_parts, GetKnows, get_plan}}
+use Rattle.shm_table.specs.Locate.{Control.{find_control, locate_parts, locate_control}, LocateKnows, locate_plan}
+use Rattle.shm_table.specs.Machines.{Change.del, Copy.copy_control, Put.put, Get.get, Recv.recv_control}
+use Rattle.shm_table.specs.{OpenTable.{Control.open_parts, OpenKnows, name_part, open_plan}, Put.Control.put_parts}
 use Rattle.shm_table.specs.Put.{PutKnows, put_plan}
-use Rattle.shm_table.specs.PutRoot.Control.{enter_control, open_control, put_root_parts, replace_control}
-use Rattle.shm_table.specs.PutRoot.{PutRootKnows, put_root_control, put_root_plan}
+use Rattle.shm_table.specs.PutRoot.Control.{enter_control, open_control, put_root_parts, replace_control, put_root_control}
+use Rattle.shm_table.specs.PutRoot.{PutRootKnows, put_root_plan}
 use Rattle.shm_table.specs.RecvKey.Control.{fetch_head_control, recv_parts, take_head_control}
-use Rattle.shm_table.specs.RecvKey.{ItemSo, RecvKnows, recv_plan}
-use Rattle.shm_table.specs.Replace.Control.{replace_parts}
-use Rattle.shm_table.specs.Replace.{ReplaceKnows, replace_plan}
-use Rattle.shm_table.specs.TakeHead.Control.{take_head_parts}
+use Rattle.shm_table.specs.{RecvKey.{ItemSo, RecvKnows, recv_plan}, Replace.Control.replace_parts}
+use Rattle.shm_table.specs.{Replace.{ReplaceKnows, replace_plan}, TakeHead.Control.take_head_parts}
 use Rattle.shm_table.specs.TakeHead.{TakeHeadKnows, take_head_plan}
 use Rattle.shm_table.specs.Unlatch.{UnlatchKnows, unlatch_control, unlatch_plan}
-use Rattle.shm_table.specs.Unlink.Control.{unlink_parts}
-use Rattle.shm_table.specs.Unlink.{UnlinkKnows, unlink_control, unlink_plan}
+use Rattle.shm_table.specs.Unlink.{Control.{unlink_parts, unlink_control}, UnlinkKnows, unlink_plan}
+use Rattle.shm_table.specs.declared.copy.CopyPoint.TheVariants as copies
+use Rattle.shm_table.specs.declared.del.DelPoint.TheVariants as deletes
+use Rattle.shm_table.specs.declared.enter.EnterPoint.TheVariants as entering
+use Rattle.shm_table.specs.declared.fetch.Fetched.TheVariants as fetched
+use Rattle.shm_table.specs.declared.fetch.FetchPoint.TheVariants as fetching
+use Rattle.shm_table.specs.declared.fetch_head.FetchHeadPoint.TheVariants as heading
+use Rattle.shm_table.specs.declared.find.FindPoint.TheVariants as finding
+use Rattle.shm_table.specs.declared.get.GetPoint.TheVariants as getting
+use Rattle.shm_table.specs.declared.locate.LocatePoint.TheVariants as locating
+use Rattle.shm_table.specs.declared.open_table.OpenPoint.TheVariants as opening
+use Rattle.shm_table.specs.declared.put.PutPoint.TheVariants as puts
+use Rattle.shm_table.specs.declared.put_root.PutRootPoint.TheVariants as bringing
+use Rattle.shm_table.specs.declared.recv.RecvPoint.TheVariants as receives
+use Rattle.shm_table.specs.declared.replace.ReplacePoint.TheVariants as replacing
+use Rattle.shm_table.specs.declared.take_head.TakeHeadPoint.TheVariants as taking
+use Rattle.shm_table.specs.declared.unlatch.UnlatchPoint.TheVariants as giving
+use Rattle.shm_table.specs.declared.unlink.UnlinkPoint.TheVariants as unlinking
 use Rattle.shm_table.proofs.Running.SentSteps.{SendsNone, SentSame, alloc_sends, calls_sends, down_sends, or_sends, point_sent, sent_now, step_sends, tear_sends, up_sends, word_sends}
+use Rattle.shm_script.specs.declared.log.Answer.{Answer}
+use Rattle.shm_script.specs.declared.log.Answer.TheVariants as answer
 
 -- ---- latches
 
-pub hold_sends : SendsNone (calls_control word_control hold_plan) (CallsFits word_control hold_plan)
+pub hold_sends : SendsNone (calls_control word_control hold_steered) (CallsFits word_control hold_plan)
 hold_sends = calls_sends word_control hold_plan (λ m. known m m.point) (λ m. word_sends _)
   where
     known : (m : HoldState) (y : HoldPoint) (r0 r : Memo) (tr : Trail) (es : List Event) → HoldKnows m y r0 r tr es → SentSame r0 r
@@ -163,7 +103,7 @@ find_sends = calls_sends word_control find_plan (λ m. known m m.point) (λ m. w
 pub locate_sends : SendsNone locate_control (CallsFits locate_parts locate_plan)
 locate_sends =
     calls_sends locate_parts locate_plan (λ m. known m m.point)
-    (λ m. or_sends (calls_control word_control hold_plan) find_control (CallsFits word_control hold_plan) (CallsFits word_control find_plan) hold_sends find_sends)
+    (λ m. or_sends (calls_control word_control hold_steered) find_control (CallsFits word_control hold_plan) (CallsFits word_control find_plan) hold_sends find_sends)
   where
     known : (m : LocateState) (y : LocatePoint) (r0 r : Memo) (tr : Trail) (es : List Event) → LocateKnows m y r0 r tr es → SentSame r0 r
     known m locating.Search r0 r tr es h = ap (λ (x : Memo). x.sent) h.took.memo

@@ -1,53 +1,31 @@
 -- what was sent while a word step, a count step, an allocation or a tear-down is running: none of them sends
-use Rattle.std.proofs.Common.{◌≡◌, ℕ, refl, ap, ◌∙◌, Bool, false, eqb, ◌&&◌, List}
+use Rattle.std.proofs.{Common.{◌≡◌, ℕ, refl, ap, ◌∙◌, Bool, false, eqb, ◌&&◌, List}, lemmas.Bool.true≢false}
 use Rattle.std.specs.List.{filter}
-use Rattle.std.proofs.lemmas.Bool.{true≢false}
 use Rattle.shm_words.specs.Headers.{header_of}
-use Rattle.shm_graph.specs.declared.ask.Me.{Me}
-use Rattle.shm_graph.specs.declared.spot.Spot.{Spot}
-use Rattle.shm_graph.specs.declared.spot.Spot.TheVariants as spot
-use Rattle.shm_graph.specs.declared.memo.First.TheVariants.{Committed}
-use Rattle.shm_graph.specs.declared.memo.Second.TheVariants.{Closed}
-use Rattle.shm_graph.specs.declared.memo.ChangeStage.TheVariants.{Lowering}
-use Rattle.shm_graph.specs.declared.memo.Memo.{Memo}
-use Rattle.shm_graph.specs.declared.memo.Op.TheVariants as op
-use Rattle.shm_graph.specs.Asks.{Trail}
-use Rattle.shm_graph.specs.Events.{Event}
+use Rattle.shm_graph.specs.declared.{ask.Me.Me, spot.Spot.Spot, memo.First.TheVariants.Committed}
+use Rattle.shm_graph.specs.declared.memo.{Second.TheVariants.Closed, ChangeStage.TheVariants.Lowering, Memo.Memo}
+use Rattle.shm_graph.specs.{Asks.Trail, Events.Event}
 use Rattle.shm_graph.specs.MemoAfterExchange.{cut, lowered, reparted, without_made, with_unsent, with_untaken}
-use Rattle.shm_graph.specs.Laws.{Control}
-use Rattle.shm_graph.specs.Mapped.{OnTheWay}
-use Rattle.shm_graph.specs.Ops.{is_op, slot_of}
-use Rattle.shm_graph.specs.Reach.{learnt}
-use Rattle.shm_graph.specs.Spots.{same_spot}
-use Rattle.shm_graph.specs.MemoAfterStore.{making_with, other_than, put, written}
-use Rattle.shm_graph.specs.Tells.{happens_along}
+use Rattle.shm_graph.specs.{Laws.Control, Mapped.OnTheWay, Ops.{is_op, slot_of}, Reach.learnt, Spots.same_spot}
+use Rattle.shm_graph.specs.{MemoAfterStore.{making_with, other_than, put, written}, Tells.happens_along}
+use Rattle.shm_graph.specs.declared.spot.Spot.TheVariants as spot
+use Rattle.shm_graph.specs.declared.memo.Op.TheVariants as op
 use Rattle.shm_graph.proofs.StepKinds.Loads.{choice}
 use Rattle.shm_laws.specs.HeaderExchanges.{dying_after}
 use Rattle.shm_steps.proofs.MemoCommits.{known_lowered, lowered_is}
-use Rattle.shm_calls.specs.CallsControl.{calls_control}
-use Rattle.shm_calls.specs.CallsFit.{CallsFits}
-use Rattle.shm_calls.specs.Either.{OrFits, or_control}
-use Rattle.shm_calls.specs.Plans.{Planned}
+use Rattle.shm_calls.specs.{CallsControl.calls_control, CallsFit.CallsFits, Either.{OrFits, or_control}, Plans.Planned}
 use Rattle.shm_calls.specs.Words.{WordFits, word_control}
-use Rattle.shm_count.specs.declared.point.Aim.{Aim}
-use Rattle.shm_count.specs.declared.point.Aim.TheVariants.{Up, Down, Change}
-use Rattle.shm_count.specs.declared.point.Half.{Half}
-use Rattle.shm_count.specs.declared.point.Half.TheVariants.{First, Second}
-use Rattle.shm_count.specs.declared.point.StepPoint.{StepPoint}
-use Rattle.shm_count.specs.declared.point.StepPoint.TheVariants as point
+use Rattle.shm_count.specs.declared.point.{Aim.{Aim, TheVariants.{Up, Down, Change}}, Half.Half}
+use Rattle.shm_count.specs.declared.point.{Half.TheVariants.{First, Second}, StepPoint.StepPoint}
 use Rattle.shm_count.specs.declared.tear_point.TearPoint.{TearPoint}
-use Rattle.shm_count.specs.declared.tear_point.TearPoint.TheVariants as tear
 use Rattle.shm_count.specs.Step.Control.{header_after, is_over, step_control, value_after}
 use Rattle.shm_count.specs.Step.{AtFirst, InHalf, PointHas, StepFits, set_memo, slot_memo}
-use Rattle.shm_count.specs.Step.Machines.{down_control, up_control}
-use Rattle.shm_count.specs.Step.Memos.{closed_part}
-use Rattle.shm_count.specs.Step.BeforeExchange.{ready_part}
-use Rattle.shm_count.specs.StepsAt.{DownFitsAt, UpFitsAt}
-use Rattle.shm_count.specs.Tear.Control.{tear_control, word_address}
-use Rattle.shm_count.specs.Tear.Events.{tear_event, tear_start}
-use Rattle.shm_count.specs.Tear.{TearFits, TearHolds}
-use Rattle.shm_alloc.specs.Alloc.Control.{alloc_control}
-use Rattle.shm_alloc.specs.Alloc.{AllocFits}
+use Rattle.shm_count.specs.Step.{Machines.{down_control, up_control}, Memos.closed_part, BeforeExchange.ready_part}
+use Rattle.shm_count.specs.{StepsAt.{DownFitsAt, UpFitsAt}, Tear.Control.{tear_control, word_address}}
+use Rattle.shm_count.specs.Tear.{Events.{tear_event, tear_start}, TearFits, TearHolds}
+use Rattle.shm_count.specs.declared.point.StepPoint.TheVariants as point
+use Rattle.shm_count.specs.declared.tear_point.TearPoint.TheVariants as tear
+use Rattle.shm_alloc.specs.Alloc.{Control.alloc_control, AllocFits}
 use Rattle.shm_table.proofs.Running.Steps.{IsPlace}
 use Rattle.shm_table.proofs.Running.Still.{RunsDown, WhileRunning, calls_running, or_running, tear_runs}
 
@@ -65,7 +43,7 @@ pub or_sends : {S T A B : Type 0} (j : Control S A) (k : Control T B) (fits : On
 or_sends j k fits fits' h i = or_running SentSame j k fits fits' h i
 
 -- a machine that makes the calls of a plan, where nothing was sent before each call, and no call sends
-pub calls_sends : {P C B A : Type 0} (k : Control C B) (q : Planned P C B A) → ((p : P) (r0 r : Memo) (tr : Trail) (es : List Event) → q.knows p r0 r tr es → SentSame r0 r) → ((p : P) → SendsNone k (q.part p).fits) → SendsNone (calls_control k q) (CallsFits k q)
+pub calls_sends : {P C B A : Type 0} (k : Control C B) (q : Planned P C B A) → ((p : P) (r0 r : Memo) (tr : Trail) (es : List Event) → q.knows p r0 r tr es → SentSame r0 r) → ((p : P) → SendsNone k (q.part p).fits) → SendsNone (calls_control k q.steered) (CallsFits k q)
 calls_sends k q known keeps = calls_running SentSame (λ x y z h i. i ∙ h) k q known keeps
 
 -- nothing was done yet

@@ -1,44 +1,28 @@
 -- the partition of a memo while a count step or a tear-down is running: as it was up to the exchange of the first half, and from then on the one that the slot leads to
 use Rattle.std.proofs.Common.{◌≡◌, ℕ, refl, sym, ap, ◌∙◌, Bool, true, false, eqb, ◌&&◌, List, cond}
-use Rattle.std.specs.List.{filter}
 use Rattle.std.proofs.lemmas.Bool.{true≢false}
+use Rattle.std.specs.List.{filter}
 use Rattle.shm_words.specs.Headers.{header_of}
-use Rattle.shm_graph.specs.declared.ask.Me.{Me}
-use Rattle.shm_graph.specs.declared.spot.Spot.{Spot}
-use Rattle.shm_graph.specs.declared.spot.Spot.TheVariants as spot
-use Rattle.shm_graph.specs.declared.memo.First.TheVariants.{Committed}
-use Rattle.shm_graph.specs.declared.memo.Second.TheVariants.{Closed}
-use Rattle.shm_graph.specs.declared.memo.ChangeStage.TheVariants.{Lowering}
-use Rattle.shm_graph.specs.declared.memo.Memo.{Memo}
-use Rattle.shm_graph.specs.declared.memo.Op.TheVariants as op
-use Rattle.shm_graph.specs.declared.memo.Stored.{Stored}
-use Rattle.shm_graph.specs.declared.table.Part.{Part}
-use Rattle.shm_graph.specs.declared.table.Part.TheVariants.{Loose, Table}
-use Rattle.shm_graph.specs.Asks.{Trail}
+use Rattle.shm_graph.specs.declared.{ask.Me.Me, spot.Spot.Spot, memo.First.TheVariants.Committed}
+use Rattle.shm_graph.specs.declared.memo.{Second.TheVariants.Closed, ChangeStage.TheVariants.Lowering, Memo.Memo}
+use Rattle.shm_graph.specs.{declared.{memo.Stored.Stored, table.Part.{Part, TheVariants.{Loose, Table}}}, Asks.Trail}
 use Rattle.shm_graph.specs.Chains.{part_set}
 use Rattle.shm_graph.specs.MemoAfterExchange.{cut, lowered, reparted, without_made, with_unsent, with_untaken}
-use Rattle.shm_graph.specs.Ops.{On, cover, is_op, slot_of}
-use Rattle.shm_graph.specs.Reach.{learnt, shown, sifted}
-use Rattle.shm_graph.specs.Spots.{same_spot}
+use Rattle.shm_graph.specs.{Ops.{On, cover, is_op, slot_of}, Reach.{learnt, shown, sifted}, Spots.same_spot}
 use Rattle.shm_graph.specs.MemoAfterStore.{making_with, other_than, put, written}
+use Rattle.shm_graph.specs.declared.spot.Spot.TheVariants as spot
+use Rattle.shm_graph.specs.declared.memo.Op.TheVariants as op
 use Rattle.shm_graph.proofs.StepKinds.Loads.{choice}
 use Rattle.shm_laws.specs.HeaderExchanges.{dying_after}
 use Rattle.shm_steps.specs.Reparting.{Sight, sight}
 use Rattle.shm_steps.proofs.MemoCommits.{known_lowered, lowered_is}
-use Rattle.shm_count.specs.declared.point.Aim.{Aim}
-use Rattle.shm_count.specs.declared.point.Aim.TheVariants.{Up, Down, Change}
-use Rattle.shm_count.specs.declared.point.Half.{Half}
-use Rattle.shm_count.specs.declared.point.Half.TheVariants.{First, Second}
-use Rattle.shm_count.specs.declared.point.StepPoint.{StepPoint}
-use Rattle.shm_count.specs.declared.point.StepPoint.TheVariants as point
-use Rattle.shm_count.specs.declared.point.StepState.{StepState}
+use Rattle.shm_count.specs.declared.point.{Aim.{Aim, TheVariants.{Up, Down, Change}}, Half.Half}
+use Rattle.shm_count.specs.declared.point.{Half.TheVariants.{First, Second}, StepPoint.StepPoint, StepState.StepState}
 use Rattle.shm_count.specs.Step.Control.{PartFits, PointFits, header_after, is_over, step_control, value_after}
 use Rattle.shm_count.specs.Step.ExchangeMade.{exchanged_at, is_second, step_exchanged}
-use Rattle.shm_count.specs.Step.{AtFirst, InHalf, PointHas, StepFits, set_memo, slot_memo}
-use Rattle.shm_count.specs.Step.Memos.{closed_part}
-use Rattle.shm_count.specs.Step.Parts.{first_sight, part_after}
-use Rattle.shm_count.specs.Step.BeforeExchange.{ready_part}
-use Rattle.shm_count.specs.StepsFrom.{FitsFrom}
+use Rattle.shm_count.specs.Step.{AtFirst, InHalf, PointHas, StepFits, set_memo, slot_memo, Memos.closed_part}
+use Rattle.shm_count.specs.{Step.{Parts.{first_sight, part_after}, BeforeExchange.ready_part}, StepsFrom.FitsFrom}
+use Rattle.shm_count.specs.declared.point.StepPoint.TheVariants as point
 
 -- ---- slots
 

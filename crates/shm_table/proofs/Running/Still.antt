@@ -1,57 +1,29 @@
 -- machines that leave the own map while they run, and the parts of larger machines that do
 use Rattle.std.proofs.Common.{◌≡◌, ℕ, ◌+◌, ◌%◌, refl, sym, ap, ◌∙◌, subst, Bool, true, false, cond, List}
 use Rattle.std.specs.Prelude.{◌==◌, nat_lt, if◌then◌else◌, Result, Ok, Err}
-use Rattle.shm_words.specs.declared.tag.Tag.{Tag as ATag}
-use Rattle.shm_words.specs.Layout.{address_limit}
-use Rattle.shm_graph.specs.declared.ask.Me.{Me}
-use Rattle.shm_graph.specs.declared.memo.Memo.{Memo}
-use Rattle.shm_graph.specs.declared.memo.Op.{Op}
-use Rattle.shm_graph.specs.declared.memo.Op.TheVariants.{Nothing}
+use Rattle.shm_words.specs.{declared.tag.Tag.Tag as ATag, Layout.address_limit}
+use Rattle.shm_graph.specs.{declared.{ask.Me.Me, memo.{Memo.Memo, Op.{Op, TheVariants.Nothing}}}, Asks.Trail}
+use Rattle.shm_graph.specs.{Chains.part_set, Events.Event, Laws.{Control, is_some}, Mapped.OnTheWay}
+use Rattle.shm_graph.specs.{Ops.{cover, cover_of}, Reach.shown, Tells.happens_along, Views.own_word}
 use Rattle.shm_graph.specs.declared.spot.Spot.TheVariants as spot
-use Rattle.shm_graph.specs.Asks.{Trail}
-use Rattle.shm_graph.specs.Chains.{part_set}
-use Rattle.shm_graph.specs.Events.{Event}
-use Rattle.shm_graph.specs.Laws.{Control, is_some}
-use Rattle.shm_graph.specs.Mapped.{OnTheWay}
-use Rattle.shm_graph.specs.Ops.{cover, cover_of}
-use Rattle.shm_graph.specs.Reach.{shown}
-use Rattle.shm_graph.specs.Tells.{happens_along}
-use Rattle.shm_graph.specs.Views.{own_word}
-use Rattle.shm_calls.specs.declared.or.Or.TheVariants as or
-use Rattle.shm_calls.specs.CallsControl.{calls_control}
-use Rattle.shm_calls.specs.CallsFit.{CallsFits}
-use Rattle.shm_calls.specs.Either.{OrFits, or_control}
-use Rattle.shm_calls.specs.Plans.{Planned}
+use Rattle.shm_calls.specs.{CallsControl.calls_control, CallsFit.CallsFits, Either.{OrFits, or_control}, Plans.Planned}
 use Rattle.shm_calls.specs.Words.{WordFits, word_control}
+use Rattle.shm_calls.specs.declared.or.Or.TheVariants as or
 use Rattle.shm_steps.specs.Reparting.{sight}
-use Rattle.shm_count.specs.declared.answer.UpFault.{UpFault}
-use Rattle.shm_count.specs.declared.point.Aim.TheVariants.{Down}
-use Rattle.shm_count.specs.declared.point.StepNext.{StepNext}
-use Rattle.shm_count.specs.declared.point.StepNext.TheVariants as next
-use Rattle.shm_count.specs.declared.point.StepPoint.{StepPoint}
-use Rattle.shm_count.specs.declared.point.StepPoint.TheVariants as step
-use Rattle.shm_count.specs.declared.tear_point.TearNext.TheVariants.{Answer, Go}
-use Rattle.shm_count.specs.declared.tear_point.TearPoint.{TearPoint}
-use Rattle.shm_count.specs.declared.tear_point.TearPoint.TheVariants as tear
-use Rattle.shm_count.specs.declared.tear_point.TearState.{TearState}
+use Rattle.shm_count.specs.declared.{answer.UpFault.UpFault, point.{Aim.TheVariants.Down, StepNext.StepNext}}
+use Rattle.shm_count.specs.declared.{point.StepPoint.StepPoint, tear_point.TearNext.TheVariants.{Answer, Go}}
+use Rattle.shm_count.specs.declared.tear_point.{TearPoint.TearPoint, TearState.TearState}
 use Rattle.shm_count.specs.Step.Control.{PointFits, answer_of as next_answer, is_over, point_of as next_point, step_next}
-use Rattle.shm_count.specs.Step.ExchangeMade.{exchanged_at}
-use Rattle.shm_count.specs.Step.Laws.{step_steady}
-use Rattle.shm_count.specs.Step.Machines.{down_control, up_control}
-use Rattle.shm_count.specs.Step.Parts.{part_after}
-use Rattle.shm_count.specs.Step.{PointHas}
-use Rattle.shm_count.specs.StepsAt.{DownFitsAt, UpFitsAt}
+use Rattle.shm_count.specs.Step.{ExchangeMade.exchanged_at, Laws.step_steady, Machines.{down_control, up_control}}
+use Rattle.shm_count.specs.{Step.{Parts.part_after, PointHas}, StepsAt.{DownFitsAt, UpFitsAt}}
 use Rattle.shm_count.specs.Tear.Control.{TearPointFits, down_next, down_state, lowered_next, point_of, relinked, tag_read, tear_control, tear_next_at, word_address, word_or_free}
-use Rattle.shm_count.specs.Tear.Events.{tear_event, tear_start}
-use Rattle.shm_count.specs.Tear.Memos.{IsFound}
-use Rattle.shm_count.specs.Tear.{TearFits, TearHolds}
-use Rattle.shm_alloc.specs.Alloc.Control.{alloc_control}
-use Rattle.shm_alloc.specs.Alloc.{AllocFits}
-use Rattle.shm_table.specs.PutRoot.Steps.{same_more}
-use Rattle.shm_table.specs.Staying.{SameMap}
-use Rattle.shm_table.specs.Staying.Laws.{same_map}
-use Rattle.shm_table.proofs.DecidingEvents.{kept_along}
-use Rattle.shm_table.proofs.Running.Steps.{lane_part, point_part, quiet_by, root_part}
+use Rattle.shm_count.specs.Tear.{Events.{tear_event, tear_start}, Memos.IsFound, TearFits, TearHolds}
+use Rattle.shm_count.specs.declared.point.StepNext.TheVariants as next
+use Rattle.shm_count.specs.declared.point.StepPoint.TheVariants as step
+use Rattle.shm_count.specs.declared.tear_point.TearPoint.TheVariants as tear
+use Rattle.shm_alloc.specs.Alloc.{Control.alloc_control, AllocFits}
+use Rattle.shm_table.specs.{PutRoot.Steps.same_more, Staying.{SameMap, Laws.same_map}}
+use Rattle.shm_table.proofs.{DecidingEvents.kept_along, Running.Steps.{lane_part, point_part, quiet_by, root_part}}
 
 -- ---- the form
 
@@ -66,7 +38,7 @@ or_running R j k fits fits' h i (or.Second m) r0 r tr going fit = i m r0 r tr go
 
 -- a machine that makes the calls of a plan, where the memo is known to be so before each call, and each call leaves it so
 pub calls_running : {P C B A : Type 0} (R : Memo → Memo → Type 0) → ((x y z : Memo) → R x y → R y z → R x z) → (k : Control C B) (q : Planned P C B A) → ((p : P) (r0 r : Memo) (tr : Trail) (es : List Event) → q.knows p r0 r tr es → R r0 r) → ((p : P) → WhileRunning R k (q.part p).fits)
-    → WhileRunning R (calls_control k q) (CallsFits k q)
+    → WhileRunning R (calls_control k q.steered) (CallsFits k q)
 calls_running R more k q known keeps m r0 r tr going fit = more r0 fit.rs r (known m.plan r0 fit.rs fit.before fit.es fit.knows) (keeps m.plan m.call fit.rs r fit.t going fit.fits)
 
 -- the map is what it was when the machine began
@@ -76,7 +48,7 @@ IsStill k fits = WhileRunning SameMap k fits
 pub or_still : {S T A B : Type 0} (j : Control S A) (k : Control T B) (fits : OnTheWay S) (fits' : OnTheWay T) → IsStill j fits → IsStill k fits' → IsStill (or_control j k) (OrFits fits fits')
 or_still j k fits fits' h i = or_running SameMap j k fits fits' h i
 
-pub calls_still : {P C B A : Type 0} (k : Control C B) (q : Planned P C B A) → ((p : P) (r0 r : Memo) (tr : Trail) (es : List Event) → q.knows p r0 r tr es → SameMap r0 r) → ((p : P) → IsStill k (q.part p).fits) → IsStill (calls_control k q) (CallsFits k q)
+pub calls_still : {P C B A : Type 0} (k : Control C B) (q : Planned P C B A) → ((p : P) (r0 r : Memo) (tr : Trail) (es : List Event) → q.knows p r0 r tr es → SameMap r0 r) → ((p : P) → IsStill k (q.part p).fits) → IsStill (calls_control k q.steered) (CallsFits k q)
 calls_still k q known keeps = calls_running SameMap same_more k q known keeps
 
 -- nothing was done yet

@@ -1,32 +1,21 @@
 -- how many word steps a command takes: by the keys that were read, and the blocks that were torn down or left on the way
 use Rattle.std.proofs.Common.{◌≡◌, ℕ, ◌+◌, ◌*◌, refl, arith, ◌⊎◌, List, [], ◌++◌, length}
-use Rattle.std.specs.List.{All, Contains}
 use Rattle.std.proofs.lemmas.List.Elements.{All-nil}
-use Rattle.shm_graph.specs.declared.ask.Me.{Me}
-use Rattle.shm_graph.specs.declared.memo.Memo.{Memo}
-use Rattle.shm_graph.specs.Asks.{Trail, IsWithin}
-use Rattle.shm_graph.specs.Bounds.{command_steps}
+use Rattle.std.specs.List.{All, Contains}
+use Rattle.shm_graph.specs.{declared.{ask.Me.Me, memo.Memo.Memo}, Asks.{Trail, IsWithin}, Bounds.command_steps}
 use Rattle.shm_graph.specs.Events.{Event}
 use Rattle.shm_count.specs.Tear.Events.{Visit, frees}
-use Rattle.shm_script.specs.declared.line.Line.{Line}
+use Rattle.shm_script.specs.declared.{line.Line.Line, log.Answer.Answer}
 use Rattle.shm_script.specs.declared.line.Line.TheVariants as line
-use Rattle.shm_script.specs.declared.log.Answer.{Answer}
 use Rattle.shm_script.specs.declared.log.Answer.TheVariants as answer
 use Rattle.shm_table.specs.declared.find.Found.TheVariants.{Absent, At}
 use Rattle.shm_table.specs.CopyKey.Bound.{IsCopyShort, copy_short, copy_within}
-use Rattle.shm_table.specs.Del.Bound.{IsShort, del_short, del_within}
-use Rattle.shm_table.specs.Find.Bound.{keys_read}
-use Rattle.shm_table.specs.Find.Control.{Passed}
-use Rattle.shm_table.specs.Get.Bound.{GetAsked, found_within, missing_within}
-use Rattle.shm_table.specs.Get.Control.{getting}
-use Rattle.shm_table.specs.Get.{GetLeaves, found_trail, number_trail}
-use Rattle.shm_table.specs.Refusals.{CommandLeaves}
-use Rattle.shm_table.specs.Put.Bound.{put_short, put_within}
-use Rattle.shm_table.specs.PutRoot.Bound.{IsPutShort}
-use Rattle.shm_table.specs.PutRoot.{HasSearch}
+use Rattle.shm_table.specs.{Del.Bound.{IsShort, del_short, del_within}, Find.{Bound.keys_read, Control.Passed}}
+use Rattle.shm_table.specs.Get.{Bound.{GetAsked, found_within, missing_within}, Control.getting}
+use Rattle.shm_table.specs.{Get.{GetLeaves, found_trail, number_trail}, Refusals.CommandLeaves}
+use Rattle.shm_table.specs.{Put.Bound.{put_short, put_within}, PutRoot.{Bound.IsPutShort, HasSearch}}
 use Rattle.shm_table.specs.RecvKey.Bound.{recv_short, recv_within}
-use Rattle.shm_table.specs.SendKey.Bound.{IsSendShort, send_key_short, send_key_within}
-use Rattle.shm_table.specs.Unlatch.{unlatch_trail}
+use Rattle.shm_table.specs.{SendKey.Bound.{IsSendShort, send_key_short, send_key_within}, Unlatch.unlatch_trail}
 
 -- the searches of the command of a line read so many keys; of one that brings a value block into the own table there may be none in that table
 abbrev pub AreRead : Me → Line → ℕ → Trail → Type 0

@@ -1,33 +1,16 @@
 -- the events that a command tells of are those of the one of its machines that runs
 use Rattle.std.proofs.Common.{◌≡◌, ℕ, refl, ap, ◌∙◌, List, [], ◌∷◌}
 use Rattle.std.specs.List.{filter}
-use Rattle.shm_graph.specs.Asks.{Trail}
-use Rattle.shm_graph.specs.Events.{Event}
-use Rattle.shm_graph.specs.Laws.{Control}
-use Rattle.shm_graph.specs.Mapped.{mapped}
+use Rattle.shm_graph.specs.{Asks.Trail, Events.Event, Laws.Control, Mapped.mapped}
 use Rattle.shm_graph.specs.Tells.{happens_along, is_event, tells_along}
-use Rattle.shm_calls.specs.declared.or.Or.TheVariants.{First, Second}
-use Rattle.shm_calls.specs.CallsControl.{calls_does}
+use Rattle.shm_calls.specs.{declared.or.Or.TheVariants.{First, Second}, CallsControl.calls_does}
 use Rattle.shm_calls.specs.Either.{or_control, or_does}
 use Rattle.shm_table.specs.Command.{CommandCall, command_control, command_does, command_parts, given}
-use Rattle.shm_table.specs.CopyKey.Control.{CopyCalls, copy_parts}
-use Rattle.shm_table.specs.CopyKey.{copy_plan}
-use Rattle.shm_table.specs.Del.Control.{DelCalls, del_parts}
-use Rattle.shm_table.specs.Del.{del_plan}
-use Rattle.shm_table.specs.Get.Control.{GetCalls, get_parts}
-use Rattle.shm_table.specs.Get.{get_plan}
-use Rattle.shm_table.specs.Machines.Change.{del}
-use Rattle.shm_table.specs.Machines.Copy.{copy_control}
-use Rattle.shm_table.specs.Machines.Put.{put}
-use Rattle.shm_table.specs.Machines.Get.{get}
-use Rattle.shm_table.specs.Machines.Recv.{recv_control}
-use Rattle.shm_table.specs.Machines.Send.{send_key}
-use Rattle.shm_table.specs.Put.Control.{PutCalls, put_parts}
-use Rattle.shm_table.specs.Put.{put_plan}
-use Rattle.shm_table.specs.RecvKey.Control.{RecvCalls, recv_parts}
-use Rattle.shm_table.specs.RecvKey.{recv_plan}
-use Rattle.shm_table.specs.SendKey.Control.{SendKeyCalls, send_key_parts}
-use Rattle.shm_table.specs.SendKey.{send_key_plan}
+use Rattle.shm_table.specs.{CopyKey.{Control.{CopyCalls, copy_parts}, copy_plan}, Del.Control.{DelCalls, del_parts}}
+use Rattle.shm_table.specs.{Del.del_plan, Get.{Control.{GetCalls, get_parts}, get_plan}, Machines.Change.del}
+use Rattle.shm_table.specs.Machines.{Copy.copy_control, Put.put, Get.get, Recv.recv_control, Send.send_key}
+use Rattle.shm_table.specs.{Put.{Control.{PutCalls, put_parts}, put_plan}, RecvKey.Control.{RecvCalls, recv_parts}}
+use Rattle.shm_table.specs.{RecvKey.recv_plan, SendKey.{Control.{SendKeyCalls, send_key_parts}, send_key_plan}}
 
 -- ---- what is told by one of two, and where answers are told in another way
 

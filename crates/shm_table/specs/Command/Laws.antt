@@ -1,42 +1,19 @@
 -- the laws of a command of a line, by those of the commands
 use Rattle.std.proofs.Common.{◌≡◌, ℕ, sym, ap, ◌∙◌, subst}
-use Rattle.std.specs.Prelude.{Option, Some, None}
-use Rattle.std.specs.Option.{option_map}
-use Rattle.shm_graph.specs.declared.ask.Me.{Me}
-use Rattle.shm_graph.specs.declared.ask.Turn.{Turn}
-use Rattle.shm_graph.specs.declared.ask.Turn.TheVariants.{Done, More, Died}
-use Rattle.shm_graph.specs.declared.memo.Memo.{Memo}
-use Rattle.shm_graph.specs.Asks.{Trail}
-use Rattle.shm_graph.specs.Laws.{Laws, turn_of}
-use Rattle.shm_graph.specs.Mapped.{mapped_laws}
-use Rattle.shm_graph.specs.Tells.{Tells}
-use Rattle.shm_calls.specs.declared.or.Or.TheVariants.{First, Second}
-use Rattle.shm_calls.specs.CallsControl.{calls_does}
-use Rattle.shm_calls.specs.CallsFit.{CallsFits, CallsGives}
-use Rattle.shm_calls.specs.CallsKeep.{calls_laws, calls_tells}
-use Rattle.shm_calls.specs.Either.{OrFits, OrGives, or_control, or_does, or_laws, or_tells}
-use Rattle.shm_calls.specs.Plans.{PlanLaws}
-use Rattle.shm_script.specs.declared.line.Line.TheVariants as line
+use Rattle.std.specs.{Prelude.{Option, Some, None}, Option.option_map}
+use Rattle.shm_graph.specs.declared.{ask.{Me.Me, Turn.{Turn, TheVariants.{Done, More, Died}}}, memo.Memo.Memo}
+use Rattle.shm_graph.specs.{Asks.Trail, Laws.{Laws, turn_of}, Mapped.mapped_laws, Tells.Tells}
+use Rattle.shm_calls.specs.{declared.or.Or.TheVariants.{First, Second}, CallsControl.calls_does}
+use Rattle.shm_calls.specs.{CallsFit.{CallsFits, CallsGives}, CallsKeep.{calls_laws, calls_tells}}
+use Rattle.shm_calls.specs.{Either.{OrFits, OrGives, or_control, or_does, or_laws, or_tells}, Plans.PlanLaws}
 use Rattle.shm_script.specs.declared.log.Answer.{Answer}
-use Rattle.shm_table.specs.Machines.Change.{DelGives, del}
+use Rattle.shm_script.specs.declared.line.Line.TheVariants as line
+use Rattle.shm_table.specs.Machines.{Change.{DelGives, del}, Copy.{CopyGives, copy_control}, Put.{PutGives, put}}
+use Rattle.shm_table.specs.Machines.{Get.{GetGives, get}, Recv.{RecvGives, recv_control}, Send.{SendKeyGives, send_key}}
 use Rattle.shm_table.specs.Command.{CommandFits, CommandGives, OneGives, command_control, command_does, command_of, command_parts, given}
-use Rattle.shm_table.specs.CopyKey.Control.{copy_parts}
-use Rattle.shm_table.specs.CopyKey.{copy_plan}
-use Rattle.shm_table.specs.Machines.Copy.{CopyGives, copy_control}
-use Rattle.shm_table.specs.Del.Control.{del_parts}
-use Rattle.shm_table.specs.Del.{del_plan}
-use Rattle.shm_table.specs.Get.Control.{get_parts}
-use Rattle.shm_table.specs.Get.{get_plan}
-use Rattle.shm_table.specs.Put.Control.{put_parts}
-use Rattle.shm_table.specs.Put.{put_plan}
-use Rattle.shm_table.specs.Machines.Put.{PutGives, put}
-use Rattle.shm_table.specs.Machines.Get.{GetGives, get}
-use Rattle.shm_table.specs.RecvKey.Control.{recv_parts}
-use Rattle.shm_table.specs.RecvKey.{recv_plan}
-use Rattle.shm_table.specs.Machines.Recv.{RecvGives, recv_control}
-use Rattle.shm_table.specs.SendKey.Control.{send_key_parts}
-use Rattle.shm_table.specs.SendKey.{send_key_plan}
-use Rattle.shm_table.specs.Machines.Send.{SendKeyGives, send_key}
+use Rattle.shm_table.specs.{CopyKey.{Control.copy_parts, copy_plan}, Del.{Control.del_parts, del_plan}}
+use Rattle.shm_table.specs.{Get.{Control.get_parts, get_plan}, Put.{Control.put_parts, put_plan}}
+use Rattle.shm_table.specs.{RecvKey.{Control.recv_parts, recv_plan}, SendKey.{Control.send_key_parts, send_key_plan}}
 
 module _ (puts : PlanLaws put_parts put_plan) (copies : PlanLaws copy_parts copy_plan) (dels : PlanLaws del_parts del_plan) (gets : PlanLaws get_parts get_plan) (sends : PlanLaws send_key_parts send_key_plan) (recvs : PlanLaws recv_parts recv_plan) where
   brings_laws : Laws (or_control put copy_control) (OrFits (CallsFits put_parts put_plan) (CallsFits copy_parts copy_plan)) (OrGives (CallsGives put_parts put_plan) (CallsGives copy_parts copy_plan))

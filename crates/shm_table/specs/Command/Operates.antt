@@ -1,40 +1,20 @@
 -- a command of a line as an operation: it begins as the one that the line tells does, and leaves what that leaves
 use Rattle.std.proofs.Common.{◌≡◌, false, true, List, [], refl, sym, subst}
-use Rattle.shm_graph.specs.declared.ask.Me.{Me}
-use Rattle.shm_graph.specs.declared.memo.Memo.{Memo}
-use Rattle.shm_graph.specs.Asks.{Trail}
-use Rattle.shm_graph.specs.Events.{Event}
-use Rattle.shm_graph.specs.Idle.{IsIdle}
-use Rattle.shm_graph.specs.Operations.{IsReady, OperationLaws}
-use Rattle.shm_graph.specs.Tells.{happens_along}
-use Rattle.shm_calls.specs.declared.or.Or.TheVariants.{First, Second}
-use Rattle.shm_calls.specs.CallsControl.{calls_does}
-use Rattle.shm_calls.specs.CallsFit.{CallsFits, CallsGives}
-use Rattle.shm_calls.specs.Plans.{PlanLaws}
+use Rattle.shm_graph.specs.{declared.{ask.Me.Me, memo.Memo.Memo}, Asks.Trail, Events.Event, Idle.IsIdle}
+use Rattle.shm_graph.specs.{Operations.{IsReady, OperationLaws}, Tells.happens_along}
+use Rattle.shm_calls.specs.{declared.or.Or.TheVariants.{First, Second}, CallsControl.calls_does}
+use Rattle.shm_calls.specs.{CallsFit.{CallsFits, CallsGives}, Plans.PlanLaws}
 use Rattle.shm_calls.specs.Tasks.{CallsLeave, CallsMay, calls_operation}
-use Rattle.shm_script.specs.declared.line.Line.{Line}
+use Rattle.shm_script.specs.declared.{line.Line.Line, log.Answer.Answer}
 use Rattle.shm_script.specs.declared.line.Line.TheVariants as line
-use Rattle.shm_script.specs.declared.log.Answer.{Answer}
 use Rattle.shm_table.specs.Command.Events.{copies_happen, dels_happen, gets_happen, puts_happen, recvs_happen, sends_happen}
 use Rattle.shm_table.specs.Command.Laws.{command_tells}
 use Rattle.shm_table.specs.Command.{CommandCall, CommandFits, CommandGives, OneAnswer, OneGives, command_control, command_does, command_of, given}
-use Rattle.shm_table.specs.CopyKey.Control.{copy_parts}
-use Rattle.shm_table.specs.CopyKey.{CopyLeaves, copy_plan}
-use Rattle.shm_table.specs.Del.Control.{del_parts}
-use Rattle.shm_table.specs.Del.{DelLeaves, del_plan}
-use Rattle.shm_table.specs.Get.Control.{get_parts}
-use Rattle.shm_table.specs.Get.{GetLeaves, get_plan}
-use Rattle.shm_table.specs.Machines.Change.{del}
-use Rattle.shm_table.specs.Machines.Copy.{copy_control}
-use Rattle.shm_table.specs.Machines.Put.{put}
-use Rattle.shm_table.specs.Machines.Get.{get}
-use Rattle.shm_table.specs.Machines.Recv.{recv_control}
-use Rattle.shm_table.specs.Machines.Send.{send_key}
-use Rattle.shm_table.specs.Put.Control.{put_parts}
-use Rattle.shm_table.specs.Put.{PutLeaves, put_plan}
-use Rattle.shm_table.specs.RecvKey.Control.{recv_parts}
-use Rattle.shm_table.specs.RecvKey.{RecvLeaves, recv_plan}
-use Rattle.shm_table.specs.SendKey.Control.{send_key_parts}
+use Rattle.shm_table.specs.{CopyKey.{Control.copy_parts, CopyLeaves, copy_plan}, Del.Control.del_parts}
+use Rattle.shm_table.specs.{Del.{DelLeaves, del_plan}, Get.{Control.get_parts, GetLeaves, get_plan}}
+use Rattle.shm_table.specs.Machines.{Change.del, Copy.copy_control, Put.put, Get.get, Recv.recv_control, Send.send_key}
+use Rattle.shm_table.specs.{Put.{Control.put_parts, PutLeaves, put_plan}, RecvKey.Control.recv_parts}
+use Rattle.shm_table.specs.{RecvKey.{RecvLeaves, recv_plan}, SendKey.Control.send_key_parts}
 use Rattle.shm_table.specs.SendKey.{SendKeyLeaves, send_key_plan}
 use Rattle.shm_table.specs.TableTasks.{CopyMay, DelMay, GetMay, LineMay, PutMay, RecvMay, SendKeyMay, copy_rests, copy_task, del_rests, del_task, get_rests, get_task, put_rests, put_task, recv_rests, recv_task, send_key_rests, send_key_task}
 

@@ -2,9 +2,8 @@
 use Rattle.std.specs.Prelude.{◌≡◌, ℕ, ◌==◌, if◌then◌else◌, slice_index_or, Option, Some, List, [], ◌∷◌, ◌++◌}
 use Rattle.shm_graph.specs.declared.memo.Memo.{Memo}
 use Rattle.shm_steps.specs.Reparting.{map_in}
-use Rattle.shm_script.specs.declared.line.Line.{Line}
+use Rattle.shm_script.specs.declared.{line.Line.Line, log.Answer.Answer}
 use Rattle.shm_script.specs.declared.line.Line.TheVariants as line
-use Rattle.shm_script.specs.declared.log.Answer.{Answer}
 use Rattle.shm_script.specs.declared.log.Answer.TheVariants as answer
 
 -- the blocks that the identity of a memo has sent to i, in their order

@@ -1,24 +1,16 @@
 -- how many word steps a copy takes: by the keys that were read in both tables, and the blocks that were torn down or left on the way
 use Rattle.std.proofs.Common.{◌≡◌, ℕ, ◌+◌, ◌*◌, refl, arith, inl, ◌⊎◌, List, [], length, Bool}
-use Rattle.std.specs.List.{All, Contains}
 use Rattle.std.proofs.lemmas.List.Elements.{All-nil}
-use Rattle.shm_graph.specs.declared.ask.Me.{Me}
-use Rattle.shm_graph.specs.declared.memo.Memo.{Memo}
-use Rattle.shm_graph.specs.Asks.{Trail, IsWithin}
-use Rattle.shm_graph.specs.Bounds.{command_steps, tear_steps}
-use Rattle.shm_graph.specs.Events.{Event}
+use Rattle.std.specs.List.{All, Contains}
+use Rattle.shm_graph.specs.{declared.{ask.Me.Me, memo.Memo.Memo}, Asks.{Trail, IsWithin}}
+use Rattle.shm_graph.specs.{Bounds.{command_steps, tear_steps}, Events.Event}
 use Rattle.shm_count.specs.Tear.Events.{Visit, frees}
 use Rattle.shm_script.specs.declared.log.Answer.{Answer}
 use Rattle.shm_script.specs.declared.log.Answer.TheVariants as answer
-use Rattle.shm_table.specs.declared.answer.PutFault.{PutFault}
-use Rattle.shm_table.specs.declared.answer.PutFault.TheVariants.{EraSpent, RootsFull, Full, CountFull}
-use Rattle.shm_table.specs.declared.find.Found.TheVariants.{Absent}
-use Rattle.shm_table.specs.CopyKey.Control.{copying}
-use Rattle.shm_table.specs.CopyKey.{CopyLeaves, NotCopied, copy_steps}
-use Rattle.shm_table.specs.Find.Control.{Passed}
-use Rattle.shm_table.specs.Get.Bound.{GetAsked, missing_within}
-use Rattle.shm_table.specs.PutRoot.{HasSearch}
-use Rattle.shm_table.specs.Unlatch.{unlatch_trail}
+use Rattle.shm_table.specs.declared.answer.PutFault.{PutFault, TheVariants.{EraSpent, RootsFull, Full, CountFull}}
+use Rattle.shm_table.specs.{declared.find.Found.TheVariants.Absent, CopyKey.Control.copying}
+use Rattle.shm_table.specs.{CopyKey.{CopyLeaves, NotCopied, copy_steps}, Find.Control.Passed}
+use Rattle.shm_table.specs.{Get.Bound.{GetAsked, missing_within}, PutRoot.HasSearch, Unlatch.unlatch_trail}
 
 -- so many keys were read in the table of a, and so many in the own table, or none; these blocks are left of a tear-down, and so many word steps were made at most
 abbrev pub IsCopyShort : Me → ℕ → ℕ → ℕ → (ℕ → ℕ → ℕ) → Memo → Trail → List Event → Type 0

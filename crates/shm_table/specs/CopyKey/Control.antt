@@ -1,31 +1,21 @@
 -- the control of a copy: which call comes next, and where it goes by what that call answered
 use Rattle.std.specs.Prelude.{ℕ, ◌%◌, ◌<◌, Bool, true, false, Option, Some, None, Result, Ok, Err}
 use Rattle.shm_words.specs.Layout.{GeometryFits, address_limit}
-use Rattle.shm_graph.specs.declared.ask.Me.{Me}
-use Rattle.shm_graph.specs.Laws.{Control}
-use Rattle.shm_calls.specs.declared.calls.Calls.{Calls}
-use Rattle.shm_calls.specs.declared.or.Or.{Or}
-use Rattle.shm_calls.specs.declared.or.Or.TheVariants.{First, Second}
-use Rattle.shm_calls.specs.CallsControl.{calls_control, calls_of}
-use Rattle.shm_calls.specs.Either.{or_control}
+use Rattle.shm_graph.specs.{declared.ask.Me.Me, Laws.Control}
+use Rattle.shm_calls.specs.declared.{calls.Calls.Calls, or.Or.{Or, TheVariants.{First, Second}}}
+use Rattle.shm_calls.specs.{CallsControl.{calls_control, calls_of}, Either.or_control, Steering.Steered}
 use Rattle.shm_count.specs.declared.answer.EraSpent.{EraSpent}
-use Rattle.shm_ref.specs.DropRoot.Control.{dropping}
-use Rattle.shm_ref.specs.DropRoot.{drop_plan}
-use Rattle.shm_ref.specs.DropRoots.Control.{RootsCall, drop_root}
-use Rattle.shm_script.specs.declared.log.Answer.{Answer}
+use Rattle.shm_ref.specs.{DropRoot.Control.{dropping, drop_steered}, DropRoots.Control.{RootsCall, drop_root}}
+use Rattle.shm_script.specs.{declared.log.Answer.Answer, Text.line_spelled}
 use Rattle.shm_script.specs.declared.log.Answer.TheVariants as answer
-use Rattle.shm_table.specs.declared.answer.PutFault.{PutFault}
-use Rattle.shm_table.specs.declared.copy.CopyPoint.{CopyPoint}
-use Rattle.shm_table.specs.declared.copy.CopyPoint.TheVariants as point
-use Rattle.shm_table.specs.declared.copy.CopyState.{CopyState}
-use Rattle.shm_table.specs.declared.fetch.FetchState.{FetchState}
-use Rattle.shm_table.specs.declared.fetch.Fetched.{Fetched}
+use Rattle.shm_script.specs.declared.line.Line.TheVariants as line
+use Rattle.shm_table.specs.declared.{answer.PutFault.PutFault, copy.{CopyPoint.CopyPoint, CopyState.CopyState}}
+use Rattle.shm_table.specs.declared.fetch.{FetchState.FetchState, Fetched.Fetched}
 use Rattle.shm_table.specs.declared.fetch.Fetched.TheVariants.{Missing, Refused, Rooted}
 use Rattle.shm_table.specs.Answers.{fault_answer, spent_fault}
-use Rattle.shm_table.specs.Fetch.Control.{FetchAnswer, FetchCall, fetch_parts, fetching}
-use Rattle.shm_table.specs.Fetch.{fetch_plan}
-use Rattle.shm_table.specs.PutRoot.Control.{PutRootCalls, decided_of, fault_of, putting_root}
-use Rattle.shm_table.specs.PutRoot.{put_root_control, put_root_plan}
+use Rattle.shm_table.specs.Fetch.Control.{FetchAnswer, FetchCall, fetch_parts, fetching, fetch_steered}
+use Rattle.shm_table.specs.PutRoot.Control.{PutRootCalls, decided_of, fault_of, putting_root, put_root_steered, put_root_control}
+use Rattle.shm_table.specs.declared.copy.CopyPoint.TheVariants as point
 
 -- ---- its calls
 
@@ -34,7 +24,7 @@ abbrev pub FetchCalls : Type 0
 FetchCalls = Calls FetchState FetchCall Fetched FetchAnswer
 
 abbrev pub fetch_control : Control FetchCalls Fetched
-fetch_control = calls_control fetch_parts fetch_plan
+fetch_control = calls_control fetch_parts fetch_steered
 
 abbrev pub CopyCall : Type 0
 CopyCall = Or FetchCalls (Or PutRootCalls RootsCall)
@@ -51,9 +41,9 @@ abbrev pub copying : Me → ℕ → ℕ → ℕ → CopyState
 copying me key a other = record { me = me; key = key; author = a; other = other; root = 0; block = 0; number = 0; decided = false; refused = None; point = point.Fetch }
 
 abbrev pub copy_call_at : CopyState → CopyPoint → CopyCall
-copy_call_at m point.Fetch = First (calls_of fetch_plan (fetching m.me m.author m.other))
-copy_call_at m point.Put = Second (First (calls_of put_root_plan (putting_root m.me m.key m.block)))
-copy_call_at m point.Drop = Second (Second (calls_of drop_plan (dropping m.me m.root)))
+copy_call_at m point.Fetch = First (calls_of fetch_steered (fetching m.me m.author m.other))
+copy_call_at m point.Put = Second (First (calls_of put_root_steered (putting_root m.me m.key m.block)))
+copy_call_at m point.Drop = Second (Second (calls_of drop_steered (dropping m.me m.root)))
 
 -- ---- where it goes
 
@@ -103,3 +93,16 @@ pub record CopyInRange (m : CopyState) : Type 0 where
 -- the control of its calls
 abbrev pub copy_parts : Control CopyCall CopyAnswer
 copy_parts = or_control fetch_control (or_control put_root_control drop_root)
+
+-- what the plan does: its identity and its line, its calls, and where it goes by their answers
+abbrev pub copy_steered : Steered CopyState CopyCall CopyAnswer Answer
+copy_steered =
+    record {
+      me = λ m. m.me;
+      line = λ m. line_spelled (line.Copy m.key m.author m.other);
+      first = λ m. is_fetch m.point;
+      start = λ m. copying m.me m.key m.author m.other;
+      call = λ m. copy_call_at m m.point;
+      after = copy_after;
+      turns = copy_turns;
+    }

@@ -1,54 +1,35 @@
 -- what is owed of a copy
 use Rattle.std.proofs.Common.{◌≡◌, ◌≢◌, ℕ, length-append, ◌+◌, ◌*◌, ◌%◌, ◌≤◌, refl, sym, ap, ◌∙◌, subst, arith, Bool, List, [], ◌++◌, Option, Some, None, inl, inr, ◌⊎◌}
-use Rattle.std.specs.Prelude.{Result, Ok, Err, length}
-use Rattle.std.specs.List.{All, Contains}
 use Rattle.std.proofs.lemmas.List.Elements.{All-nil}
+use Rattle.std.specs.{Prelude.{Result, Ok, Err, length}, List.{All, Contains}}
 use Rattle.shm_words.specs.Layout.{address_limit}
-use Rattle.shm_graph.specs.declared.ask.Me.{Me}
-use Rattle.shm_graph.specs.declared.memo.Memo.{Memo}
-use Rattle.shm_graph.specs.declared.spot.Spot.TheVariants.{Home}
+use Rattle.shm_graph.specs.{declared.{ask.Me.Me, memo.Memo.Memo, spot.Spot.TheVariants.Home}, Agents.recovers}
+use Rattle.shm_graph.specs.{Asks.Trail, Bounds.{tear_steps, redo_steps}, Events.Event, Views.own_word}
 use Rattle.shm_graph.specs.declared.spot.Spot.TheVariants as spot
-use Rattle.shm_graph.specs.Agents.{recovers}
-use Rattle.shm_graph.specs.Asks.{Trail}
-use Rattle.shm_graph.specs.Bounds.{tear_steps, redo_steps}
-use Rattle.shm_graph.specs.Events.{Event}
 use Rattle.shm_graph.specs.Events as event
-use Rattle.shm_graph.specs.Views.{own_word}
-use Rattle.shm_calls.specs.declared.or.Or.TheVariants.{First, Second}
-use Rattle.shm_calls.specs.CallTells.{within_more}
-use Rattle.shm_calls.specs.CallsPart.{calls_part, calls_part_laws}
-use Rattle.shm_calls.specs.Either.{or_control, or_part, or_part_laws}
-use Rattle.shm_calls.specs.Parts.{IsHeld, PartLaws}
-use Rattle.shm_calls.specs.Plans.{PlanLaws, PlanStays, IsCall, Follows}
-use Rattle.shm_count.specs.declared.answer.EraSpent.{EraSpent}
-use Rattle.shm_count.specs.Roots.{root_word}
-use Rattle.shm_count.specs.Tear.Events.{Visit, frees}
-use Rattle.shm_ref.specs.DropRoot.Control.{drop_parts, dropping}
-use Rattle.shm_ref.specs.DropRoot.{DropLeaves, drop_plan}
-use Rattle.shm_ref.specs.DropRoot.Laws.{drop_laws}
+use Rattle.shm_calls.specs.{declared.or.Or.TheVariants.{First, Second}, CallTells.within_more}
+use Rattle.shm_calls.specs.{CallsPart.{calls_part, calls_part_laws}, Either.{or_control, or_part, or_part_laws}}
+use Rattle.shm_calls.specs.{Parts.{IsHeld, PartLaws}, Plans.{PlanLaws, PlanStays, IsCall, Follows}}
+use Rattle.shm_count.specs.{declared.answer.EraSpent.EraSpent, Roots.root_word, Tear.Events.{Visit, frees}}
+use Rattle.shm_ref.specs.DropRoot.{Control.{drop_parts, dropping}, DropLeaves, drop_plan, Laws.drop_laws}
 use Rattle.shm_ref.specs.DropRoots.Control.{drop_root}
-use Rattle.shm_table.specs.declared.answer.PutFault.{PutFault}
-use Rattle.shm_table.specs.declared.answer.PutFault.TheVariants as fault
-use Rattle.shm_table.specs.declared.copy.CopyPoint.{CopyPoint}
-use Rattle.shm_table.specs.declared.copy.CopyPoint.TheVariants.{Fetch, Put, Drop}
-use Rattle.shm_table.specs.declared.copy.CopyState.{CopyState}
-use Rattle.shm_table.specs.declared.fetch.Fetched.{Fetched}
-use Rattle.shm_table.specs.declared.fetch.Fetched.TheVariants as fetched
-use Rattle.shm_table.specs.Answers.{fault_answer}
+use Rattle.shm_table.specs.declared.{answer.PutFault.PutFault, copy.CopyPoint.CopyPoint}
+use Rattle.shm_table.specs.declared.copy.{CopyPoint.TheVariants.{Fetch, Put, Drop}, CopyState.CopyState}
+use Rattle.shm_table.specs.{declared.fetch.Fetched.Fetched, Answers.fault_answer}
 use Rattle.shm_table.specs.CopyKey.Control.{CopyAnswer, copy_call_at, copy_parts, copying, fetch_control, is_fetch}
 use Rattle.shm_table.specs.CopyKey.{CopyKnows, CopyLeaves, IsCopied, IsSource, MayCopy, NotCopied, copy_part, copy_plan}
 use Rattle.shm_table.specs.Fetch.Control.{fetch_parts, fetching}
-use Rattle.shm_table.specs.Fetch.{FetchLeaves, IsRooted, MayFetch, fetch_plan, fetch_steps}
-use Rattle.shm_table.specs.Fetch.Laws.{fetch_begin}
+use Rattle.shm_table.specs.Fetch.{FetchLeaves, IsRooted, MayFetch, fetch_plan, fetch_steps, Laws.fetch_begin}
 use Rattle.shm_table.specs.Commands.{RestSo, cause_fetch, cause_put, cause_then, left_too}
-use Rattle.shm_table.specs.PutRoot.Control.{put_root_parts, putting_root}
-use Rattle.shm_table.specs.PutRoot.{IsDecided, IsEraSpent, PutRootLeaves, put_root_control, put_root_plan, put_root_steps}
+use Rattle.shm_table.specs.PutRoot.Control.{put_root_parts, putting_root, put_root_control}
+use Rattle.shm_table.specs.PutRoot.{IsDecided, IsEraSpent, PutRootLeaves, put_root_plan, put_root_steps}
 use Rattle.shm_table.specs.PutRoot.Steps.{decided_after, decided_more, frees_append, same_more, same_part, search_before, search_more, set_after, set_then}
 use Rattle.shm_table.specs.Staying.{Cleared, Ended, SameMap}
 use Rattle.shm_table.specs.Staying.Laws.{cleared_drop, dropped_else, keeps_drop, keeps_more, left_by, spent_drop, spent_later}
-use Rattle.shm_table.specs.Undoing.{dropped_undone, none_undone, put_undone, stopped_undone}
-use Rattle.shm_table.specs.ValuesListed.{idle_here}
+use Rattle.shm_table.specs.{Undoing.{dropped_undone, none_undone, put_undone, stopped_undone}, ValuesListed.idle_here}
 use Rattle.shm_table.specs.Costs.{tear_sum, tear_same}
+use Rattle.shm_table.specs.declared.answer.PutFault.TheVariants as fault
+use Rattle.shm_table.specs.declared.fetch.Fetched.TheVariants as fetched
 
 -- ---- the plan
 

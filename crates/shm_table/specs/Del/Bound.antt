@@ -1,21 +1,14 @@
 -- how many word steps the removal of a key takes: by the keys that were read, and the blocks that were torn down or left on the way
-use Rattle.std.proofs.Common.{ℕ, ◌+◌, ◌*◌, arith, List, [], length}
+use Rattle.std.proofs.{Common.{ℕ, ◌+◌, ◌*◌, arith, List, [], length}, lemmas.List.Elements.All-nil}
 use Rattle.std.specs.List.{All, Contains}
-use Rattle.std.proofs.lemmas.List.Elements.{All-nil}
-use Rattle.shm_graph.specs.declared.ask.Me.{Me}
-use Rattle.shm_graph.specs.declared.memo.Memo.{Memo}
-use Rattle.shm_graph.specs.Asks.{Trail, IsWithin}
-use Rattle.shm_graph.specs.Bounds.{command_steps, tear_steps, redo_steps}
-use Rattle.shm_graph.specs.Events.{Event}
-use Rattle.shm_count.specs.Tear.Events.{Visit, frees}
+use Rattle.shm_graph.specs.{declared.{ask.Me.Me, memo.Memo.Memo}, Asks.{Trail, IsWithin}}
+use Rattle.shm_graph.specs.{Bounds.{command_steps, tear_steps, redo_steps}, Events.Event}
+use Rattle.shm_count.specs.{Tear.Events.{Visit, frees}, declared.answer.UpFault.UpFault}
+use Rattle.shm_count.specs.declared.answer.UpFault.TheVariants.{CountFull, EraSpent}
 use Rattle.shm_script.specs.declared.log.Answer.{Answer}
 use Rattle.shm_script.specs.declared.log.Answer.TheVariants as answer
-use Rattle.shm_count.specs.declared.answer.UpFault.{UpFault}
-use Rattle.shm_count.specs.declared.answer.UpFault.TheVariants.{CountFull, EraSpent}
-use Rattle.shm_table.specs.declared.find.Found.{Found}
-use Rattle.shm_table.specs.declared.find.Found.TheVariants.{Absent, At}
-use Rattle.shm_table.specs.Del.{DelSays, IsSearched, NotDeleted}
-use Rattle.shm_table.specs.Find.Bound.{keys_read}
+use Rattle.shm_table.specs.declared.find.Found.{Found, TheVariants.{Absent, At}}
+use Rattle.shm_table.specs.{Del.{DelSays, IsSearched, NotDeleted}, Find.Bound.keys_read}
 
 -- so many keys were read by the search, these blocks are left of a tear-down, and so many word steps were made at most
 abbrev pub IsShort : Me → ℕ → (ℕ → ℕ → ℕ) → Memo → Trail → List Event → Type 0

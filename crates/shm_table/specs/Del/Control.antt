@@ -1,27 +1,18 @@
 -- the control of removing a key of the own table: which call comes next, and where it goes by what that call answered
 use Rattle.std.specs.Prelude.{ℕ, ◌%◌, ◌<◌, Bool, true, false, Option, Some, None, Result, Ok, Err}
 use Rattle.shm_words.specs.Layout.{GeometryFits, address_limit}
-use Rattle.shm_graph.specs.declared.ask.Me.{Me}
-use Rattle.shm_graph.specs.Laws.{Control}
-use Rattle.shm_calls.specs.declared.calls.Calls.{Calls}
-use Rattle.shm_calls.specs.declared.or.Or.{Or}
-use Rattle.shm_calls.specs.declared.or.Or.TheVariants.{First, Second}
-use Rattle.shm_calls.specs.CallsControl.{calls_of}
-use Rattle.shm_calls.specs.Either.{or_control}
+use Rattle.shm_graph.specs.{declared.ask.Me.Me, Laws.Control}
+use Rattle.shm_calls.specs.declared.{calls.Calls.Calls, or.Or.{Or, TheVariants.{First, Second}}}
+use Rattle.shm_calls.specs.{CallsControl.calls_of, Either.or_control, Steering.Steered}
 use Rattle.shm_count.specs.declared.answer.UpFault.{UpFault}
-use Rattle.shm_script.specs.declared.log.Answer.{Answer}
+use Rattle.shm_script.specs.{declared.log.Answer.Answer, Text.line_spelled}
 use Rattle.shm_script.specs.declared.log.Answer.TheVariants as answer
-use Rattle.shm_table.specs.declared.del.DelPoint.{DelPoint}
-use Rattle.shm_table.specs.declared.del.DelPoint.TheVariants.{Search, Cut, Back}
-use Rattle.shm_table.specs.declared.del.DelState.{DelState}
-use Rattle.shm_table.specs.declared.find.Found.{Found}
-use Rattle.shm_table.specs.declared.find.Found.TheVariants.{Absent, At}
-use Rattle.shm_table.specs.Answers.{fault_answer, raised_fault}
-use Rattle.shm_table.specs.Locate.Control.{locating}
-use Rattle.shm_table.specs.Locate.{LocateCalls, locate_control, locate_plan}
-use Rattle.shm_table.specs.Unlatch.{UnlatchCalls, unlatch_control, unlatch_plan, unlatching}
-use Rattle.shm_table.specs.Unlink.Control.{unlinking}
-use Rattle.shm_table.specs.Unlink.{UnlinkCalls, unlink_control, unlink_plan}
+use Rattle.shm_script.specs.declared.line.Line.TheVariants as line
+use Rattle.shm_table.specs.declared.del.{DelPoint.{DelPoint, TheVariants.{Search, Cut, Back}}, DelState.DelState}
+use Rattle.shm_table.specs.{declared.find.Found.{Found, TheVariants.{Absent, At}}, Answers.{fault_answer, raised_fault}}
+use Rattle.shm_table.specs.Locate.Control.{locating, locate_steered, LocateCalls, locate_control}
+use Rattle.shm_table.specs.Unlatch.{UnlatchCalls, unlatch_control, unlatching, unlatch_steered}
+use Rattle.shm_table.specs.Unlink.Control.{unlinking, unlink_steered, UnlinkCalls, unlink_control}
 
 -- its calls, and what they answer
 abbrev pub DelCall : Type 0
@@ -39,9 +30,9 @@ abbrev pub deleting : Me → ℕ → DelState
 deleting me key = record { me = me; key = key; entry = 0; before = 0; word = 0; answer = answer.Missing; point = Search }
 
 abbrev pub del_call_at : DelState → DelPoint → DelCall
-del_call_at m Search = First (calls_of locate_plan (locating m.me m.me.who m.key))
-del_call_at m Cut = Second (First (calls_of unlink_plan (unlinking m.me m.entry m.before m.word)))
-del_call_at m Back = Second (Second (calls_of unlatch_plan (unlatching m.me m.me.who)))
+del_call_at m Search = First (calls_of locate_steered (locating m.me m.me.who m.key))
+del_call_at m Cut = Second (First (calls_of unlink_steered (unlinking m.me m.entry m.before m.word)))
+del_call_at m Back = Second (Second (calls_of unlatch_steered (unlatching m.me m.me.who)))
 
 -- ---- where it goes
 
@@ -79,3 +70,16 @@ pub record DelInRange (m : DelState) : Type 0 where
 -- the control of its calls
 abbrev pub del_parts : Control DelCall DelCallAnswer
 del_parts = or_control locate_control (or_control unlink_control unlatch_control)
+
+-- what the plan does: its identity and its line, its calls, and where it goes by their answers
+abbrev pub del_steered : Steered DelState DelCall DelCallAnswer Answer
+del_steered =
+    record {
+      me = λ m. m.me;
+      line = λ m. line_spelled (line.Del m.key);
+      first = λ m. is_search m.point;
+      start = λ m. deleting m.me m.key;
+      call = λ m. del_call_at m m.point;
+      after = del_after;
+      turns = del_turns;
+    }

@@ -1,60 +1,33 @@
 -- what is owed of removing a key of the own table
 use Rattle.std.proofs.Common.{◌≡◌, ℕ, ◌+◌, ◌*◌, ◌%◌, ◌<◌, ◌≤◌, refl, sym, ap, ◌∙◌, subst, arith, append_assoc, append-nil, length, List, [], ◌∷◌, ◌++◌, inl, inr}
-use Rattle.std.specs.Prelude.{◌==◌, if◌then◌else◌, None, Some, Ok, Err}
-use Rattle.std.specs.List.{All, Contains}
+use Rattle.std.specs.{Prelude.{◌==◌, if◌then◌else◌, None, Some, Ok, Err}, List.{All, Contains}}
 use Rattle.shm_words.specs.Layout.{total_of, address_limit}
 use Rattle.shm_words.proofs.Placing.{total_small}
-use Rattle.shm_graph.specs.declared.ask.Me.{Me}
-use Rattle.shm_graph.specs.declared.memo.Memo.{Memo}
-use Rattle.shm_graph.specs.declared.spot.Spot.TheVariants.{Body, Era, Home}
-use Rattle.shm_graph.specs.declared.table.Part.{Part as TablePart}
-use Rattle.shm_graph.specs.Agents.{recovers}
-use Rattle.shm_graph.specs.Asks.{Trail, IsWithin}
-use Rattle.shm_graph.specs.Bounds.{change_steps, tear_steps, redo_steps}
-use Rattle.shm_graph.specs.Events.{Event}
-use Rattle.shm_graph.specs.Views.{own_word}
-use Rattle.shm_calls.specs.declared.or.Or.TheVariants.{First, Second}
-use Rattle.shm_calls.specs.CallTells.{within_more}
-use Rattle.shm_calls.specs.CallsPart.{calls_part, calls_part_laws}
-use Rattle.shm_calls.specs.Either.{or_control, or_part, or_part_laws}
-use Rattle.shm_calls.specs.Parts.{IsHeld}
-use Rattle.shm_calls.specs.Plans.{PlanLaws, PlanStays, IsCall, Follows}
-use Rattle.shm_calls.specs.Words.{word_control}
-use Rattle.shm_steps.specs.Beginning.{IsOwnWord}
-use Rattle.shm_steps.specs.Reparting.{sight, map_in}
-use Rattle.shm_steps.proofs.Partitions.Seeking.{seek_own}
-use Rattle.shm_steps.proofs.Partitions.Walked.{walk_has}
-use Rattle.shm_steps.proofs.Words.Blocks.{told_inside}
-use Rattle.shm_count.specs.declared.answer.UpFault.{UpFault}
-use Rattle.shm_count.specs.declared.answer.UpFault.TheVariants.{CountFull, EraSpent}
-use Rattle.shm_count.specs.declared.point.Aim.{Aim}
-use Rattle.shm_count.specs.Slots.{StepCause}
-use Rattle.shm_count.specs.Tear.Events.{Visit, frees}
+use Rattle.shm_graph.specs.declared.{ask.Me.Me, memo.Memo.Memo, spot.Spot.TheVariants.{Body, Era, Home}}
+use Rattle.shm_graph.specs.{declared.table.Part.Part as TablePart, Agents.recovers, Asks.{Trail, IsWithin}}
+use Rattle.shm_graph.specs.{Bounds.{change_steps, tear_steps, redo_steps}, Events.Event, Views.own_word}
+use Rattle.shm_calls.specs.{declared.or.Or.TheVariants.{First, Second}, CallTells.within_more}
+use Rattle.shm_calls.specs.{CallsPart.{calls_part, calls_part_laws}, Either.{or_control, or_part, or_part_laws}}
+use Rattle.shm_calls.specs.{Parts.IsHeld, Plans.{PlanLaws, PlanStays, IsCall, Follows}, Words.word_control}
+use Rattle.shm_steps.specs.{Beginning.IsOwnWord, Reparting.{sight, map_in}}
+use Rattle.shm_steps.proofs.{Partitions.{Seeking.seek_own, Walked.walk_has}, Words.Blocks.told_inside}
+use Rattle.shm_count.specs.declared.{answer.UpFault.{UpFault, TheVariants.{CountFull, EraSpent}}, point.Aim.Aim}
+use Rattle.shm_count.specs.{Slots.StepCause, Tear.Events.{Visit, frees}}
 use Rattle.shm_script.specs.declared.log.Answer.{Answer}
 use Rattle.shm_script.specs.declared.log.Answer.TheVariants as answer
-use Rattle.shm_table.specs.declared.del.DelPoint.{DelPoint}
-use Rattle.shm_table.specs.declared.del.DelPoint.TheVariants.{Search, Cut, Back}
-use Rattle.shm_table.specs.declared.del.DelState.{DelState}
-use Rattle.shm_table.specs.declared.find.Found.{Found}
-use Rattle.shm_table.specs.declared.find.Found.TheVariants.{Absent, At}
+use Rattle.shm_table.specs.declared.del.{DelPoint.{DelPoint, TheVariants.{Search, Cut, Back}}, DelState.DelState}
+use Rattle.shm_table.specs.declared.find.Found.{Found, TheVariants.{Absent, At}}
 use Rattle.shm_table.specs.Del.Control.{DelCallAnswer, del_call_at, del_parts, deleting, is_search}
 use Rattle.shm_table.specs.Del.{DelKnows, DelSays, IsLocated, IsSearched, IsSettled, MayDel, NotDeleted, del_part, del_plan}
-use Rattle.shm_table.specs.Answers.{fault_answer, raised_fault}
-use Rattle.shm_table.specs.Find.Bound.{IsWhole, find_within, keys_read}
-use Rattle.shm_table.specs.Find.Control.{Passed}
-use Rattle.shm_table.specs.Find.{OnlyReads}
-use Rattle.shm_table.specs.Locate.Control.{locate_parts}
-use Rattle.shm_table.specs.Locate.{Located, locate_control, locate_plan}
-use Rattle.shm_table.specs.Locate.Laws.{find_only, locate_begin, locate_laws}
+use Rattle.shm_table.specs.{Answers.{fault_answer, raised_fault}, Find.Bound.{IsWhole, find_within, keys_read}}
+use Rattle.shm_table.specs.{Find.{Control.Passed, OnlyReads}, Locate.Control.{locate_parts, locate_control}}
+use Rattle.shm_table.specs.Locate.{Located, locate_plan, Laws.{find_only, locate_begin, locate_laws}}
 use Rattle.shm_table.specs.Staying.{Cleared, Ended, Keeps}
 use Rattle.shm_table.specs.Staying.Laws.{cleared_more, keeps_latched, keeps_more, keeps_read, keeps_unlatched, latched_else, rests_read, same_map, spent_later, unlatched_else}
-use Rattle.shm_table.specs.Unlatch.{Unlatched, unlatch_control, unlatch_plan}
-use Rattle.shm_table.specs.Unlatch.Laws.{unlatch_begin, unlatch_laws}
-use Rattle.shm_table.specs.Unlink.Control.{unlink_parts}
-use Rattle.shm_table.specs.Unlink.{MayUnlink, NotUnlinked, Unlinked, UnlinkCause, UnlinkEvents, link_aim, unlink_control, unlink_plan}
-use Rattle.shm_table.specs.Unlink.Laws.{unlink_laws}
-use Rattle.shm_table.specs.ValuesListed.{idle_here}
-use Rattle.shm_table.specs.Costs.{tear_same}
+use Rattle.shm_table.specs.Unlatch.{Unlatched, unlatch_control, unlatch_plan, Laws.{unlatch_begin, unlatch_laws}}
+use Rattle.shm_table.specs.Unlink.Control.{unlink_parts, unlink_control}
+use Rattle.shm_table.specs.Unlink.{MayUnlink, NotUnlinked, Unlinked, UnlinkCause, UnlinkEvents, link_aim, unlink_plan}
+use Rattle.shm_table.specs.{Unlink.Laws.unlink_laws, ValuesListed.idle_here, Costs.tear_same}
 
 -- ---- the search
 

@@ -1,31 +1,17 @@
 -- the control of a new entry: which call comes next, and where it goes by what that call answered
 use Rattle.std.specs.Prelude.{ℕ, ◌+◌, ◌-◌, ◌%◌, ◌^◌, ◌<◌, Bool, true, false, ◌==◌, nat_lt, if◌then◌else◌, Option, Some, None, Result, Ok, Err, [], ◌∷◌}
 use Rattle.shm_words.specs.Layout.{GeometryFits, address_limit}
-use Rattle.shm_graph.specs.declared.ask.Me.{Me}
-use Rattle.shm_graph.specs.declared.spot.Spot.{Spot}
-use Rattle.shm_graph.specs.declared.spot.Spot.TheVariants.{Body}
-use Rattle.shm_graph.specs.Laws.{Control}
-use Rattle.shm_calls.specs.declared.or.Or.{Or}
-use Rattle.shm_calls.specs.declared.or.Or.TheVariants.{First, Second}
-use Rattle.shm_calls.specs.Either.{or_control}
-use Rattle.shm_count.specs.declared.answer.Made.{Made as AMade}
-use Rattle.shm_count.specs.declared.answer.UpFault.{UpFault}
+use Rattle.shm_graph.specs.{declared.{ask.Me.Me, spot.Spot.{Spot, TheVariants.Body}}, Laws.Control}
+use Rattle.shm_calls.specs.{declared.or.Or.{Or, TheVariants.{First, Second}}, Either.or_control, Steering.Steered}
+use Rattle.shm_count.specs.declared.{answer.{Made.Made as AMade, UpFault.UpFault}, point.StepPoint.TheVariants.Era}
+use Rattle.shm_count.specs.{declared.point.StepState.StepState, Step.{Control.step_control, Machines.up_control}}
 use Rattle.shm_count.specs.declared.point.Aim.TheVariants as aims
-use Rattle.shm_count.specs.declared.point.StepPoint.TheVariants.{Era}
-use Rattle.shm_count.specs.declared.point.StepState.{StepState}
-use Rattle.shm_count.specs.Step.Control.{step_control}
-use Rattle.shm_count.specs.Step.Machines.{up_control}
-use Rattle.shm_alloc.specs.declared.alloc.AllocFault.{AllocFault}
-use Rattle.shm_alloc.specs.declared.point.AllocPoint.TheVariants as alloc
-use Rattle.shm_alloc.specs.declared.point.AllocState.{AllocState}
-use Rattle.shm_alloc.specs.declared.request.Request.{Request}
+use Rattle.shm_alloc.specs.declared.{alloc.AllocFault.AllocFault, point.AllocState.AllocState, request.Request.Request}
 use Rattle.shm_alloc.specs.Alloc.Control.{alloc_control}
-use Rattle.shm_table.specs.declared.enter.Entered.{Entered}
-use Rattle.shm_table.specs.declared.enter.Entered.TheVariants.{Linked, Unlinked, Unmade}
-use Rattle.shm_table.specs.declared.enter.EnterPoint.{EnterPoint}
-use Rattle.shm_table.specs.declared.enter.EnterPoint.TheVariants.{Make, Value, Next, Link, Change}
-use Rattle.shm_table.specs.declared.enter.EnterState.{EnterState}
-use Rattle.shm_table.specs.Answers.{made_fault, raised_fault}
+use Rattle.shm_alloc.specs.declared.point.AllocPoint.TheVariants as alloc
+use Rattle.shm_table.specs.declared.enter.Entered.{Entered, TheVariants.{Linked, Unlinked, Unmade}}
+use Rattle.shm_table.specs.declared.enter.EnterPoint.{EnterPoint, TheVariants.{Make, Value, Next, Link, Change}}
+use Rattle.shm_table.specs.{declared.enter.EnterState.EnterState, Answers.{made_fault, raised_fault}}
 
 -- its calls, and what they answer
 abbrev pub EnterCall : Type 0
@@ -42,7 +28,7 @@ entering me key v home first = record { me = me; key = key; value = v; home = ho
 
 -- a block with the words of an entry, of which the key is the plain one
 abbrev pub entry_request : ℕ → Request
-entry_request key = record { refs = 2; count = 1; plain = key ∷ 0 ∷ 0 ∷ 0 ∷ 0 ∷ 0 ∷ 0 ∷ 0 ∷ [] }
+entry_request key = record { refs = 2; count = 1; plain = key ∷ 0 ∷ 0 ∷ 0 ∷ 0 ∷ 0 ∷ 0 ∷ 0 ∷ []; near = record { segment = 0; page = 0; index = 0 } }
 
 -- the word that a count step changes at a point
 abbrev pub enter_block : EnterState → EnterPoint → ℕ
@@ -126,3 +112,16 @@ pub record EnterInRange (m : EnterState) : Type 0 where
 -- the control of its calls
 abbrev pub enter_parts : Control EnterCall EnterAnswer
 enter_parts = or_control alloc_control (or_control up_control step_control)
+
+-- what the plan does: its identity and its line, its calls, and where it goes by their answers
+abbrev pub enter_steered : Steered EnterState EnterCall EnterAnswer Entered
+enter_steered =
+    record {
+      me = λ m. m.me;
+      line = λ m. [];
+      first = λ m. is_make m.point;
+      start = λ m. record m { root = 0; entry = 0; point = Make };
+      call = λ m. enter_call_at m m.point;
+      after = enter_after;
+      turns = enter_turns;
+    }

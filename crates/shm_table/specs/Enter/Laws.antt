@@ -1,42 +1,28 @@
 -- what is owed of a new entry: each call leads on to the next one, or to what is left
 use Rattle.std.proofs.Common.{◌≡◌, ◌≢◌, ℕ, zero, suc, ◌+◌, ◌-◌, ◌*◌, ◌%◌, ◌^◌, ◌≤◌, refl, sym, ap, ◌∙◌, subst, arith, Bool, true, false, List, [], ◌∷◌, ◌++◌, append-nil, eqb, inl, inr, slice_index, ◌<◌}
-use Rattle.std.specs.Prelude.{Result, Ok, Err}
 use Rattle.std.proofs.lemmas.Bool.{cases_eq, cond-true, eq-eqb, lt-ltb, ne_eqb}
+use Rattle.std.specs.Prelude.{Result, Ok, Err}
 use Rattle.shm_words.proofs.Placing.{total_small}
 use Rattle.shm_words.specs.Layout.{address_limit}
-use Rattle.shm_graph.specs.declared.memo.Memo.{Memo}
-use Rattle.shm_graph.specs.declared.spot.Spot.{Spot}
+use Rattle.shm_graph.specs.{declared.{memo.Memo.Memo, spot.Spot.Spot}, Agents.recovers, Asks.{Trail, IsWithin}}
+use Rattle.shm_graph.specs.{Bounds.{alloc_steps, change_steps, up_steps}, Events.Event}
 use Rattle.shm_graph.specs.declared.spot.Spot.TheVariants as spot
-use Rattle.shm_graph.specs.Agents.{recovers}
-use Rattle.shm_graph.specs.Asks.{Trail, IsWithin}
-use Rattle.shm_graph.specs.Bounds.{alloc_steps, change_steps, up_steps}
-use Rattle.shm_graph.specs.Events.{Event}
 use Rattle.shm_graph.specs.Events as event
-use Rattle.shm_calls.specs.declared.or.Or.TheVariants.{First, Second}
-use Rattle.shm_calls.specs.CallTells.{within_more}
-use Rattle.shm_calls.specs.Either.{or_control, or_part, or_part_laws}
-use Rattle.shm_calls.specs.Parts.{IsHeld}
+use Rattle.shm_calls.specs.{declared.or.Or.TheVariants.{First, Second}, CallTells.within_more}
+use Rattle.shm_calls.specs.{Either.{or_control, or_part, or_part_laws}, Parts.IsHeld}
 use Rattle.shm_calls.specs.Plans.{PlanLaws, PlanStays, IsCall, Follows}
-use Rattle.shm_count.specs.declared.answer.Made.{Made}
-use Rattle.shm_count.specs.declared.answer.UpFault.{UpFault}
-use Rattle.shm_count.specs.declared.point.Aim.{Aim}
-use Rattle.shm_count.specs.declared.point.Aim.TheVariants as aims
-use Rattle.shm_count.specs.Slots.{StepLeft}
+use Rattle.shm_count.specs.{declared.{answer.{Made.Made, UpFault.UpFault}, point.Aim.Aim}, Slots.StepLeft}
 use Rattle.shm_count.specs.Slots.Parts.{change_slot_laws, change_slot_part, up_slot_laws, up_slot_part}
-use Rattle.shm_count.specs.Step.Control.{step_control}
-use Rattle.shm_count.specs.Step.Machines.{up_control, up_told}
-use Rattle.shm_alloc.specs.declared.alloc.AllocFault.{AllocFault}
-use Rattle.shm_alloc.specs.declared.point.AllocPoint.TheVariants as alloc
-use Rattle.shm_alloc.specs.declared.request.Request.{Request}
+use Rattle.shm_count.specs.Step.{Control.step_control, Machines.{up_control, up_told}}
+use Rattle.shm_count.specs.declared.point.Aim.TheVariants as aims
+use Rattle.shm_alloc.specs.declared.{alloc.AllocFault.AllocFault, request.Request.Request}
 use Rattle.shm_alloc.specs.Alloc.Control.{RequestFits, alloc_control}
 use Rattle.shm_alloc.specs.Alloc.AsPart.{AllocLeaves, alloc_part, alloc_part_laws}
+use Rattle.shm_alloc.specs.declared.point.AllocPoint.TheVariants as alloc
 use Rattle.shm_alloc.proofs.AllocBound.{alloc_bound}
-use Rattle.shm_table.specs.declared.enter.Entered.{Entered}
-use Rattle.shm_table.specs.declared.enter.Entered.TheVariants.{Linked, Unlinked, Unmade}
-use Rattle.shm_table.specs.declared.enter.EnterPoint.{EnterPoint}
-use Rattle.shm_table.specs.declared.enter.EnterPoint.TheVariants.{Make, Value, Next, Link, Change}
-use Rattle.shm_table.specs.declared.enter.EnterState.{EnterState}
-use Rattle.shm_table.specs.Answers.{made_fault, raised_fault}
+use Rattle.shm_table.specs.declared.enter.Entered.{Entered, TheVariants.{Linked, Unlinked, Unmade}}
+use Rattle.shm_table.specs.declared.enter.EnterPoint.{EnterPoint, TheVariants.{Make, Value, Next, Link, Change}}
+use Rattle.shm_table.specs.{declared.enter.EnterState.EnterState, Answers.{made_fault, raised_fault}}
 use Rattle.shm_table.specs.Enter.Control.{EnterAnswer, enter_call_at, enter_parts, enter_spot, entry_of, entry_request, is_make, valued_by, valued_point}
 use Rattle.shm_table.specs.Enter.{EnterKnows, EnterLeaves, IsHalfMade, IsMade, IsUnlinked, MayEnter, enter_part, enter_plan, enter_steps, followed_events, linked_events, made_events, valued_events}
 use Rattle.shm_table.specs.Enter.Memos.{change_on, link_on, made_on, next_on, unlinked_on, unmade_on, value_on}

@@ -1,42 +1,21 @@
 -- the memo of a new entry from call to call: once it is made, once a word of it is filled, once it is linked, and where a step is refused
 use Rattle.std.proofs.Common.{◌≡◌, ◌≢◌, ℕ, ◌%◌, ◌<◌, refl, sym, ap, ◌∙◌, subst, arith, Bool, true, false, cond, eqb, append-nil, List, [], ◌∷◌, ◌++◌, slice_index}
-use Rattle.std.specs.Prelude.{if◌then◌else◌, Some, Ok, Err}
-use Rattle.std.specs.List.{Contains}
-use Rattle.std.proofs.lemmas.Bool.{eq-eqb}
-use Rattle.std.proofs.lemmas.List.Elements.{Contains-push}
-use Rattle.shm_graph.specs.declared.ask.Me.{Me}
-use Rattle.shm_graph.specs.declared.memo.Memo.{Memo}
-use Rattle.shm_graph.specs.declared.memo.Op.TheVariants.{Nothing}
-use Rattle.shm_graph.specs.declared.spot.Spot.{Spot}
+use Rattle.std.proofs.lemmas.{Bool.eq-eqb, List.Elements.Contains-push}
+use Rattle.std.specs.{Prelude.{if◌then◌else◌, Some, Ok, Err}, List.Contains}
+use Rattle.shm_graph.specs.declared.{ask.Me.Me, memo.{Memo.Memo, Op.TheVariants.Nothing}, spot.Spot.Spot}
+use Rattle.shm_graph.specs.{Agents.recovers, Asks.{Trail, IsWithin}, Bounds.alloc_steps, Events.Event}
+use Rattle.shm_graph.specs.{MemoAfterStore.is_of, Views.{own_word, view}}
 use Rattle.shm_graph.specs.declared.spot.Spot.TheVariants as spot
-use Rattle.shm_graph.specs.Agents.{recovers}
-use Rattle.shm_graph.specs.Asks.{Trail, IsWithin}
-use Rattle.shm_graph.specs.Bounds.{alloc_steps}
-use Rattle.shm_graph.specs.Events.{Event}
-use Rattle.shm_graph.specs.MemoAfterStore.{is_of}
-use Rattle.shm_graph.specs.Views.{own_word, view}
 use Rattle.shm_graph.proofs.States.Holders.{target_counted}
 use Rattle.shm_calls.specs.Parts.{IsHeld}
-use Rattle.shm_steps.specs.Beginning.{IsOwnWord}
-use Rattle.shm_steps.specs.Reparting.{sight, IsKnown, IsTagged, IsValue, TableStep}
-use Rattle.shm_steps.specs.Reparting.TableStep.{Prepares, Links}
-use Rattle.shm_steps.specs.Walking.{IsComing, IsVacant}
-use Rattle.shm_steps.proofs.BeginAt.{SlotHas, word_target}
-use Rattle.shm_steps.proofs.BeginWords.{own_word_has}
-use Rattle.shm_steps.proofs.Reaching.{root_reached}
-use Rattle.shm_steps.proofs.Partitions.Seeking.{learnt_other}
-use Rattle.shm_steps.proofs.Partitions.Words.{tagged_word}
-use Rattle.shm_count.specs.declared.answer.Made.{Made}
-use Rattle.shm_count.specs.declared.answer.UpFault.{UpFault}
-use Rattle.shm_count.specs.declared.point.Aim.{Aim}
-use Rattle.shm_count.specs.Roots.{root_word}
-use Rattle.shm_count.specs.Slots.{Filled, Lost, StepCause, Untouched}
-use Rattle.shm_count.specs.Step.Control.{IsInside}
-use Rattle.shm_count.specs.Step.Parts.{Raised, part_after}
-use Rattle.shm_count.specs.Tear.Memos.{Knows}
-use Rattle.shm_alloc.specs.declared.alloc.AllocFault.{AllocFault}
-use Rattle.shm_alloc.specs.declared.request.Request.{Request}
-use Rattle.shm_alloc.specs.Alloc.Carrying.{made_comes}
+use Rattle.shm_steps.specs.{Beginning.IsOwnWord, Reparting.{sight, IsKnown, IsTagged, IsValue, TableStep}}
+use Rattle.shm_steps.specs.{Reparting.TableStep.{Prepares, Links}, Walking.{IsComing, IsVacant}}
+use Rattle.shm_steps.proofs.{BeginAt.{SlotHas, word_target}, BeginWords.own_word_has, Reaching.root_reached}
+use Rattle.shm_steps.proofs.Partitions.{Seeking.learnt_other, Words.tagged_word}
+use Rattle.shm_count.specs.{declared.{answer.{Made.Made, UpFault.UpFault}, point.Aim.Aim}, Roots.root_word}
+use Rattle.shm_count.specs.{Slots.{Filled, Lost, StepCause, Untouched}, Step.Control.IsInside}
+use Rattle.shm_count.specs.{Step.Parts.{Raised, part_after}, Tear.Memos.Knows}
+use Rattle.shm_alloc.specs.{declared.{alloc.AllocFault.AllocFault, request.Request.Request}, Alloc.Carrying.made_comes}
 use Rattle.shm_alloc.specs.Alloc.{AnswerHolds}
 use Rattle.shm_alloc.proofs.MadeBlocks.{block_inside}
 use Rattle.shm_table.specs.Answers.{made_fault, raised_fault}

@@ -2,36 +2,18 @@
 use Rattle.std.proofs.Common.{◌≡◌, ◌≢◌, ℕ, ◌+◌, ◌%◌, ◌<◌, refl, sym, ap, ◌∙◌, subst, arith, true, false, inl, inr}
 use Rattle.std.proofs.lemmas.Bool.{cases_eq}
 use Rattle.shm_words.proofs.Placing.{total_small}
-use Rattle.shm_graph.specs.declared.ask.Me.{Me}
-use Rattle.shm_graph.specs.declared.memo.Memo.{Memo}
-use Rattle.shm_graph.specs.declared.memo.Op.TheVariants.{Nothing}
+use Rattle.shm_graph.specs.{declared.{ask.Me.Me, memo.{Memo.Memo, Op.TheVariants.Nothing}}, Agents.recovers}
+use Rattle.shm_graph.specs.{Idle.IsIdle, Ops.cover_of, Reach.is_reached, Spots.spot_address, Views.own_word}
 use Rattle.shm_graph.specs.declared.spot.Spot.TheVariants as spot
-use Rattle.shm_graph.specs.Agents.{recovers}
-use Rattle.shm_graph.specs.Idle.{IsIdle}
-use Rattle.shm_graph.specs.Ops.{cover_of}
-use Rattle.shm_graph.specs.Reach.{is_reached}
-use Rattle.shm_graph.specs.Spots.{spot_address}
-use Rattle.shm_graph.specs.Views.{own_word}
 use Rattle.shm_calls.specs.Parts.{IsHeld}
-use Rattle.shm_steps.specs.Beginning.{IsOwnWord}
-use Rattle.shm_steps.specs.Conditions.{IsHere}
-use Rattle.shm_steps.specs.Reparting.{sight, IsKnown, IsValue}
+use Rattle.shm_steps.specs.{Beginning.IsOwnWord, Conditions.IsHere, Reparting.{sight, IsKnown, IsValue}}
 use Rattle.shm_steps.specs.Walking.{IsComing, IsVacant}
-use Rattle.shm_steps.proofs.BeginWords.{word_address}
-use Rattle.shm_steps.proofs.Reaching.{home_reached, root_reached}
-use Rattle.shm_steps.proofs.Partitions.Words.{directory_word, tagged_word}
-use Rattle.shm_steps.proofs.Partitions.Walked.{first_other, new_not_home}
-use Rattle.shm_count.specs.declared.point.Aim.{Aim}
-use Rattle.shm_count.specs.declared.point.Aim.TheVariants.{Up, Change as ToChange}
-use Rattle.shm_count.specs.declared.point.StepPoint.TheVariants.{Era}
+use Rattle.shm_steps.proofs.{BeginWords.word_address, Reaching.{home_reached, root_reached}}
+use Rattle.shm_steps.proofs.Partitions.{Words.{directory_word, tagged_word}, Walked.{first_other, new_not_home}}
+use Rattle.shm_count.specs.declared.point.{Aim.{Aim, TheVariants.{Up, Change as ToChange}}, StepPoint.TheVariants.Era}
 use Rattle.shm_count.specs.Carrying.{link_fills, link_replaces, next_filled, next_fills, value_filled, value_fills}
-use Rattle.shm_count.specs.Roots.{root_word}
-use Rattle.shm_count.specs.Slots.{MayStepAt}
-use Rattle.shm_count.specs.Slots.Parts.{era_room}
-use Rattle.shm_count.specs.Step.{CanStep}
-use Rattle.shm_count.specs.Step.Parts.{Raised}
-use Rattle.shm_table.specs.Enter.{IsMade}
-use Rattle.shm_table.specs.Staying.Laws.{root_kept}
+use Rattle.shm_count.specs.{Roots.root_word, Slots.{MayStepAt, Parts.era_room}, Step.{CanStep, Parts.Raised}}
+use Rattle.shm_table.specs.{Enter.IsMade, Staying.Laws.root_kept}
 
 -- ---- what the memo shows
 

@@ -1,33 +1,19 @@
 -- the control of reading what a key has and giving it a root: which call comes next, and where it goes by what that call answered
-use Rattle.std.specs.Prelude.{ℕ, ◌%◌, ◌<◌, Bool, true, false, Option, Some, None, Result, Ok, Err}
+use Rattle.std.specs.Prelude.{ℕ, ◌%◌, ◌<◌, Bool, true, false, Option, Some, None, Result, Ok, Err, []}
 use Rattle.shm_words.specs.Layout.{GeometryFits, address_limit}
-use Rattle.shm_graph.specs.declared.ask.Ask.{Ask}
-use Rattle.shm_graph.specs.declared.ask.Me.{Me}
-use Rattle.shm_graph.specs.Laws.{Control}
-use Rattle.shm_calls.specs.declared.or.Or.{Or}
-use Rattle.shm_calls.specs.declared.or.Or.TheVariants.{First, Second}
-use Rattle.shm_calls.specs.declared.word.Word.{Word}
-use Rattle.shm_calls.specs.CallsControl.{calls_of}
-use Rattle.shm_calls.specs.Either.{or_control}
-use Rattle.shm_calls.specs.Words.{word_control}
-use Rattle.shm_count.specs.declared.answer.ShareFault.{ShareFault}
-use Rattle.shm_count.specs.declared.answer.ShareFault.TheVariants as share
-use Rattle.shm_count.specs.UpRoot.Control.{rooting}
-use Rattle.shm_count.specs.UpRoot.{rooting_plan}
+use Rattle.shm_graph.specs.{declared.ask.{Ask.Ask, Me.Me}, Laws.Control}
+use Rattle.shm_calls.specs.{declared.{or.Or.{Or, TheVariants.{First, Second}}, word.Word.Word}, CallsControl.calls_of}
+use Rattle.shm_calls.specs.{Either.or_control, Words.word_control, Steering.Steered}
+use Rattle.shm_count.specs.{declared.answer.ShareFault.ShareFault, UpRoot.Control.{rooting, rooting_steered}}
 use Rattle.shm_count.specs.UpRoot.AsPart.{RootingCalls, up_root}
-use Rattle.shm_table.specs.declared.answer.PutFault.{PutFault}
-use Rattle.shm_table.specs.declared.answer.PutFault.TheVariants.{EraSpent, RootsFull, CountFull}
-use Rattle.shm_table.specs.declared.fetch.FetchPoint.{FetchPoint}
-use Rattle.shm_table.specs.declared.fetch.FetchPoint.TheVariants.{Search, Value, Number, Share, Give}
-use Rattle.shm_table.specs.declared.fetch.FetchState.{FetchState}
-use Rattle.shm_table.specs.declared.fetch.Fetched.{Fetched}
-use Rattle.shm_table.specs.declared.fetch.Fetched.TheVariants.{Missing, Refused, Rooted}
-use Rattle.shm_table.specs.declared.find.Found.{Found}
-use Rattle.shm_table.specs.declared.find.Found.TheVariants.{Absent, At}
-use Rattle.shm_table.specs.Find.Control.{word_ask}
-use Rattle.shm_table.specs.Locate.Control.{locating}
-use Rattle.shm_table.specs.Locate.{LocateCalls, locate_control, locate_plan}
-use Rattle.shm_table.specs.Unlatch.{UnlatchCalls, unlatch_control, unlatch_plan, unlatching}
+use Rattle.shm_count.specs.declared.answer.ShareFault.TheVariants as share
+use Rattle.shm_table.specs.declared.answer.PutFault.{PutFault, TheVariants.{EraSpent, RootsFull, CountFull}}
+use Rattle.shm_table.specs.declared.fetch.FetchPoint.{FetchPoint, TheVariants.{Search, Value, Number, Share, Give}}
+use Rattle.shm_table.specs.declared.fetch.{FetchState.FetchState, Fetched.Fetched}
+use Rattle.shm_table.specs.declared.{fetch.Fetched.TheVariants.{Missing, Refused, Rooted}, find.Found.Found}
+use Rattle.shm_table.specs.{declared.find.Found.TheVariants.{Absent, At}, Find.Control.word_ask}
+use Rattle.shm_table.specs.Locate.Control.{locating, locate_steered, LocateCalls, locate_control}
+use Rattle.shm_table.specs.Unlatch.{UnlatchCalls, unlatch_control, unlatching, unlatch_steered}
 
 -- its calls, and what they answer
 abbrev pub FetchCall : Type 0
@@ -46,9 +32,9 @@ fetch_ask m Value = word_ask m.entry 1
 fetch_ask m y = word_ask m.block 0
 
 abbrev pub fetch_call : FetchState → FetchPoint → FetchCall
-fetch_call m Search = First (calls_of locate_plan (locating m.me m.author m.key))
-fetch_call m Share = Second (Second (First (calls_of rooting_plan (rooting m.me m.block))))
-fetch_call m Give = Second (Second (Second (calls_of unlatch_plan (unlatching m.me m.author))))
+fetch_call m Search = First (calls_of locate_steered (locating m.me m.author m.key))
+fetch_call m Share = Second (Second (First (calls_of rooting_steered (rooting m.me m.block))))
+fetch_call m Give = Second (Second (Second (calls_of unlatch_steered (unlatching m.me m.author))))
 fetch_call m y = Second (First (record { me = m.me; ask = fetch_ask m y; over = false }))
 
 -- where it goes by the word that was loaded
@@ -93,3 +79,16 @@ pub record FetchInRange (m : FetchState) : Type 0 where
 -- the control of its calls
 abbrev pub fetch_parts : Control FetchCall FetchAnswer
 fetch_parts = or_control locate_control (or_control word_control (or_control up_root unlatch_control))
+
+-- what the plan does: its identity and its line, its calls, and where it goes by their answers
+abbrev pub fetch_steered : Steered FetchState FetchCall FetchAnswer Fetched
+fetch_steered =
+    record {
+      me = λ m. m.me;
+      line = λ m. [];
+      first = λ m. is_search m.point;
+      start = λ m. fetching m.me m.author m.key;
+      call = λ m. fetch_call m m.point;
+      after = fetch_after;
+      turns = fetch_turns;
+    }

@@ -1,63 +1,41 @@
 -- what is owed of reading what a key has and giving it a root
 use Rattle.std.proofs.Common.{◌≡◌, ℕ, ◌+◌, ◌*◌, ◌%◌, refl, sym, ap, ◌∙◌, subst, arith, false, eqb, List, [], ◌∷◌, ◌++◌}
-use Rattle.std.specs.Prelude.{map, Some, Result, Ok, Err}
-use Rattle.std.specs.List.{Contains, list_any}
+use Rattle.std.specs.{Prelude.{map, Some, Result, Ok, Err}, List.{Contains, list_any}}
 use Rattle.shm_words.proofs.Placing.{total_small}
 use Rattle.shm_words.specs.Layout.{address_limit}
-use Rattle.shm_graph.specs.declared.ask.Me.{Me}
-use Rattle.shm_graph.specs.declared.memo.Look.{Look}
-use Rattle.shm_graph.specs.declared.memo.Memo.{Memo}
-use Rattle.shm_graph.specs.declared.spot.Spot.TheVariants.{Body, Era, Home, Root}
-use Rattle.shm_graph.specs.Agents.{recovers}
-use Rattle.shm_graph.specs.Asks.{Trail, IsWithin}
-use Rattle.shm_graph.specs.Bounds.{up_steps}
-use Rattle.shm_graph.specs.Events.{Event}
-use Rattle.shm_graph.specs.Events as event
-use Rattle.shm_graph.specs.Trails.{Answers, Asked}
+use Rattle.shm_graph.specs.declared.{ask.Me.Me, memo.{Look.Look, Memo.Memo}}
+use Rattle.shm_graph.specs.{declared.spot.Spot.TheVariants.{Body, Era, Home, Root}, Agents.recovers}
+use Rattle.shm_graph.specs.{Asks.{Trail, IsWithin}, Bounds.up_steps, Events.Event, Trails.{Answers, Asked}}
 use Rattle.shm_graph.specs.Views.{own_word}
-use Rattle.shm_calls.specs.declared.or.Or.TheVariants.{First, Second}
-use Rattle.shm_calls.specs.CallTells.{within_more}
-use Rattle.shm_calls.specs.CallsPart.{calls_part, calls_part_laws}
-use Rattle.shm_calls.specs.Either.{or_control, or_part, or_part_laws}
-use Rattle.shm_calls.specs.Parts.{IsHeld}
-use Rattle.shm_calls.specs.Plans.{PlanLaws, PlanStays, IsCall, Follows}
+use Rattle.shm_graph.specs.Events as event
+use Rattle.shm_calls.specs.{declared.or.Or.TheVariants.{First, Second}, CallTells.within_more}
+use Rattle.shm_calls.specs.{CallsPart.{calls_part, calls_part_laws}, Either.{or_control, or_part, or_part_laws}}
+use Rattle.shm_calls.specs.{Parts.IsHeld, Plans.{PlanLaws, PlanStays, IsCall, Follows}}
 use Rattle.shm_calls.specs.Words.{word_control, word_part, word_part_laws}
 use Rattle.shm_steps.specs.WordParts.{ReferenceLoaded, WordLoaded}
-use Rattle.shm_steps.proofs.Reaching.{look_reached}
-use Rattle.shm_steps.proofs.Words.Blocks.{idle_settled, plain_load, reference_load}
-use Rattle.shm_count.specs.declared.answer.ShareFault.{ShareFault}
-use Rattle.shm_count.specs.declared.answer.ShareFault.TheVariants as share
-use Rattle.shm_count.specs.UpRoot.{UpRootLeaves}
+use Rattle.shm_steps.proofs.{Reaching.look_reached, Words.Blocks.{idle_settled, plain_load, reference_load}}
+use Rattle.shm_count.specs.{declared.answer.ShareFault.ShareFault, UpRoot.UpRootLeaves}
 use Rattle.shm_count.specs.UpRoot.AsPart.{may_up_root, rooted_root, up_root, up_root_bound, up_root_part}
+use Rattle.shm_count.specs.declared.answer.ShareFault.TheVariants as share
 use Rattle.shm_count.proofs.UpRootPart.{up_root_laws}
 use Rattle.shm_ref.specs.AskedParts.{asked_part_laws}
-use Rattle.shm_table.specs.declared.answer.PutFault.{PutFault}
-use Rattle.shm_table.specs.declared.answer.PutFault.TheVariants.{EraSpent, RootsFull, CountFull}
-use Rattle.shm_table.specs.declared.fetch.FetchPoint.{FetchPoint}
-use Rattle.shm_table.specs.declared.fetch.FetchPoint.TheVariants.{Search, Value, Number, Share, Give}
-use Rattle.shm_table.specs.declared.fetch.FetchState.{FetchState}
-use Rattle.shm_table.specs.declared.fetch.Fetched.{Fetched}
-use Rattle.shm_table.specs.declared.fetch.Fetched.TheVariants.{Missing, Refused, Rooted}
-use Rattle.shm_table.specs.declared.find.Found.{Found}
+use Rattle.shm_table.specs.declared.answer.PutFault.{PutFault, TheVariants.{EraSpent, RootsFull, CountFull}}
+use Rattle.shm_table.specs.declared.fetch.FetchPoint.{FetchPoint, TheVariants.{Search, Value, Number, Share, Give}}
+use Rattle.shm_table.specs.declared.fetch.{FetchState.FetchState, Fetched.Fetched}
+use Rattle.shm_table.specs.declared.{fetch.Fetched.TheVariants.{Missing, Refused, Rooted}, find.Found.Found}
 use Rattle.shm_table.specs.declared.find.Found.TheVariants.{Absent, At}
-use Rattle.shm_table.specs.declared.get.GetPoint.TheVariants as get
 use Rattle.shm_table.specs.Fetch.Control.{FetchAnswer, fetch_ask, fetch_call, fetch_outcome, fetch_parts, fetching, is_search}
 use Rattle.shm_table.specs.Fetch.{FetchFound, FetchKnows, FetchLeaves, GiveKnows, IsOn, MayFetch, fetch_part, fetch_plan, fetch_word_part, got, rooted_steps}
 use Rattle.shm_table.specs.Fetch.Steps.{clear_reading, idle_more, keeps_reading, keeps_root, map_reading, on_more, one_step, root_others, root_part, root_value, search_on, value_seen}
-use Rattle.shm_table.specs.Find.Control.{word_ask}
-use Rattle.shm_table.specs.Find.SearchLoads.{entry_latched}
-use Rattle.shm_table.specs.Get.{IsReading}
+use Rattle.shm_table.specs.{Find.{Control.word_ask, SearchLoads.entry_latched}, Get.IsReading}
 use Rattle.shm_table.specs.Get.Laws.{at_entry, latch_of, may_unlatch, missing, nowhere, number_read, told_own, value_plain, value_read}
-use Rattle.shm_table.specs.Get.UnderLatch.{reference_more, word_more}
-use Rattle.shm_table.specs.Locate.Control.{locate_parts}
-use Rattle.shm_table.specs.Locate.{Located, MayLocate, locate_control, locate_plan}
-use Rattle.shm_table.specs.Locate.Laws.{locate_begin, locate_laws}
-use Rattle.shm_table.specs.PutRoot.Steps.{same_more, same_part, search_more}
-use Rattle.shm_table.specs.Staying.{Keeps, PutCause}
+use Rattle.shm_table.specs.{Get.UnderLatch.{reference_more, word_more}, Locate.Control.{locate_parts, locate_control}}
+use Rattle.shm_table.specs.Locate.{Located, MayLocate, locate_plan, Laws.{locate_begin, locate_laws}}
+use Rattle.shm_table.specs.{PutRoot.Steps.{same_more, same_part, search_more}, Staying.{Keeps, PutCause}}
 use Rattle.shm_table.specs.Staying.Laws.{Rests, cause_before, cause_later, cleared_more, keeps_core, keeps_more, keeps_unlatched, keeps_untouched, rests_core, rests_untouched, unlatched_else}
 use Rattle.shm_table.specs.Unlatch.{MayUnlatch, Unlatched, unlatch_control, unlatch_plan}
-use Rattle.shm_table.specs.Unlatch.Laws.{unlatch_begin, unlatch_laws}
-use Rattle.shm_table.specs.ValuesListed.{idle_here}
+use Rattle.shm_table.specs.{Unlatch.Laws.{unlatch_begin, unlatch_laws}, ValuesListed.idle_here}
+use Rattle.shm_table.specs.declared.get.GetPoint.TheVariants as get
 
 -- ---- what follows each call
 

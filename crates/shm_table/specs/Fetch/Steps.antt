@@ -1,57 +1,27 @@
 -- what stays of a memo where what a key has is read under a latch, and its value block gets a root
 use Rattle.std.proofs.Common.{◌≡◌, ◌≢◌, ℕ, ◌+◌, ◌*◌, ◌%◌, refl, sym, ap, ◌∙◌, subst, arith, append-nil, Bool, true, false, eqb, ◌&&◌, List, [], ◌∷◌, ◌++◌, inl, inr}
-use Rattle.std.specs.Prelude.{◌==◌, if◌then◌else◌}
-use Rattle.std.specs.List.{Contains}
 use Rattle.std.proofs.lemmas.Bool.{cases_Bool, cond-false, eqb-true, ne_eqb, true≢false}
+use Rattle.std.specs.{Prelude.{◌==◌, if◌then◌else◌}, List.Contains}
 use Rattle.shm_words.proofs.Placing.{total_small}
 use Rattle.shm_words.specs.Layout.{address_limit}
-use Rattle.shm_graph.specs.declared.ask.Me.{Me}
-use Rattle.shm_graph.specs.declared.memo.Memo.{Memo}
-use Rattle.shm_graph.specs.declared.table.Part.{Part}
-use Rattle.shm_graph.specs.declared.table.Part.TheVariants.{Loose, Table}
-use Rattle.shm_graph.specs.declared.memo.Stored.{Stored}
-use Rattle.shm_graph.specs.declared.spot.Spot.{Spot}
-use Rattle.shm_graph.specs.declared.spot.Spot.TheVariants.{Body, Era, Hold, Home, Root}
-use Rattle.shm_graph.specs.Agents.{recovers}
-use Rattle.shm_graph.specs.Asks.{Trail, IsWithin}
-use Rattle.shm_graph.specs.Core.{core}
-use Rattle.shm_graph.specs.Events.{Event}
-use Rattle.shm_graph.specs.Held.{is_loose}
-use Rattle.shm_graph.specs.Idle.{IsIdle, hold_word}
-use Rattle.shm_graph.specs.Reach.{learnt}
-use Rattle.shm_graph.specs.Chains.{part_set}
-use Rattle.shm_graph.specs.Ops.{cover}
-use Rattle.shm_graph.specs.Ops.Cover.{On}
-use Rattle.shm_graph.specs.MemoAfterRead.{is_entry, valued, values_read}
-use Rattle.shm_graph.specs.Spots.{same_spot}
-use Rattle.shm_graph.specs.Telling.{Entry as AnEntry, Value as AValue, role_in, roles}
-use Rattle.shm_graph.specs.Trails.{Answers, Asked}
+use Rattle.shm_graph.specs.declared.{ask.Me.Me, memo.{Memo.Memo, Stored.Stored}, table.Part.Part}
+use Rattle.shm_graph.specs.declared.{table.Part.TheVariants.{Loose, Table}, spot.Spot.Spot}
+use Rattle.shm_graph.specs.{declared.spot.Spot.TheVariants.{Body, Era, Hold, Home, Root}, Agents.recovers}
+use Rattle.shm_graph.specs.{Asks.{Trail, IsWithin}, Core.core, Events.Event, Held.is_loose, Idle.{IsIdle, hold_word}}
+use Rattle.shm_graph.specs.{Reach.learnt, Chains.part_set, Ops.{cover, Cover.On}}
+use Rattle.shm_graph.specs.{MemoAfterRead.{is_entry, valued, values_read}, Spots.same_spot}
+use Rattle.shm_graph.specs.{Telling.{Entry as AnEntry, Value as AValue, role_in, roles}, Trails.{Answers, Asked}}
 use Rattle.shm_graph.specs.Views.{own_word}
-use Rattle.shm_calls.specs.CallTells.{within_more}
-use Rattle.shm_calls.specs.Parts.{IsHeld}
-use Rattle.shm_steps.specs.Reparting.{sight, map_in, IsValue}
-use Rattle.shm_steps.specs.Walking.{IsIn}
-use Rattle.shm_steps.specs.WordParts.{ReferenceLoaded}
+use Rattle.shm_calls.specs.{CallTells.within_more, Parts.IsHeld}
+use Rattle.shm_steps.specs.{Reparting.{sight, map_in, IsValue}, Walking.IsIn, WordParts.ReferenceLoaded}
 use Rattle.shm_steps.proofs.Partitions.Seeking.{learnt_here}
-use Rattle.shm_count.specs.Roots.{root_word}
-use Rattle.shm_count.specs.Slots.{Filled}
+use Rattle.shm_count.specs.{Roots.root_word, Slots.Filled}
 use Rattle.shm_ref.specs.AskedParts.{one_pair}
-use Rattle.shm_table.specs.declared.find.Found.TheVariants.{At}
-use Rattle.shm_table.specs.declared.get.GetPoint.TheVariants.{Number}
-use Rattle.shm_table.specs.declared.get.GetState.{GetState}
-use Rattle.shm_table.specs.EntryReads.{reference_reads}
-use Rattle.shm_table.specs.Fetch.{IsOn}
-use Rattle.shm_table.specs.Find.Bound.{find_within, keys_read}
-use Rattle.shm_table.specs.Find.Control.{word_ask}
-use Rattle.shm_table.specs.Find.SearchLoads.{look_in}
-use Rattle.shm_table.specs.Find.Tells.{entry_value}
-use Rattle.shm_table.specs.Get.{GetKnows, IsReading}
-use Rattle.shm_table.specs.Get.Laws.{idle_of, table_of, value_room}
-use Rattle.shm_table.specs.Get.UnderLatch.{ReadsMore}
-use Rattle.shm_table.specs.Locate.{Located}
-use Rattle.shm_table.specs.PutRoot.Steps.{search_more}
-use Rattle.shm_table.specs.Staying.{Cleared, Keeps, SameMap, is_set}
-use Rattle.shm_table.specs.Staying.Laws.{value_same}
+use Rattle.shm_table.specs.declared.{find.Found.TheVariants.At, get.{GetPoint.TheVariants.Number, GetState.GetState}}
+use Rattle.shm_table.specs.{EntryReads.reference_reads, Fetch.IsOn, Find.Bound.{find_within, keys_read}}
+use Rattle.shm_table.specs.{Find.{Control.word_ask, SearchLoads.look_in, Tells.entry_value}, Get.{GetKnows, IsReading}}
+use Rattle.shm_table.specs.{Get.{Laws.{idle_of, table_of, value_room}, UnderLatch.ReadsMore}, Locate.Located}
+use Rattle.shm_table.specs.{PutRoot.Steps.search_more, Staying.{Cleared, Keeps, SameMap, is_set, Laws.value_same}}
 
 -- ---- reading
 

@@ -1,28 +1,17 @@
 -- the control of giving the value block at the head of a queue a root: which call comes next, and where it goes by what that call answered
-use Rattle.std.specs.Prelude.{ℕ, ◌%◌, ◌<◌, Bool, true, false, ◌==◌, if◌then◌else◌, Option, Some, None, Result, Ok, Err}
-use Rattle.shm_words.specs.declared.place.Place.TheVariants as place
+use Rattle.std.specs.Prelude.{ℕ, ◌%◌, ◌<◌, Bool, true, false, ◌==◌, if◌then◌else◌, Option, Some, None, Result, Ok, Err, []}
 use Rattle.shm_words.specs.Layout.{GeometryFits, address, address_limit}
-use Rattle.shm_graph.specs.declared.ask.Ask.{Ask}
-use Rattle.shm_graph.specs.declared.ask.Ask.TheVariants.{Load}
-use Rattle.shm_graph.specs.declared.ask.Me.{Me}
-use Rattle.shm_graph.specs.Laws.{Control}
-use Rattle.shm_calls.specs.declared.or.Or.{Or}
-use Rattle.shm_calls.specs.declared.or.Or.TheVariants.{First, Second}
-use Rattle.shm_calls.specs.declared.word.Word.{Word}
-use Rattle.shm_calls.specs.CallsControl.{calls_of}
-use Rattle.shm_calls.specs.Either.{or_control}
-use Rattle.shm_calls.specs.Words.{word_control}
-use Rattle.shm_count.specs.declared.answer.ShareFault.{ShareFault}
-use Rattle.shm_count.specs.UpRoot.Control.{rooting}
-use Rattle.shm_count.specs.UpRoot.{rooting_plan}
+use Rattle.shm_words.specs.declared.place.Place.TheVariants as place
+use Rattle.shm_graph.specs.{declared.ask.{Ask.{Ask, TheVariants.Load}, Me.Me}, Laws.Control}
+use Rattle.shm_calls.specs.{declared.{or.Or.{Or, TheVariants.{First, Second}}, word.Word.Word}, CallsControl.calls_of}
+use Rattle.shm_calls.specs.{Either.or_control, Words.word_control, Steering.Steered}
+use Rattle.shm_count.specs.{declared.answer.ShareFault.ShareFault, UpRoot.Control.{rooting, rooting_steered}}
 use Rattle.shm_count.specs.UpRoot.AsPart.{RootingCalls, up_root}
 use Rattle.shm_table.specs.declared.fetch_head.FetchHeadPoint.{FetchHeadPoint}
 use Rattle.shm_table.specs.declared.fetch_head.FetchHeadPoint.TheVariants.{Head, Tail, Slot, Number, Share}
-use Rattle.shm_table.specs.declared.fetch_head.FetchHeadState.{FetchHeadState}
-use Rattle.shm_table.specs.declared.fetch_head.FetchedHead.{FetchedHead}
+use Rattle.shm_table.specs.declared.fetch_head.{FetchHeadState.FetchHeadState, FetchedHead.FetchedHead}
 use Rattle.shm_table.specs.declared.fetch_head.FetchedHead.TheVariants.{Empty, Refused, Rooted}
-use Rattle.shm_table.specs.Fetch.Control.{shared_fault}
-use Rattle.shm_table.specs.Find.Control.{word_ask}
+use Rattle.shm_table.specs.{Fetch.Control.shared_fault, Find.Control.word_ask}
 
 -- its calls, and what they answer
 abbrev pub FetchHeadCall : Type 0
@@ -53,7 +42,7 @@ fetch_head_ask m Slot = Load (slot_at m)
 fetch_head_ask m y = word_ask m.block 0
 
 abbrev pub fetch_head_call : FetchHeadState → FetchHeadPoint → FetchHeadCall
-fetch_head_call m Share = Second (calls_of rooting_plan (rooting m.me m.block))
+fetch_head_call m Share = Second (calls_of rooting_steered (rooting m.me m.block))
 fetch_head_call m y = First (record { me = m.me; ask = fetch_head_ask m y; over = false })
 
 -- by a word that was found: the queue is empty where the tail is the own head
@@ -90,3 +79,16 @@ pub record FetchHeadInRange (m : FetchHeadState) : Type 0 where
 -- the control of its calls
 abbrev pub fetch_head_parts : Control FetchHeadCall FetchHeadAnswer
 fetch_head_parts = or_control word_control up_root
+
+-- what the plan does: its identity and its line, its calls, and where it goes by their answers
+abbrev pub fetch_head_steered : Steered FetchHeadState FetchHeadCall FetchHeadAnswer FetchedHead
+fetch_head_steered =
+    record {
+      me = λ m. m.me;
+      line = λ m. [];
+      first = λ m. is_head m.point;
+      start = λ m. fetching_head m.me m.from;
+      call = λ m. fetch_head_call m m.point;
+      after = fetch_head_after;
+      turns = fetch_head_turns;
+    }

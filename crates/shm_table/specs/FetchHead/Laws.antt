@@ -1,63 +1,36 @@
 -- what is owed of giving the value block at the head of a queue a root
 use Rattle.std.proofs.Common.{◌≡◌, ◌≢◌, ℕ, ◌+◌, ◌%◌, ◌<◌, refl, sym, ap, ◌∙◌, subst, arith, Bool, true, false, List, [], ◌∷◌, ◌++◌, inl}
-use Rattle.std.specs.Prelude.{◌==◌, if◌then◌else◌, Some, None, Result, Ok, Err}
-use Rattle.std.specs.List.{Contains}
-use Rattle.std.proofs.lemmas.Bool.{cond-false, eqb-false, eqb-true}
-use Rattle.std.proofs.lemmas.List.Elements.{Contains-append_right}
+use Rattle.std.proofs.lemmas.{Bool.{cond-false, eqb-false, eqb-true}, List.Elements.Contains-append_right}
+use Rattle.std.specs.{Prelude.{◌==◌, if◌then◌else◌, Some, None, Result, Ok, Err}, List.Contains}
 use Rattle.shm_words.specs.Layout.{total_of}
 use Rattle.shm_words.proofs.Placing.{total_small}
-use Rattle.shm_graph.specs.declared.ask.Me.{Me}
-use Rattle.shm_graph.specs.declared.memo.Fact.TheVariants.{Counter}
-use Rattle.shm_graph.specs.declared.memo.Look.{Look}
-use Rattle.shm_graph.specs.declared.memo.Memo.{Memo}
-use Rattle.shm_graph.specs.declared.memo.Stored.{Stored}
+use Rattle.shm_graph.specs.declared.{ask.Me.Me, memo.{Fact.TheVariants.Counter, Look.Look, Memo.Memo, Stored.Stored}}
+use Rattle.shm_graph.specs.{Agents.recovers, Asks.{Trail, IsWithin}, Bounds.up_steps, Core.core, Events.Event}
+use Rattle.shm_graph.specs.{Held.is_loose, Idle.IsIdle, Laws.Outcome, Telling.{Value as AValue, shaped}, Views.own_word}
 use Rattle.shm_graph.specs.declared.spot.Spot.TheVariants as spot
-use Rattle.shm_graph.specs.Agents.{recovers}
-use Rattle.shm_graph.specs.Asks.{Trail, IsWithin}
-use Rattle.shm_graph.specs.Bounds.{up_steps}
-use Rattle.shm_graph.specs.Core.{core}
-use Rattle.shm_graph.specs.Events.{Event}
-use Rattle.shm_graph.specs.Held.{is_loose}
-use Rattle.shm_graph.specs.Idle.{IsIdle}
-use Rattle.shm_graph.specs.Laws.{Outcome}
-use Rattle.shm_graph.specs.Telling.{Value as AValue, shaped}
-use Rattle.shm_graph.specs.Views.{own_word}
 use Rattle.shm_graph.proofs.StepKinds.Loads.{choice}
-use Rattle.shm_calls.specs.declared.or.Or.TheVariants.{First, Second}
-use Rattle.shm_calls.specs.declared.word.Word.{Word}
-use Rattle.shm_calls.specs.CallTells.{within_more}
-use Rattle.shm_calls.specs.Either.{or_part, or_part_laws}
-use Rattle.shm_calls.specs.Grown.{Grows, grown_laws}
-use Rattle.shm_calls.specs.Parts.{IsHeld}
+use Rattle.shm_calls.specs.{declared.{or.Or.TheVariants.{First, Second}, word.Word.Word}, CallTells.within_more}
+use Rattle.shm_calls.specs.{Either.{or_part, or_part_laws}, Grown.{Grows, grown_laws}, Parts.IsHeld}
 use Rattle.shm_calls.specs.Plans.{PlanLaws, PlanStays, IsCall, Follows}
 use Rattle.shm_calls.specs.Words.{word_control, word_part, word_part_laws, WordLeaves}
 use Rattle.shm_steps.specs.WordParts.{HeadSlotLoaded, WordLoaded}
-use Rattle.shm_steps.proofs.Covering.{value_told}
-use Rattle.shm_steps.proofs.Words.Blocks.{idle_settled, plain_load, told_inside}
-use Rattle.shm_steps.proofs.Words.Own.{head_load}
+use Rattle.shm_steps.proofs.{Covering.value_told, Words.{Blocks.{idle_settled, plain_load, told_inside}, Own.head_load}}
 use Rattle.shm_steps.proofs.Words.Queues.{head_slot_load}
-use Rattle.shm_count.specs.declared.answer.ShareFault.{ShareFault}
-use Rattle.shm_count.specs.declared.answer.ShareFault.TheVariants as share
-use Rattle.shm_count.specs.Roots.{rest, root_word}
-use Rattle.shm_count.specs.UpRoot.{UpRootLeaves}
+use Rattle.shm_count.specs.{declared.answer.ShareFault.ShareFault, Roots.{rest, root_word}, UpRoot.UpRootLeaves}
 use Rattle.shm_count.specs.UpRoot.AsPart.{may_up_root, rooted_root, up_root, up_root_bound, up_root_part}
+use Rattle.shm_count.specs.declared.answer.ShareFault.TheVariants as share
 use Rattle.shm_count.proofs.UpRootPart.{up_root_laws}
 use Rattle.shm_queue.specs.HeadReads.{has_item, head_read, is_empty, item_read}
-use Rattle.shm_queue.specs.QueueWords.{TailSeen, item_reached, tail_seen}
-use Rattle.shm_queue.specs.Take.{IsItemRead}
-use Rattle.shm_table.specs.declared.answer.PutFault.{PutFault}
-use Rattle.shm_table.specs.declared.answer.PutFault.TheVariants.{EraSpent, RootsFull, CountFull}
+use Rattle.shm_queue.specs.{QueueWords.{TailSeen, item_reached, tail_seen}, Take.IsItemRead}
+use Rattle.shm_table.specs.declared.answer.PutFault.{PutFault, TheVariants.{EraSpent, RootsFull, CountFull}}
 use Rattle.shm_table.specs.declared.fetch_head.FetchHeadPoint.{FetchHeadPoint}
 use Rattle.shm_table.specs.declared.fetch_head.FetchHeadPoint.TheVariants.{Head, Tail, Slot, Number, Share}
-use Rattle.shm_table.specs.declared.fetch_head.FetchHeadState.{FetchHeadState}
-use Rattle.shm_table.specs.declared.fetch_head.FetchedHead.TheVariants.{Empty}
+use Rattle.shm_table.specs.declared.fetch_head.{FetchHeadState.FetchHeadState, FetchedHead.TheVariants.Empty}
 use Rattle.shm_table.specs.FetchHead.Control.{FetchHeadAnswer, fetch_head_ask, fetch_head_call, fetch_head_parts, fetching_head, is_head}
 use Rattle.shm_table.specs.FetchHead.{FetchHeadFound, FetchHeadKnows, FetchHeadLeaves, IsHeadRooted, IsHeadUnrooted, IsNumbered, MayFetchHead, fetch_head_part, fetch_head_plan}
 use Rattle.shm_table.specs.Fetch.Steps.{idle_more, keeps_root, root_others, root_part, root_value}
-use Rattle.shm_table.specs.Find.SearchLoads.{learnt_keeps}
-use Rattle.shm_table.specs.Get.UnderLatch.{ReadsMore, word_more}
-use Rattle.shm_table.specs.PutRoot.Steps.{same_part}
-use Rattle.shm_table.specs.Staying.{Keeps, PutCause}
+use Rattle.shm_table.specs.{Find.SearchLoads.learnt_keeps, Get.UnderLatch.{ReadsMore, word_more}}
+use Rattle.shm_table.specs.{PutRoot.Steps.same_part, Staying.{Keeps, PutCause}}
 use Rattle.shm_table.specs.Staying.Laws.{Rests, cause_before, cleared_more, keeps_core, keeps_more, keeps_rest, keeps_untouched, rests_core, rests_untouched, value_by}
 use Rattle.shm_table.specs.ValuesListed.{idle_here}
 

@@ -1,14 +1,9 @@
 -- how many word steps a search for a key takes: by the number of the entries whose key it read
 use Rattle.std.proofs.Common.{◌≡◌, ◌≢◌, ℕ, ◌+◌, ◌*◌, refl, ap, ◌∙◌, arith, List, [], ◌∷◌, ◌++◌, length, length-append, inl, inr}
 use Rattle.std.specs.Prelude.{◌⊎◌}
-use Rattle.shm_graph.specs.declared.ask.Me.{Me}
-use Rattle.shm_graph.specs.declared.memo.Memo.{Memo}
-use Rattle.shm_graph.specs.Asks.{Trail, pair, IsWithin}
-use Rattle.shm_graph.specs.Events.{Event}
-use Rattle.shm_table.specs.declared.find.Found.{Found}
-use Rattle.shm_table.specs.declared.find.Found.TheVariants.{Absent, At}
-use Rattle.shm_table.specs.Find.Control.{Passed, finding, home_ask, passed_trail, walk_trail, word_ask}
-use Rattle.shm_table.specs.Find.{FindLeaves}
+use Rattle.shm_graph.specs.{declared.{ask.Me.Me, memo.Memo.Memo}, Asks.{Trail, pair, IsWithin}, Events.Event}
+use Rattle.shm_table.specs.declared.find.Found.{Found, TheVariants.{Absent, At}}
+use Rattle.shm_table.specs.Find.{Control.{Passed, finding, home_ask, passed_trail, walk_trail, word_ask}, FindLeaves}
 
 -- the whole trail by the answer, where these entries were passed
 abbrev pub IsWhole : Me → ℕ → ℕ → List Passed → Trail → Found → Type 0

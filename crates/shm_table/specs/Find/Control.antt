@@ -1,19 +1,12 @@
 -- the control of looking for a key, and what is asked
 use Rattle.std.specs.Prelude.{ℕ, ◌+◌, ◌%◌, ◌<◌, Bool, true, false, ◌==◌, if◌then◌else◌, Option, Some, None, List, [], ◌∷◌}
-use Rattle.shm_words.specs.declared.place.Place.TheVariants as place
 use Rattle.shm_words.specs.Layout.{GeometryFits, address, address_limit}
-use Rattle.shm_graph.specs.declared.ask.Ask.{Ask}
-use Rattle.shm_graph.specs.declared.ask.Ask.TheVariants.{Load}
-use Rattle.shm_graph.specs.declared.ask.Me.{Me}
-use Rattle.shm_graph.specs.declared.spot.Spot.{Spot}
-use Rattle.shm_graph.specs.declared.spot.Spot.TheVariants.{Body}
+use Rattle.shm_words.specs.declared.place.Place.TheVariants as place
+use Rattle.shm_graph.specs.declared.{ask.{Ask.{Ask, TheVariants.Load}, Me.Me}, spot.Spot.{Spot, TheVariants.Body}}
 use Rattle.shm_graph.specs.Asks.{Trail, pair}
-use Rattle.shm_calls.specs.declared.word.Word.{Word}
-use Rattle.shm_table.specs.declared.find.FindPoint.{FindPoint}
-use Rattle.shm_table.specs.declared.find.FindPoint.TheVariants.{Home, Bucket, Key, Next}
-use Rattle.shm_table.specs.declared.find.FindState.{FindState}
-use Rattle.shm_table.specs.declared.find.Found.{Found}
-use Rattle.shm_table.specs.declared.find.Found.TheVariants.{Absent, At}
+use Rattle.shm_calls.specs.{declared.word.Word.Word, Steering.Steered}
+use Rattle.shm_table.specs.declared.find.FindPoint.{FindPoint, TheVariants.{Home, Bucket, Key, Next}}
+use Rattle.shm_table.specs.declared.find.{FindState.FindState, Found.{Found, TheVariants.{Absent, At}}}
 
 -- before its first word step
 abbrev pub finding : Me → ℕ → ℕ → FindState
@@ -95,3 +88,16 @@ walk_trail me a key home ps at = pair (home_ask me a) home ∷ pair (word_ask ho
 abbrev pub led_from : ℕ → ℕ → List Passed → Spot
 led_from d i [] = Body d i
 led_from d i (p ∷ ps) = led_from p.block 0 ps
+
+-- what the plan does: its identity and its line, its calls, and where it goes by their answers
+abbrev pub find_steered : Steered FindState Word ℕ Found
+find_steered =
+    record {
+      me = λ m. m.me;
+      line = λ m. [];
+      first = λ m. is_home m.point;
+      start = λ m. finding m.me m.author m.key;
+      call = λ m. find_call m m.point;
+      after = λ m. find_after m m.point;
+      turns = λ m. find_turns m m.point;
+    }

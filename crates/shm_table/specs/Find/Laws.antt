@@ -1,44 +1,27 @@
 -- what is owed of looking for a key
 use Rattle.std.proofs.Common.{◌≡◌, ◌≢◌, ℕ, ◌+◌, ◌%◌, ◌<◌, refl, sym, ap, ◌∙◌, subst, arith, true, false, eqb, append_assoc, List, [], ◌∷◌, ◌++◌, inl, inr}
-use Rattle.std.specs.Prelude.{None, Some, ◌==◌, if◌then◌else◌}
-use Rattle.std.specs.List.{Contains}
 use Rattle.std.proofs.lemmas.Bool.{cases_eq, cond-false, cond-true, eq-eqb, ne_eqb}
 use Rattle.std.proofs.lemmas.List.Elements.{Contains-append_left, All-append, All-cons, All-nil}
+use Rattle.std.specs.{Prelude.{None, Some, ◌==◌, if◌then◌else◌}, List.Contains}
 use Rattle.shm_words.specs.Layout.{total_of, address_limit}
 use Rattle.shm_words.proofs.Placing.{total_small}
-use Rattle.shm_graph.specs.declared.ask.Me.{Me}
-use Rattle.shm_graph.specs.declared.memo.Memo.{Memo}
-use Rattle.shm_graph.specs.declared.memo.Op.TheVariants.{Nothing}
-use Rattle.shm_graph.specs.declared.spot.Spot.{Spot}
-use Rattle.shm_graph.specs.declared.spot.Spot.TheVariants.{Home, Body}
-use Rattle.shm_graph.specs.declared.table.Entry.{Entry}
-use Rattle.shm_graph.specs.Asks.{Trail, pair}
-use Rattle.shm_graph.specs.Core.{core}
-use Rattle.shm_graph.specs.Events.{Event}
-use Rattle.shm_graph.specs.Held.{is_loose}
-use Rattle.shm_graph.specs.Laws.{Outcome}
-use Rattle.shm_graph.specs.Ops.{cover_of}
-use Rattle.shm_graph.specs.Telling.{Directory, Entry as AnEntry, role_in, roles}
-use Rattle.shm_graph.specs.Views.{own_word}
-use Rattle.shm_calls.specs.Parts.{IsHeld}
-use Rattle.shm_calls.specs.Plans.{PlanLaws, PlanStays, Follows}
+use Rattle.shm_graph.specs.declared.{ask.Me.Me, memo.{Memo.Memo, Op.TheVariants.Nothing}, spot.Spot.Spot}
+use Rattle.shm_graph.specs.{declared.{spot.Spot.TheVariants.{Home, Body}, table.Entry.Entry}, Asks.{Trail, pair}}
+use Rattle.shm_graph.specs.{Core.core, Events.Event, Held.is_loose, Laws.Outcome, Ops.cover_of}
+use Rattle.shm_graph.specs.{Telling.{Directory, Entry as AnEntry, role_in, roles}, Views.own_word}
+use Rattle.shm_calls.specs.{Parts.IsHeld, Plans.{PlanLaws, PlanStays, Follows}}
 use Rattle.shm_calls.specs.Words.{word_control, word_part, word_part_laws}
-use Rattle.shm_steps.specs.Reparting.{sight, chain_in, map_in, IsKnown}
-use Rattle.shm_steps.specs.Walking.{IsIn, IsSeeking, IsVacant, Reads}
-use Rattle.shm_steps.proofs.Partitions.Seeking.{learnt_here, seek_end, seek_first}
-use Rattle.shm_steps.proofs.Partitions.Walked.{walk_nowhere}
-use Rattle.shm_steps.proofs.Words.Blocks.{idle_settled, reference_load}
-use Rattle.shm_steps.proofs.Words.Shared.{home_look}
+use Rattle.shm_steps.specs.{Reparting.{sight, chain_in, map_in, IsKnown}, Walking.{IsIn, IsSeeking, IsVacant, Reads}}
+use Rattle.shm_steps.proofs.Partitions.{Seeking.{learnt_here, seek_end, seek_first}, Walked.walk_nowhere}
+use Rattle.shm_steps.proofs.Words.{Blocks.{idle_settled, reference_load}, Shared.home_look}
 use Rattle.shm_ref.specs.AskedParts.{asked_part_laws}
-use Rattle.shm_table.specs.declared.find.FindPoint.{FindPoint}
-use Rattle.shm_table.specs.declared.find.FindPoint.TheVariants as point
-use Rattle.shm_table.specs.declared.find.FindState.{FindState}
-use Rattle.shm_table.specs.declared.find.Found.{Found}
+use Rattle.shm_table.specs.declared.find.{FindPoint.FindPoint, FindState.FindState, Found.Found}
 use Rattle.shm_table.specs.declared.find.Found.TheVariants.{Absent, At}
 use Rattle.shm_table.specs.EntryReads.{entry_load, key_load, reference_reads}
 use Rattle.shm_table.specs.Find.Control.{Passed, begin_of, find_ask, find_call, find_goes, finding, home_ask, is_home, walk_trail, word_ask}
 use Rattle.shm_table.specs.Find.{AreOthers, FindFinds, FindKnows, FindLeaves, IsAtBucket, MayFind, OnlyReads, find_part, find_plan}
 use Rattle.shm_table.specs.Find.SearchLoads.{chain_kept, chain_more, look_made, at_entry, begin_more, by_block, directory_latched, directory_room, directory_values, entry_latched, entry_plain, entry_room, home_in, led_more, look_in, next_values, one_more, reads_by, reads_more, reference_only, stays_in, walk_more, word_only}
+use Rattle.shm_table.specs.declared.find.FindPoint.TheVariants as point
 
 -- ---- the plan
 

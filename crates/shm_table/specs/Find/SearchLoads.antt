@@ -1,37 +1,21 @@
 -- what the loads of a search for a key leave of a memo, the roles of what was read, and trails
 use Rattle.std.proofs.Common.{◌≡◌, ◌≢◌, ℕ, ◌+◌, ◌%◌, ◌<◌, refl, sym, ap, ◌∙◌, subst, arith, true, false, eqb, ◌&&◌, List, [], ◌∷◌, ◌++◌, map, inl, inr, Bool}
-use Rattle.std.specs.Prelude.{None, Some, ◌==◌, if◌then◌else◌}
-use Rattle.std.specs.List.{Contains, list_any}
 use Rattle.std.proofs.lemmas.Bool.{cases_Bool, cases_eq, cond-false, cond-true, eq-eqb, false≢true, ne_eqb, or_left, or_right}
 use Rattle.std.proofs.lemmas.List.Elements.{Contains-append_left, Contains-push}
+use Rattle.std.specs.{Prelude.{None, Some, ◌==◌, if◌then◌else◌}, List.{Contains, list_any}}
 use Rattle.shm_words.specs.Layout.{total_of, address_limit}
-use Rattle.shm_graph.specs.declared.ask.Ask.{Ask}
-use Rattle.shm_graph.specs.declared.ask.Me.{Me}
-use Rattle.shm_graph.specs.declared.memo.Look.{Look}
-use Rattle.shm_graph.specs.declared.memo.Memo.{Memo}
-use Rattle.shm_graph.specs.declared.memo.Stored.{Stored}
-use Rattle.shm_graph.specs.declared.spot.Spot.{Spot}
-use Rattle.shm_graph.specs.declared.spot.Spot.TheVariants.{Home, Body}
-use Rattle.shm_graph.specs.declared.table.Entry.{Entry}
-use Rattle.shm_graph.specs.declared.table.Part.{Part}
-use Rattle.shm_graph.specs.Asks.{Trail, pair}
-use Rattle.shm_graph.specs.Core.{core}
-use Rattle.shm_graph.specs.Held.{is_loose}
-use Rattle.shm_graph.specs.Laws.{Outcome}
-use Rattle.shm_graph.specs.Reach.{learnt}
-use Rattle.shm_graph.specs.MemoAfterRead.{is_entry, valued, values_read}
-use Rattle.shm_graph.specs.Spots.{same_spot}
+use Rattle.shm_graph.specs.declared.{ask.{Ask.Ask, Me.Me}, memo.{Look.Look, Memo.Memo, Stored.Stored}, spot.Spot.Spot}
+use Rattle.shm_graph.specs.declared.{spot.Spot.TheVariants.{Home, Body}, table.{Entry.Entry, Part.Part}}
+use Rattle.shm_graph.specs.{Asks.{Trail, pair}, Core.core, Held.is_loose, Laws.Outcome, Reach.learnt}
+use Rattle.shm_graph.specs.{MemoAfterRead.{is_entry, valued, values_read}, Spots.same_spot}
 use Rattle.shm_graph.specs.Telling.{Role, Directory, Entry as AnEntry, role_in, role_read, roles, roles_from, shaped}
 use Rattle.shm_graph.specs.Trails.{Answers, Asked}
 use Rattle.shm_graph.proofs.Spots.Spotting.{same_spot_is, same_spot_self}
 use Rattle.shm_calls.specs.Parts.{IsHeld}
 use Rattle.shm_steps.specs.Walking.{IsIn, IsSeeking}
 use Rattle.shm_steps.specs.WordParts.{as_known, IsLatchedWord, IsPlainWord, ReferenceLoaded, WordLoaded}
-use Rattle.shm_steps.proofs.Covering.{role_told}
-use Rattle.shm_steps.proofs.Reaching.{look_reached}
-use Rattle.shm_steps.proofs.Partitions.Seeking.{learnt_here, learnt_other}
-use Rattle.shm_steps.proofs.Partitions.Words.{one_more_role, role_new}
-use Rattle.shm_steps.proofs.Words.Blocks.{told_inside}
+use Rattle.shm_steps.proofs.{Covering.role_told, Reaching.look_reached, Partitions.Seeking.{learnt_here, learnt_other}}
+use Rattle.shm_steps.proofs.{Partitions.Words.{one_more_role, role_new}, Words.Blocks.told_inside}
 use Rattle.shm_count.specs.TableReading.{home_role}
 use Rattle.shm_ref.specs.AskedParts.{one_pair}
 use Rattle.shm_table.specs.declared.find.Found.{Found}

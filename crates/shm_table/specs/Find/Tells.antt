@@ -1,39 +1,24 @@
 -- what a search for a key says of maps: of the own partition, and in a held state of that of the author
 use Rattle.std.proofs.Common.{◌≡◌, ◌≢◌, ℕ, ◌%◌, ◌<◌, refl, sym, ap, ◌∙◌, subst, arith, false, ltb, List, [], ◌∷◌, ◌++◌, Option, Some, None, inl, inr}
-use Rattle.std.specs.Prelude.{◌⊎◌}
-use Rattle.std.specs.List.{All, Contains}
 use Rattle.std.proofs.lemmas.Bool.{cases_eq, cond-true, lt-ltb, true≢false}
 use Rattle.std.proofs.lemmas.List.Elements.{All-cons, All-contains, All-head, All-nil, All-tail}
-use Rattle.shm_words.specs.declared.geometry.Geometry.{Geometry}
-use Rattle.shm_words.specs.Tags.{tag_author, tag_refs}
-use Rattle.shm_graph.specs.declared.ask.Me.{Me}
-use Rattle.shm_graph.specs.declared.memo.Look.{Look}
-use Rattle.shm_graph.specs.declared.memo.Memo.{Memo}
-use Rattle.shm_graph.specs.declared.memo.Op.TheVariants.{Nothing}
-use Rattle.shm_graph.specs.declared.memo.Stored.{Stored}
-use Rattle.shm_graph.specs.declared.spot.Spot.{Spot}
-use Rattle.shm_graph.specs.declared.spot.Spot.TheVariants.{Home, Tail, QueueHead, Tag, Body}
-use Rattle.shm_graph.specs.declared.table.Entry.{Entry}
-use Rattle.shm_graph.specs.declared.table.Part.{Part}
-use Rattle.shm_graph.specs.declared.table.Part.TheVariants.{Loose, Table}
-use Rattle.shm_graph.specs.Asks.{Trail}
-use Rattle.shm_graph.specs.Events.{Event}
-use Rattle.shm_graph.specs.Held.{HeldAt, InLooks, LookAt, LooksSound, PartTie, is_loose, named_by}
-use Rattle.shm_graph.specs.Ops.{cover, cover_of, covered, slot_of}
-use Rattle.shm_graph.specs.References.{refs_of, words_of}
+use Rattle.std.specs.{Prelude.◌⊎◌, List.{All, Contains}}
+use Rattle.shm_words.specs.{declared.geometry.Geometry.Geometry, Tags.{tag_author, tag_refs}}
+use Rattle.shm_graph.specs.declared.{ask.Me.Me, memo.{Look.Look, Memo.Memo, Op.TheVariants.Nothing, Stored.Stored}}
+use Rattle.shm_graph.specs.declared.spot.Spot.{Spot, TheVariants.{Home, Tail, QueueHead, Tag, Body}}
+use Rattle.shm_graph.specs.{declared.table.{Entry.Entry, Part.{Part, TheVariants.{Loose, Table}}}, Asks.Trail}
+use Rattle.shm_graph.specs.{Events.Event, Held.{HeldAt, InLooks, LookAt, LooksSound, PartTie, is_loose, named_by}}
+use Rattle.shm_graph.specs.{Ops.{cover, cover_of, covered, slot_of}, References.{refs_of, words_of}}
 use Rattle.shm_graph.specs.Tables.{Contents, contents_of, HasShape, IsChain, IsEntry, IsPartition, find}
 use Rattle.shm_graph.specs.Views.{targets, view}
 use Rattle.shm_graph.proofs.States.Counting.{cover_slot, covered_none}
 use Rattle.shm_graph.proofs.States.Holders.{InReach, held_live_not_zero, one_latch, reach_counted, step_holds}
-use Rattle.shm_graph.proofs.States.Roles.{latch_inside}
-use Rattle.shm_graph.proofs.Spots.Spotting.{same_spot_not}
+use Rattle.shm_graph.proofs.{States.Roles.latch_inside, Spots.Spotting.same_spot_not}
 use Rattle.shm_calls.specs.Parts.{IsHeld}
 use Rattle.shm_steps.specs.Reparting.{chain_in, map_in}
-use Rattle.shm_steps.proofs.Partitions.Reparted.{body_so}
-use Rattle.shm_steps.proofs.Partitions.Relinking.{found_here, found_joined, not_found}
+use Rattle.shm_steps.proofs.Partitions.{Reparted.body_so, Relinking.{found_here, found_joined, not_found}}
 use Rattle.shm_steps.proofs.Partitions.Walked.{walk_has}
-use Rattle.shm_table.specs.Find.Control.{Passed}
-use Rattle.shm_table.specs.Find.SearchLoads.{chain_kept}
+use Rattle.shm_table.specs.Find.{Control.Passed, SearchLoads.chain_kept}
 use Rattle.shm_table.specs.Find.{AreOthers, IsAbsent, IsChainRead, IsFound, IsLook}
 
 -- ---- the own partition

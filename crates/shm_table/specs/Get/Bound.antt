@@ -1,20 +1,13 @@
 -- how many word steps taking a latch and looking for a key take, and reading what a key has: by the number of the entries whose key was read
 use Rattle.std.proofs.Common.{◌≡◌, ℕ, ◌+◌, ◌*◌, refl, sym, ap, subst, arith, List, [], ◌∷◌, ◌++◌, length, length-append, inl, inr}
-use Rattle.shm_graph.specs.declared.ask.Me.{Me}
-use Rattle.shm_graph.specs.declared.memo.Memo.{Memo}
-use Rattle.shm_graph.specs.Asks.{Trail, pair, IsWithin}
-use Rattle.shm_graph.specs.Events.{Event}
+use Rattle.shm_graph.specs.{declared.{ask.Me.Me, memo.Memo.Memo}, Asks.{Trail, pair, IsWithin}, Events.Event}
 use Rattle.shm_calls.specs.CallTells.{within_more}
 use Rattle.shm_script.specs.declared.log.Answer.{Answer}
 use Rattle.shm_script.specs.declared.log.Answer.TheVariants as answer
-use Rattle.shm_table.specs.declared.find.Found.{Found}
-use Rattle.shm_table.specs.declared.find.Found.TheVariants.{Absent}
+use Rattle.shm_table.specs.declared.find.Found.{Found, TheVariants.Absent}
 use Rattle.shm_table.specs.Find.Bound.{IsWhole, find_within, keys_read, passed_length}
-use Rattle.shm_table.specs.Find.Control.{Passed, walk_trail, word_ask}
-use Rattle.shm_table.specs.Find.{EndsNowhere}
-use Rattle.shm_table.specs.Get.{GotNone, GotSome, found_trail, number_trail}
-use Rattle.shm_table.specs.Locate.{Located}
-use Rattle.shm_table.specs.Unlatch.{unlatch_trail}
+use Rattle.shm_table.specs.Find.{Control.{Passed, walk_trail, word_ask}, EndsNowhere}
+use Rattle.shm_table.specs.{Get.{GotNone, GotSome, found_trail, number_trail}, Locate.Located, Unlatch.unlatch_trail}
 
 -- ---- the latch and the search
 

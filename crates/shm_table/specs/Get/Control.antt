@@ -1,27 +1,17 @@
 -- the control of reading what a key has: which call comes next, and where it goes by what that call answered
 use Rattle.std.specs.Prelude.{ℕ, ◌%◌, ◌<◌, Bool, true, false, Option, Some, None}
 use Rattle.shm_words.specs.Layout.{GeometryFits, address_limit}
-use Rattle.shm_graph.specs.declared.ask.Ask.{Ask}
-use Rattle.shm_graph.specs.declared.ask.Me.{Me}
-use Rattle.shm_graph.specs.Laws.{Control}
-use Rattle.shm_calls.specs.declared.calls.Calls.{Calls}
-use Rattle.shm_calls.specs.declared.or.Or.{Or}
-use Rattle.shm_calls.specs.declared.or.Or.TheVariants.{First, Second}
-use Rattle.shm_calls.specs.declared.word.Word.{Word}
-use Rattle.shm_calls.specs.CallsControl.{calls_of}
-use Rattle.shm_calls.specs.Either.{or_control}
-use Rattle.shm_calls.specs.Words.{word_control}
-use Rattle.shm_script.specs.declared.log.Answer.{Answer}
+use Rattle.shm_graph.specs.{declared.ask.{Ask.Ask, Me.Me}, Laws.Control}
+use Rattle.shm_calls.specs.declared.{calls.Calls.Calls, or.Or.{Or, TheVariants.{First, Second}}, word.Word.Word}
+use Rattle.shm_calls.specs.{CallsControl.calls_of, Either.or_control, Words.word_control, Steering.Steered}
+use Rattle.shm_script.specs.{declared.log.Answer.Answer, Text.line_spelled}
 use Rattle.shm_script.specs.declared.log.Answer.TheVariants as answer
-use Rattle.shm_table.specs.declared.find.Found.{Found}
-use Rattle.shm_table.specs.declared.find.Found.TheVariants.{Absent, At}
-use Rattle.shm_table.specs.declared.get.GetPoint.{GetPoint}
+use Rattle.shm_script.specs.declared.line.Line.TheVariants as line
+use Rattle.shm_table.specs.declared.{find.Found.{Found, TheVariants.{Absent, At}}, get.GetPoint.GetPoint}
 use Rattle.shm_table.specs.declared.get.GetPoint.TheVariants.{Search, Value, Number, Missing, Known}
-use Rattle.shm_table.specs.declared.get.GetState.{GetState}
-use Rattle.shm_table.specs.Find.Control.{word_ask}
-use Rattle.shm_table.specs.Locate.Control.{locating}
-use Rattle.shm_table.specs.Locate.{LocateCalls, locate_control, locate_plan}
-use Rattle.shm_table.specs.Unlatch.{UnlatchCalls, unlatch_control, unlatch_plan, unlatching}
+use Rattle.shm_table.specs.{declared.get.GetState.GetState, Find.Control.word_ask}
+use Rattle.shm_table.specs.Locate.Control.{locating, locate_steered, LocateCalls, locate_control}
+use Rattle.shm_table.specs.Unlatch.{UnlatchCalls, unlatch_control, unlatching, unlatch_steered}
 
 -- its calls, and what they answer
 abbrev pub GetCall : Type 0
@@ -44,9 +34,9 @@ get_ask m Value = word_ask m.entry 1
 get_ask m y = word_ask m.block 0
 
 abbrev pub get_call : GetState → GetPoint → GetCall
-get_call m Search = First (calls_of locate_plan (locating m.me m.author m.key))
-get_call m Missing = Second (Second (calls_of unlatch_plan (unlatching m.me m.author)))
-get_call m Known = Second (Second (calls_of unlatch_plan (unlatching m.me m.author)))
+get_call m Search = First (calls_of locate_steered (locating m.me m.author m.key))
+get_call m Missing = Second (Second (calls_of unlatch_steered (unlatching m.me m.author)))
+get_call m Known = Second (Second (calls_of unlatch_steered (unlatching m.me m.author)))
 get_call m y = Second (First (record { me = m.me; ask = get_ask m y; over = false }))
 
 -- where it goes by the word that was loaded
@@ -84,3 +74,16 @@ pub record GetInRange (m : GetState) : Type 0 where
 -- the control of its calls
 abbrev pub get_parts : Control GetCall GetAnswer
 get_parts = or_control locate_control (or_control word_control unlatch_control)
+
+-- what the plan does: its identity and its line, its calls, and where it goes by their answers
+abbrev pub get_steered : Steered GetState GetCall GetAnswer Answer
+get_steered =
+    record {
+      me = λ m. m.me;
+      line = λ m. line_spelled (line.Get m.author m.key);
+      first = λ m. is_search m.point;
+      start = λ m. record m { entry = 0; block = 0; number = 0; point = Search };
+      call = λ m. get_call m m.point;
+      after = get_after;
+      turns = get_turns;
+    }

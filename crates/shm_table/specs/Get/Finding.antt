@@ -1,15 +1,9 @@
 -- a get in a run of a pool: what it answers, and where it finds that
 use Rattle.std.specs.Prelude.{◌≡◌, ℕ, Some, List, [], ◌∷◌, ◌++◌}
-use Rattle.shm_graph.specs.declared.ask.Me.{Me}
-use Rattle.shm_graph.specs.declared.memo.Step.{Step}
-use Rattle.shm_graph.specs.declared.run.Move.{Move}
-use Rattle.shm_graph.specs.declared.run.Move.TheVariants.{Word}
-use Rattle.shm_graph.specs.Asks.{Trail}
-use Rattle.shm_graph.specs.Laws.{Control}
-use Rattle.shm_graph.specs.Runs.{Leads, State, memos_of, moved}
+use Rattle.shm_graph.specs.{declared.{ask.Me.Me, memo.Step.Step, run.Move.{Move, TheVariants.Word}}, Asks.Trail}
+use Rattle.shm_graph.specs.{Laws.Control, Runs.{Leads, State, memos_of, moved}}
 use Rattle.shm_steps.specs.Reparting.{map_in}
-use Rattle.shm_table.specs.Find.Control.{word_ask}
-use Rattle.shm_table.specs.Find.Tells.{HasKey}
+use Rattle.shm_table.specs.Find.{Control.word_ask, Tells.HasKey}
 
 -- a machine asks for these, and answers this at the last one
 abbrev pub IsAnswered : {S A : Type 0} → Control S A → S → Trail → A → Type 0

@@ -1,46 +1,28 @@
 -- what is owed of reading what a key has
 use Rattle.std.proofs.Common.{◌≡◌, ◌≢◌, ℕ, ◌+◌, ◌%◌, ◌<◌, refl, sym, ap, ◌∙◌, subst, arith, false, append_assoc, append-nil, List, [], ◌∷◌, ◌++◌, Bool}
-use Rattle.std.specs.Prelude.{Some}
-use Rattle.std.specs.List.{Contains}
+use Rattle.std.specs.{Prelude.Some, List.Contains}
 use Rattle.shm_words.specs.Layout.{total_of, address_limit}
 use Rattle.shm_words.proofs.Placing.{total_small}
-use Rattle.shm_graph.specs.declared.ask.Me.{Me}
-use Rattle.shm_graph.specs.declared.memo.Memo.{Memo}
-use Rattle.shm_graph.specs.declared.memo.Op.TheVariants.{Nothing}
-use Rattle.shm_graph.specs.declared.memo.Stored.{Stored}
-use Rattle.shm_graph.specs.declared.spot.Spot.TheVariants.{Body}
-use Rattle.shm_graph.specs.Asks.{Trail, pair}
-use Rattle.shm_graph.specs.Events.{Event}
-use Rattle.shm_graph.specs.Held.{is_loose}
-use Rattle.shm_graph.specs.Trails.{Answers, Asked}
-use Rattle.shm_graph.specs.Telling.{Entry as AnEntry, Value as AValue, shaped}
-use Rattle.shm_calls.specs.declared.or.Or.TheVariants.{First, Second}
-use Rattle.shm_calls.specs.CallsPart.{calls_part, calls_part_laws}
-use Rattle.shm_calls.specs.Either.{or_control, or_part, or_part_laws}
-use Rattle.shm_calls.specs.Parts.{IsHeld}
+use Rattle.shm_graph.specs.declared.{ask.Me.Me, memo.{Memo.Memo, Op.TheVariants.Nothing, Stored.Stored}}
+use Rattle.shm_graph.specs.{declared.spot.Spot.TheVariants.Body, Asks.{Trail, pair}, Events.Event, Held.is_loose}
+use Rattle.shm_graph.specs.{Trails.{Answers, Asked}, Telling.{Entry as AnEntry, Value as AValue, shaped}}
+use Rattle.shm_calls.specs.{declared.or.Or.TheVariants.{First, Second}, CallsPart.{calls_part, calls_part_laws}}
+use Rattle.shm_calls.specs.{Either.{or_control, or_part, or_part_laws}, Parts.IsHeld}
 use Rattle.shm_calls.specs.Plans.{PlanLaws, PlanStays, IsCall, Follows}
 use Rattle.shm_calls.specs.Words.{word_control, word_part, word_part_laws}
-use Rattle.shm_steps.specs.Reparting.{map_in}
-use Rattle.shm_steps.specs.Walking.{IsIn}
-use Rattle.shm_steps.specs.WordParts.{IsPlainWord, ReferenceLoaded, WordLoaded}
-use Rattle.shm_steps.proofs.Covering.{role_told}
-use Rattle.shm_steps.proofs.Partitions.Seeking.{learnt_here}
+use Rattle.shm_steps.specs.{Reparting.map_in, Walking.IsIn, WordParts.{IsPlainWord, ReferenceLoaded, WordLoaded}}
+use Rattle.shm_steps.proofs.{Covering.role_told, Partitions.Seeking.learnt_here}
 use Rattle.shm_steps.proofs.Words.Blocks.{idle_settled, plain_load, reference_load, told_inside}
 use Rattle.shm_ref.specs.AskedParts.{asked_part_laws, one_pair}
-use Rattle.shm_table.specs.declared.find.Found.{Found}
-use Rattle.shm_table.specs.declared.find.Found.TheVariants.{Absent, At}
-use Rattle.shm_table.specs.declared.get.GetPoint.{GetPoint}
+use Rattle.shm_table.specs.declared.{find.Found.{Found, TheVariants.{Absent, At}}, get.GetPoint.GetPoint}
 use Rattle.shm_table.specs.declared.get.GetPoint.TheVariants.{Search, Value, Number, Missing, Known}
-use Rattle.shm_table.specs.declared.get.GetState.{GetState}
-use Rattle.shm_table.specs.EntryReads.{reference_reads}
-use Rattle.shm_table.specs.Find.Control.{word_ask}
+use Rattle.shm_table.specs.{declared.get.GetState.GetState, EntryReads.reference_reads, Find.Control.word_ask}
 use Rattle.shm_table.specs.Find.SearchLoads.{entry_latched, look_in, look_made}
 use Rattle.shm_table.specs.Find.Tells.{absent_tells, author_maps, entry_value, has_read, read_kept}
 use Rattle.shm_table.specs.Get.Control.{GetAnswer, get_ask, get_call, get_parts, getting, is_search}
 use Rattle.shm_table.specs.Get.{GetFound, GetKnows, GotNone, GotSome, IsAt, IsNowhere, IsReading, IsTold, found_trail, get_part, get_plan, get_word_part, number_trail, value_trail}
 use Rattle.shm_table.specs.Get.UnderLatch.{ReadsMore, reads_on, reference_more, searched, visited, word_more}
-use Rattle.shm_table.specs.Locate.Control.{locate_parts}
-use Rattle.shm_table.specs.Locate.{Located, MayLocate, locate_control, locate_plan}
+use Rattle.shm_table.specs.Locate.{Control.{locate_parts, locate_control}, Located, MayLocate, locate_plan}
 use Rattle.shm_table.specs.Locate.Laws.{live_here, locate_begin, locate_laws}
 use Rattle.shm_table.specs.Unlatch.{MayUnlatch, Unlatched, unlatch_control, unlatch_plan, unlatch_trail}
 use Rattle.shm_table.specs.Unlatch.Laws.{unlatch_begin, unlatch_laws}

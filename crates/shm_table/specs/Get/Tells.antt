@@ -1,29 +1,16 @@
 -- what a latch that was taken and a search say of maps, and reading what a key has: of the own map, and in a held state of that of the author
 use Rattle.std.proofs.Common.{◌≡◌, ℕ, ◌<◌, refl, sym, ap, ◌∙◌, subst, false}
 use Rattle.std.specs.Prelude.{Some, None, List}
-use Rattle.shm_graph.specs.declared.ask.Me.{Me}
-use Rattle.shm_graph.specs.declared.memo.Memo.{Memo}
-use Rattle.shm_graph.specs.declared.spot.Spot.{Spot}
-use Rattle.shm_graph.specs.declared.spot.Spot.TheVariants.{Body}
-use Rattle.shm_graph.specs.Asks.{Trail}
-use Rattle.shm_graph.specs.Events.{Event}
-use Rattle.shm_graph.specs.Held.{HeldAt}
-use Rattle.shm_graph.specs.Views.{view}
-use Rattle.shm_calls.specs.declared.or.Or.TheVariants.{First, Second}
-use Rattle.shm_calls.specs.CallsControl.{calls_of}
-use Rattle.shm_calls.specs.CallsFit.{CallsFits}
+use Rattle.shm_graph.specs.{declared.{ask.Me.Me, memo.Memo.Memo, spot.Spot.{Spot, TheVariants.Body}}, Asks.Trail}
+use Rattle.shm_graph.specs.{Events.Event, Held.HeldAt, Views.view}
+use Rattle.shm_calls.specs.{declared.or.Or.TheVariants.{First, Second}, CallsControl.calls_of, CallsFit.CallsFits}
 use Rattle.shm_calls.specs.Words.{word_control}
 use Rattle.shm_steps.specs.Reparting.{map_in}
-use Rattle.shm_table.specs.declared.find.Found.TheVariants.{Absent, At}
-use Rattle.shm_table.specs.declared.get.GetPoint.TheVariants.{Known, Number}
-use Rattle.shm_table.specs.declared.get.GetState.{GetState}
-use Rattle.shm_table.specs.Find.Control.{word_ask}
-use Rattle.shm_table.specs.Find.{IsLook}
+use Rattle.shm_table.specs.declared.{find.Found.TheVariants.{Absent, At}, get.GetPoint.TheVariants.{Known, Number}}
+use Rattle.shm_table.specs.{declared.get.GetState.GetState, Find.{Control.word_ask, IsLook}}
 use Rattle.shm_table.specs.Find.Tells.{HasRead, absent_tells, author_maps, author_names, found_tells, has_read}
-use Rattle.shm_table.specs.Get.Control.{GetCalls, GetCall, get_parts}
-use Rattle.shm_table.specs.Get.{GetKnows, IsAt, IsTold, get_plan, number_trail}
-use Rattle.shm_table.specs.Locate.{Located}
-use Rattle.shm_table.specs.Unlatch.{UnlatchCalls, unlatch_plan, unlatching}
+use Rattle.shm_table.specs.Get.{Control.{GetCalls, GetCall, get_parts}, GetKnows, IsAt, IsTold, get_plan, number_trail}
+use Rattle.shm_table.specs.{Locate.Located, Unlatch.{UnlatchCalls, unlatch_plan, unlatching, unlatch_steered}}
 
 -- ---- the latch and the search
 
@@ -62,17 +49,17 @@ named_maps m r0 r tr fit named w rs h same =
 -- the machine is about to give back the latch, once the number is known
 pub record IsReady (m : GetCalls) : Type 0 where
   pub point : m.plan.point ≡ Known
-  pub call : m.call ≡ Second (Second (calls_of unlatch_plan (unlatching m.plan.me m.plan.author)))
+  pub call : m.call ≡ Second (Second (calls_of unlatch_steered (unlatching m.plan.me m.plan.author)))
 
 -- what is known at that point
 known_at : (m : GetState) (r0 r : Memo) (tr : Trail) (es : List Event) → m.point ≡ Known → GetKnows m m.point r0 r tr es → IsAt m.me m.author m.key m.entry (number_trail m.entry m.block m.number) r0 r tr es × IsTold m.author m.key m.entry m.number m.block r
 known_at m r0 r tr es e h = subst (λ y. GetKnows m y r0 r tr es) e h
 
 -- the giving back of the latch has made no word step yet: the memo is the one before it
-not_begun : (me : Me) (a : ℕ) (u : UnlatchCalls) (r0 r : Memo) (t : Trail) → u ≡ calls_of unlatch_plan (unlatching me a) → CallsFits word_control unlatch_plan u r0 r t → r ≡ r0
+not_begun : (me : Me) (a : ℕ) (u : UnlatchCalls) (r0 r : Memo) (t : Trail) → u ≡ calls_of unlatch_steered (unlatching me a) → CallsFits word_control unlatch_plan u r0 r t → r ≡ r0
 not_begun me a u r0 r t e fit = go (subst (λ (x : UnlatchCalls). CallsFits word_control unlatch_plan x r0 r t) e fit)
   where
-    go : CallsFits word_control unlatch_plan (calls_of unlatch_plan (unlatching me a)) r0 r t → r ≡ r0
+    go : CallsFits word_control unlatch_plan (calls_of unlatch_steered (unlatching me a)) r0 r t → r ≡ r0
     go f = f.fits.same ∙ f.knows.1
 
 -- then the memo shows the chain, the value word and the number
@@ -80,11 +67,11 @@ pub ready_told : (m : GetCalls) (r0 r : Memo) (tr : Trail) → CallsFits get_par
     → (m.plan.me.who < m.plan.me.geometry.clients) × IsTold m.plan.author m.plan.key m.plan.entry m.plan.number m.plan.block r
 ready_told m r0 r tr fit ready =
     let k = known_at m.plan r0 fit.rs fit.before fit.es ready.point fit.knows in
-    let same : r ≡ fit.rs = begun (subst (λ y. (get_plan.part (record m.plan { point = y })).fits (Second (Second (calls_of unlatch_plan (unlatching m.plan.me m.plan.author)))) fit.rs r fit.t) ready.point (subst (λ (c : GetCall). (get_plan.part m.plan).fits c fit.rs r fit.t) ready.call fit.fits)) in
+    let same : r ≡ fit.rs = begun (subst (λ y. (get_plan.part (record m.plan { point = y })).fits (Second (Second (calls_of unlatch_steered (unlatching m.plan.me m.plan.author)))) fit.rs r fit.t) ready.point (subst (λ (c : GetCall). (get_plan.part m.plan).fits c fit.rs r fit.t) ready.call fit.fits)) in
     (k.0.reading.may.who, subst (IsTold m.plan.author m.plan.key m.plan.entry m.plan.number m.plan.block) (sym same) k.1)
   where
-    begun : CallsFits word_control unlatch_plan (calls_of unlatch_plan (unlatching m.plan.me m.plan.author)) fit.rs r fit.t → r ≡ fit.rs
-    begun f = not_begun m.plan.me m.plan.author (calls_of unlatch_plan (unlatching m.plan.me m.plan.author)) fit.rs r fit.t refl f
+    begun : CallsFits word_control unlatch_plan (calls_of unlatch_steered (unlatching m.plan.me m.plan.author)) fit.rs r fit.t → r ≡ fit.rs
+    begun f = not_begun m.plan.me m.plan.author (calls_of unlatch_steered (unlatching m.plan.me m.plan.author)) fit.rs r fit.t refl f
 
 -- and in each held state with that memo the author's map has the number and the value block at the key
 pub ready_maps : (m : GetCalls) (r0 r : Memo) (tr : Trail) → CallsFits get_parts get_plan m r0 r tr → IsReady m

@@ -1,41 +1,22 @@
 -- what reading under a latch leaves of a memo, and what is left once the latch is given back
 use Rattle.std.proofs.Common.{◌≡◌, ◌≢◌, ℕ, ◌<◌, refl, sym, ap, ◌∙◌, subst, arith, Bool, true, eqb, ◌&&◌, List, [], ◌∷◌, ◌++◌, inl, inr}
-use Rattle.std.specs.Prelude.{None, Some}
-use Rattle.std.specs.List.{Contains}
 use Rattle.std.proofs.lemmas.Bool.{cases_Bool, cases_eq, cond-false, cond-true, eq-eqb, false≢true, ne_eqb}
 use Rattle.std.proofs.lemmas.List.Elements.{Contains-append_left, Contains-append_right}
-use Rattle.shm_graph.specs.declared.ask.Me.{Me}
-use Rattle.shm_graph.specs.declared.memo.Look.{Look}
-use Rattle.shm_graph.specs.declared.memo.Memo.{Memo}
-use Rattle.shm_graph.specs.declared.memo.Op.TheVariants.{Nothing}
-use Rattle.shm_graph.specs.declared.memo.Stored.{Stored}
-use Rattle.shm_graph.specs.declared.spot.Spot.{Spot}
-use Rattle.shm_graph.specs.declared.spot.Spot.TheVariants.{Body, Era, Hold, Root, Tag}
-use Rattle.shm_graph.specs.Asks.{Trail}
-use Rattle.shm_graph.specs.Core.{core}
-use Rattle.shm_graph.specs.Events.{Event}
-use Rattle.shm_graph.specs.Held.{is_loose, is_slot}
-use Rattle.shm_graph.specs.Idle.{hold_word}
+use Rattle.std.specs.{Prelude.{None, Some}, List.Contains}
+use Rattle.shm_graph.specs.declared.{ask.Me.Me, memo.{Look.Look, Memo.Memo, Op.TheVariants.Nothing, Stored.Stored}}
+use Rattle.shm_graph.specs.{declared.spot.Spot.{Spot, TheVariants.{Body, Era, Hold, Root, Tag}}, Asks.Trail, Core.core}
+use Rattle.shm_graph.specs.{Events.Event, Held.{is_loose, is_slot}, Idle.hold_word}
 use Rattle.shm_graph.specs.Reach.{binds_unlatched, is_latch_of, learnt, unlatched}
-use Rattle.shm_graph.specs.MemoAfterRead.{is_entry, valued, values_read}
-use Rattle.shm_graph.specs.Spots.{same_spot}
-use Rattle.shm_graph.specs.Telling.{role_in, roles}
+use Rattle.shm_graph.specs.{MemoAfterRead.{is_entry, valued, values_read}, Spots.same_spot, Telling.{role_in, roles}}
 use Rattle.shm_graph.specs.Views.{own_word}
-use Rattle.shm_graph.proofs.StepKinds.Loads.{choice}
-use Rattle.shm_graph.proofs.Spots.Spotting.{same_spot_is}
+use Rattle.shm_graph.proofs.{StepKinds.Loads.choice, Spots.Spotting.same_spot_is}
 use Rattle.shm_calls.specs.Parts.{IsHeld}
 use Rattle.shm_laws.proofs.Keep.{Contains-filter}
-use Rattle.shm_steps.specs.Reparting.{sight, map_in, IsValue}
-use Rattle.shm_steps.specs.WordParts.{ReferenceLoaded, WordLoaded}
+use Rattle.shm_steps.specs.{Reparting.{sight, map_in, IsValue}, WordParts.{ReferenceLoaded, WordLoaded}}
 use Rattle.shm_steps.proofs.UnlatchedValue.{value_unlatched}
-use Rattle.shm_count.specs.Roots.{root_word}
-use Rattle.shm_count.specs.Tear.Memos.{Knows}
-use Rattle.shm_table.specs.Find.{OnlyReads}
-use Rattle.shm_table.specs.Find.SearchLoads.{learnt_keeps, word_only}
-use Rattle.shm_table.specs.Get.{IsReading, Visited}
-use Rattle.shm_table.specs.Locate.{MayLocate}
-use Rattle.shm_table.specs.Staying.{Keeps, Latched}
-use Rattle.shm_table.specs.Unlatch.{Unlatched}
+use Rattle.shm_count.specs.{Roots.root_word, Tear.Memos.Knows}
+use Rattle.shm_table.specs.{Find.{OnlyReads, SearchLoads.{learnt_keeps, word_only}}, Get.{IsReading, Visited}}
+use Rattle.shm_table.specs.{Locate.MayLocate, Staying.{Keeps, Latched}, Unlatch.Unlatched}
 
 -- ---- reading
 

@@ -1,40 +1,22 @@
 -- what is owed of taking a latch and looking for a key
 use Rattle.std.proofs.Common.{◌≡◌, ℕ, ◌+◌, refl, sym, ap, ◌∙◌, subst, arith, cond, List, [], ◌∷◌, ◌++◌, length, inl, inr}
-use Rattle.std.specs.Prelude.{Some, Result, Ok, Err}
 use Rattle.std.proofs.lemmas.Bool.{cases_Bool, cond-false, cond-true, ne_eqb}
-use Rattle.shm_graph.specs.declared.ask.Me.{Me}
-use Rattle.shm_graph.specs.declared.memo.Memo.{Memo}
+use Rattle.std.specs.Prelude.{Some, Result, Ok, Err}
+use Rattle.shm_graph.specs.declared.{ask.Me.Me, memo.{Memo.Memo, Stored.Stored}, spot.Spot.{Spot, TheVariants.Hold}}
+use Rattle.shm_graph.specs.{Asks.{Trail, IsWithin, failed}, Core.core, Events.Event, Held.is_loose}
+use Rattle.shm_graph.specs.{Idle.{IsIdle, hold_word}, Spots.same_spot, Views.own_word}
 use Rattle.shm_graph.specs.declared.memo.Status.TheVariants as status
-use Rattle.shm_graph.specs.declared.memo.Stored.{Stored}
-use Rattle.shm_graph.specs.declared.spot.Spot.{Spot}
-use Rattle.shm_graph.specs.declared.spot.Spot.TheVariants.{Hold}
-use Rattle.shm_graph.specs.Asks.{Trail, IsWithin, failed}
-use Rattle.shm_graph.specs.Core.{core}
-use Rattle.shm_graph.specs.Events.{Event}
-use Rattle.shm_graph.specs.Held.{is_loose}
-use Rattle.shm_graph.specs.Idle.{IsIdle, hold_word}
-use Rattle.shm_graph.specs.Spots.{same_spot}
-use Rattle.shm_graph.specs.Views.{own_word}
 use Rattle.shm_graph.proofs.Spots.Spotting.{same_spot_is, same_spot_self}
 use Rattle.shm_steps.specs.Conditions.{IsHere}
-use Rattle.shm_calls.specs.declared.or.Or.TheVariants.{First, Second}
-use Rattle.shm_calls.specs.CallTells.{within_more}
-use Rattle.shm_calls.specs.CallsPart.{calls_part, calls_part_laws}
-use Rattle.shm_calls.specs.Either.{or_part_laws}
-use Rattle.shm_calls.specs.Plans.{PlanLaws, PlanStays, IsCall, Follows}
-use Rattle.shm_calls.specs.Words.{word_control}
-use Rattle.shm_ref.specs.declared.answer.Busy.{Busy}
-use Rattle.shm_ref.specs.Hold.Control.{busy_trail, holding}
-use Rattle.shm_ref.specs.Hold.{HoldLeaves, IsBusy, MayTakeLatch, LatchTaken, hold_plan}
-use Rattle.shm_ref.specs.Hold.Laws.{hold_begin, hold_laws}
+use Rattle.shm_calls.specs.{declared.or.Or.TheVariants.{First, Second}, CallTells.within_more}
+use Rattle.shm_calls.specs.{CallsPart.{calls_part, calls_part_laws}, Either.or_part_laws}
+use Rattle.shm_calls.specs.{Plans.{PlanLaws, PlanStays, IsCall, Follows}, Words.word_control}
+use Rattle.shm_ref.specs.{declared.answer.Busy.Busy, Hold.Control.{busy_trail, holding}}
+use Rattle.shm_ref.specs.Hold.{HoldLeaves, IsBusy, MayTakeLatch, LatchTaken, hold_plan, Laws.{hold_begin, hold_laws}}
 use Rattle.shm_ref.specs.Machines.{hold}
-use Rattle.shm_table.specs.declared.find.Found.{Found}
-use Rattle.shm_table.specs.declared.find.Found.TheVariants.{Absent, At}
-use Rattle.shm_table.specs.declared.locate.LocatePoint.{LocatePoint}
-use Rattle.shm_table.specs.declared.locate.LocatePoint.TheVariants.{Take, Again, Search}
-use Rattle.shm_table.specs.declared.locate.LocateState.{LocateState}
-use Rattle.shm_table.specs.Find.Control.{finding}
-use Rattle.shm_table.specs.Find.{FindLeaves, MayFind, OnlyReads, find_plan}
+use Rattle.shm_table.specs.declared.{find.Found.{Found, TheVariants.{Absent, At}}, locate.LocatePoint.LocatePoint}
+use Rattle.shm_table.specs.declared.locate.{LocatePoint.TheVariants.{Take, Again, Search}, LocateState.LocateState}
+use Rattle.shm_table.specs.Find.{Control.finding, FindLeaves, MayFind, OnlyReads, find_plan}
 use Rattle.shm_table.specs.Find.Laws.{find_begin, find_laws}
 use Rattle.shm_table.specs.Locate.Control.{LocateAnswer, find_control, is_take, locate_call, locate_parts, locating}
 use Rattle.shm_table.specs.Locate.{IsHolding, IsTrying, LocateKnows, MayLocate, locate_part, locate_plan}

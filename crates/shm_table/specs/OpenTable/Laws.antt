@@ -1,82 +1,45 @@
 -- what is owed of a home that comes to name a directory
 use Rattle.std.proofs.Common.{◌≡◌, ◌≢◌, ℕ, zero, suc, ◌+◌, ◌%◌, ◌^◌, ◌<◌, refl, sym, ap, ◌∙◌, subst, arith, Bool, true, false, not, ◌&&◌, List, [], ◌∷◌, ◌++◌, inl, inr, length, slice_index}
-use Rattle.std.specs.Prelude.{◌==◌, if◌then◌else◌, Some, None, Ok, Err}
 use Rattle.std.proofs.lemmas.Bool.{cases_eq, cond-false, lt-ltb, ne_eqb}
+use Rattle.std.specs.Prelude.{◌==◌, if◌then◌else◌, Some, None, Ok, Err}
+use Rattle.shm_words.specs.Layout.{address_limit}
 use Rattle.shm_words.specs.declared.place.Place.TheVariants as place
 use Rattle.shm_words.proofs.Placing.{address_small, total_small}
-use Rattle.shm_words.specs.Layout.{address_limit}
+use Rattle.shm_graph.specs.declared.{ask.Me.Me, memo.{Memo.Memo, Op.TheVariants.Nothing}, spot.Spot.TheVariants.Home}
+use Rattle.shm_graph.specs.{declared.table.Part.Part, Agents.recovers, Asks.{Trail, IsWithin}}
+use Rattle.shm_graph.specs.{Bounds.{alloc_steps, redo_steps, tear_steps, up_steps}, Core.core, Events.Event}
+use Rattle.shm_graph.specs.{Idle.IsIdle, Laws.Outcome, Reach.is_reached, MemoAfterRead.{home_read, is_held}}
+use Rattle.shm_graph.specs.{Spots.spot_address, Views.own_word}
 use Rattle.shm_graph.specs.declared.ask.Ask.TheVariants as ask
-use Rattle.shm_graph.specs.declared.ask.Me.{Me}
-use Rattle.shm_graph.specs.declared.memo.Memo.{Memo}
-use Rattle.shm_graph.specs.declared.memo.Op.TheVariants.{Nothing}
-use Rattle.shm_graph.specs.declared.spot.Spot.TheVariants.{Home}
-use Rattle.shm_graph.specs.declared.table.Part.{Part}
-use Rattle.shm_graph.specs.Agents.{recovers}
-use Rattle.shm_graph.specs.Asks.{Trail, IsWithin}
-use Rattle.shm_graph.specs.Bounds.{alloc_steps, redo_steps, tear_steps, up_steps}
-use Rattle.shm_graph.specs.Core.{core}
-use Rattle.shm_graph.specs.Events.{Event}
 use Rattle.shm_graph.specs.Events as event
-use Rattle.shm_graph.specs.Idle.{IsIdle}
-use Rattle.shm_graph.specs.Laws.{Outcome}
-use Rattle.shm_graph.specs.Reach.{is_reached}
-use Rattle.shm_graph.specs.MemoAfterRead.{home_read, is_held}
-use Rattle.shm_graph.specs.Spots.{spot_address}
-use Rattle.shm_graph.specs.Views.{own_word}
-use Rattle.shm_steps.specs.Conditions.{IsHere}
-use Rattle.shm_steps.specs.Reparting.{sight, map_in, IsBare}
-use Rattle.shm_steps.specs.Reparting.TableStep.{Founds}
+use Rattle.shm_steps.specs.{Conditions.IsHere, Reparting.{sight, map_in, IsBare, TableStep.Founds}}
 use Rattle.shm_steps.proofs.Reaching.{root_reached}
-use Rattle.shm_calls.specs.declared.or.Or.TheVariants.{First, Second}
-use Rattle.shm_calls.specs.CallTells.{within_more}
-use Rattle.shm_calls.specs.CallsPart.{calls_part, calls_part_laws}
-use Rattle.shm_calls.specs.Either.{or_control, or_part, or_part_laws}
-use Rattle.shm_calls.specs.Parts.{IsHeld, PartLaws}
-use Rattle.shm_calls.specs.Plans.{PlanLaws, PlanStays, IsCall, Follows}
+use Rattle.shm_calls.specs.{declared.or.Or.TheVariants.{First, Second}, CallTells.within_more}
+use Rattle.shm_calls.specs.{CallsPart.{calls_part, calls_part_laws}, Either.{or_control, or_part, or_part_laws}}
+use Rattle.shm_calls.specs.{Parts.{IsHeld, PartLaws}, Plans.{PlanLaws, PlanStays, IsCall, Follows}}
 use Rattle.shm_calls.specs.Words.{word_control, word_part_laws, WordLeaves}
-use Rattle.shm_count.specs.declared.answer.EraSpent.{EraSpent as ASpent}
-use Rattle.shm_count.specs.declared.answer.Made.{Made}
-use Rattle.shm_count.specs.declared.answer.UpFault.TheVariants.{CountFull, EraSpent}
-use Rattle.shm_count.specs.declared.point.Aim.TheVariants.{Up}
+use Rattle.shm_count.specs.declared.answer.{EraSpent.EraSpent as ASpent, Made.Made}
+use Rattle.shm_count.specs.declared.{answer.UpFault.TheVariants.{CountFull, EraSpent}, point.Aim.TheVariants.Up}
+use Rattle.shm_count.specs.{MadeSteps.made_up_laws, Slots.{Filled, Parts.{untouched, up_slot_laws}, Ups.up_leaves}}
+use Rattle.shm_count.specs.Step.{Bound.step_bound, Control.IsInside, CanStep, Machines.{up_control, up_told}}
+use Rattle.shm_count.specs.{TableSteps.can_found, Tear.Events.frees, CountParts.StepLeaves}
 use Rattle.shm_count.specs.declared.point.StepPoint.TheVariants as step
-use Rattle.shm_count.specs.MadeSteps.{made_up_laws}
-use Rattle.shm_count.specs.Slots.{Filled}
-use Rattle.shm_count.specs.Slots.Parts.{untouched, up_slot_laws}
-use Rattle.shm_count.specs.Slots.Ups.{up_leaves}
-use Rattle.shm_count.specs.Step.Bound.{step_bound}
-use Rattle.shm_count.specs.Step.Control.{IsInside}
-use Rattle.shm_count.specs.Step.{CanStep}
-use Rattle.shm_count.specs.Step.Machines.{up_control, up_told}
-use Rattle.shm_count.specs.TableSteps.{can_found}
-use Rattle.shm_count.specs.Tear.Events.{frees}
-use Rattle.shm_alloc.specs.declared.alloc.AllocFault.{AllocFault}
-use Rattle.shm_alloc.specs.declared.point.AllocPoint.TheVariants as alloc
-use Rattle.shm_alloc.specs.Alloc.Carrying.{made_bare}
-use Rattle.shm_alloc.specs.Alloc.Control.{RequestFits, alloc_control}
-use Rattle.shm_alloc.specs.Alloc.{MadeGives}
+use Rattle.shm_alloc.specs.{declared.{alloc.AllocFault.AllocFault, request.Request.Request}, Alloc.Carrying.made_bare}
+use Rattle.shm_alloc.specs.Alloc.{Control.{RequestFits, alloc_control}, MadeGives}
 use Rattle.shm_alloc.specs.Alloc.AsPart.{AllocLeaves, alloc_part, alloc_part_laws}
-use Rattle.shm_alloc.proofs.AllocBound.{alloc_bound}
-use Rattle.shm_alloc.proofs.MadeBlocks.{block_inside}
-use Rattle.shm_ref.specs.DropRoot.Control.{drop_parts, dropping}
-use Rattle.shm_ref.specs.DropRoot.{DropLeaves, drop_plan}
-use Rattle.shm_ref.specs.DropRoot.Laws.{drop_laws}
-use Rattle.shm_ref.specs.HomeParts.{OwnHomeRead, home_address, home_needs, home_part}
-use Rattle.shm_ref.specs.Lefts.{RootEvents}
+use Rattle.shm_alloc.specs.declared.point.AllocPoint.TheVariants as alloc
+use Rattle.shm_alloc.proofs.{AllocBound.alloc_bound, MadeBlocks.block_inside}
+use Rattle.shm_ref.specs.DropRoot.{Control.{drop_parts, dropping}, DropLeaves, drop_plan, Laws.drop_laws}
+use Rattle.shm_ref.specs.{HomeParts.{OwnHomeRead, home_address, home_needs, home_part}, Lefts.RootEvents}
 use Rattle.shm_ref.specs.DropRoots.Control.{drop_root}
-use Rattle.shm_table.specs.declared.open_table.OpenPoint.{OpenPoint}
-use Rattle.shm_table.specs.declared.open_table.OpenPoint.TheVariants.{Look, Make, Name, Drop}
-use Rattle.shm_table.specs.declared.open_table.OpenState.{OpenState}
-use Rattle.shm_alloc.specs.declared.request.Request.{Request}
-use Rattle.shm_count.specs.CountParts.{StepLeaves}
-use Rattle.shm_table.specs.declared.answer.PutFault.TheVariants.{EraSpent as Spent}
+use Rattle.shm_table.specs.declared.open_table.OpenPoint.{OpenPoint, TheVariants.{Look, Make, Name, Drop}}
+use Rattle.shm_table.specs.declared.{open_table.OpenState.OpenState, answer.PutFault.TheVariants.EraSpent as Spent}
 use Rattle.shm_table.specs.Answers.{made_fault, spent_fault}
 use Rattle.shm_table.specs.OpenTable.Control.{OpenAnswer, directory_request, is_look, open_call_at, open_parts}
 use Rattle.shm_table.specs.OpenTable.{IsMade, IsNamed, IsOpening, IsUnopened, MayOpen, OpenKnows, OpenLeaves, OpenRefused, Opened, name_part, open_plan}
-use Rattle.shm_table.specs.OpenTable.OpenEvents.{Founded, Named}
-use Rattle.shm_table.specs.OpenTable.OpenLeft.{Undropped, Unmade, Unnamed}
+use Rattle.shm_table.specs.OpenTable.{OpenEvents.{Founded, Named}, OpenLeft.{Undropped, Unmade, Unnamed}}
 use Rattle.shm_table.specs.Staying.Laws.{cause_before, cleared_drop, dropped_else, home_else, keeps_core, keeps_drop, keeps_home, keeps_made, keeps_more, keeps_untouched, made_cause, made_home, made_others, made_root, raised_cause, rests_core, rests_more, rests_unmade, rests_untouched, same_map, spent_drop}
-use Rattle.shm_table.specs.Staying.Steps.{map_home}
-use Rattle.shm_table.specs.Costs.{tear_same}
+use Rattle.shm_table.specs.{Staying.Steps.map_home, Costs.tear_same}
 
 -- ---- the home
 

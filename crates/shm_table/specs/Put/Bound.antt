@@ -1,17 +1,11 @@
 -- how many word steps it takes that a key comes to have a number
 use Rattle.std.proofs.Common.{ℕ, ◌+◌, ◌*◌, arith, List, Bool}
-use Rattle.shm_graph.specs.declared.ask.Me.{Me}
-use Rattle.shm_graph.specs.declared.memo.Memo.{Memo}
-use Rattle.shm_graph.specs.Asks.{Trail}
-use Rattle.shm_graph.specs.Bounds.{command_steps, tear_steps}
+use Rattle.shm_graph.specs.{declared.{ask.Me.Me, memo.Memo.Memo}, Asks.Trail, Bounds.{command_steps, tear_steps}}
 use Rattle.shm_graph.specs.Events.{Event}
 use Rattle.shm_script.specs.declared.log.Answer.{Answer}
 use Rattle.shm_script.specs.declared.log.Answer.TheVariants as answer
-use Rattle.shm_table.specs.declared.answer.PutFault.{PutFault}
-use Rattle.shm_table.specs.declared.answer.PutFault.TheVariants.{EraSpent, RootsFull, Full, CountFull}
-use Rattle.shm_table.specs.Put.Control.{putting}
-use Rattle.shm_table.specs.Put.{NotStored, PutLeaves, put_steps}
-use Rattle.shm_table.specs.PutRoot.Bound.{IsPutShort}
+use Rattle.shm_table.specs.declared.answer.PutFault.{PutFault, TheVariants.{EraSpent, RootsFull, Full, CountFull}}
+use Rattle.shm_table.specs.{Put.{Control.putting, NotStored, PutLeaves, put_steps}, PutRoot.Bound.IsPutShort}
 
 -- those of its calls
 abbrev pub own_steps : Bool → ℕ → ℕ → ℕ → ℕ

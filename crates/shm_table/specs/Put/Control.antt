@@ -1,32 +1,20 @@
 -- the control of a put: which call comes next, and where it goes by what that call answered
 use Rattle.std.specs.Prelude.{ℕ, ◌%◌, ◌<◌, Bool, true, false, Option, Some, None, Result, Ok, Err, [], ◌∷◌}
 use Rattle.shm_words.specs.Layout.{GeometryFits, address_limit}
-use Rattle.shm_graph.specs.declared.ask.Me.{Me}
-use Rattle.shm_graph.specs.Laws.{Control}
-use Rattle.shm_calls.specs.declared.calls.Calls.{Calls}
-use Rattle.shm_calls.specs.declared.or.Or.{Or}
-use Rattle.shm_calls.specs.declared.or.Or.TheVariants.{First, Second}
-use Rattle.shm_calls.specs.CallsControl.{calls_of}
-use Rattle.shm_calls.specs.Either.{or_control}
-use Rattle.shm_count.specs.declared.answer.EraSpent.{EraSpent}
-use Rattle.shm_count.specs.declared.answer.Made.{Made}
-use Rattle.shm_alloc.specs.declared.alloc.AllocFault.{AllocFault}
-use Rattle.shm_alloc.specs.declared.point.AllocPoint.TheVariants as alloc
-use Rattle.shm_alloc.specs.declared.point.AllocState.{AllocState}
-use Rattle.shm_alloc.specs.declared.request.Request.{Request}
+use Rattle.shm_graph.specs.{declared.ask.Me.Me, Laws.Control}
+use Rattle.shm_calls.specs.declared.{calls.Calls.Calls, or.Or.{Or, TheVariants.{First, Second}}}
+use Rattle.shm_calls.specs.{CallsControl.calls_of, Either.or_control, Steering.Steered}
+use Rattle.shm_count.specs.declared.answer.{EraSpent.EraSpent, Made.Made}
+use Rattle.shm_alloc.specs.declared.{alloc.AllocFault.AllocFault, point.AllocState.AllocState, request.Request.Request}
 use Rattle.shm_alloc.specs.Alloc.Control.{alloc_control}
-use Rattle.shm_ref.specs.DropRoot.Control.{dropping}
-use Rattle.shm_ref.specs.DropRoot.{drop_plan}
-use Rattle.shm_ref.specs.DropRoots.Control.{RootsCall, drop_root}
-use Rattle.shm_table.specs.declared.answer.PutFault.{PutFault}
-use Rattle.shm_table.specs.declared.put.PutPoint.{PutPoint}
-use Rattle.shm_table.specs.declared.put.PutPoint.TheVariants as point
-use Rattle.shm_table.specs.declared.put.PutState.{PutState}
-use Rattle.shm_script.specs.declared.log.Answer.{Answer}
-use Rattle.shm_script.specs.declared.log.Answer.TheVariants.{Stored}
+use Rattle.shm_alloc.specs.declared.point.AllocPoint.TheVariants as alloc
+use Rattle.shm_ref.specs.{DropRoot.Control.{dropping, drop_steered}, DropRoots.Control.{RootsCall, drop_root}}
+use Rattle.shm_table.specs.declared.{answer.PutFault.PutFault, put.{PutPoint.PutPoint, PutState.PutState}}
 use Rattle.shm_table.specs.Answers.{fault_answer, made_fault, spent_fault}
-use Rattle.shm_table.specs.PutRoot.Control.{PutRootCalls, decided_of, fault_of, putting_root}
-use Rattle.shm_table.specs.PutRoot.{put_root_control, put_root_plan}
+use Rattle.shm_table.specs.PutRoot.Control.{PutRootCalls, decided_of, fault_of, putting_root, put_root_steered, put_root_control}
+use Rattle.shm_table.specs.declared.put.PutPoint.TheVariants as point
+use Rattle.shm_script.specs.{declared.log.Answer.{Answer, TheVariants.Stored}, Text.line_spelled}
+use Rattle.shm_script.specs.declared.line.Line.TheVariants as line
 
 -- ---- its calls
 
@@ -38,7 +26,7 @@ PutAnswer = Or (Result Made AllocFault) (Or (Result Bool PutFault) (Result Bool 
 
 -- a block with the words of a value block, of which the number is the plain one
 abbrev pub value_request : ℕ → Request
-value_request n = record { refs = 0; count = 1; plain = n ∷ 0 ∷ 0 ∷ 0 ∷ 0 ∷ 0 ∷ 0 ∷ 0 ∷ [] }
+value_request n = record { refs = 0; count = 1; plain = n ∷ 0 ∷ 0 ∷ 0 ∷ 0 ∷ 0 ∷ 0 ∷ 0 ∷ []; near = record { segment = 0; page = 0; index = 0 } }
 
 -- its states
 abbrev pub PutCalls : Type 0
@@ -50,8 +38,8 @@ putting me key n = record { me = me; key = key; number = n; root = 0; block = 0;
 
 abbrev pub put_call_at : PutState → PutPoint → PutCall
 put_call_at m point.Make = First (record { me = m.me; request = value_request m.number; point = alloc.Era })
-put_call_at m point.Put = Second (First (calls_of put_root_plan (putting_root m.me m.key m.block)))
-put_call_at m point.Drop = Second (Second (calls_of drop_plan (dropping m.me m.root)))
+put_call_at m point.Put = Second (First (calls_of put_root_steered (putting_root m.me m.key m.block)))
+put_call_at m point.Drop = Second (Second (calls_of drop_steered (dropping m.me m.root)))
 
 -- ---- where it goes
 
@@ -91,3 +79,16 @@ pub record PutInRange (m : PutState) : Type 0 where
 -- the control of its calls
 abbrev pub put_parts : Control PutCall PutAnswer
 put_parts = or_control alloc_control (or_control put_root_control drop_root)
+
+-- what the plan does: its identity and its line, its calls, and where it goes by their answers
+abbrev pub put_steered : Steered PutState PutCall PutAnswer Answer
+put_steered =
+    record {
+      me = λ m. m.me;
+      line = λ m. line_spelled (line.Put m.key m.number);
+      first = λ m. is_make m.point;
+      start = λ m. putting m.me m.key m.number;
+      call = λ m. put_call_at m m.point;
+      after = put_after;
+      turns = put_turns;
+    }

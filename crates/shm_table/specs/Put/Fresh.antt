@@ -1,18 +1,11 @@
 -- a block that the call made is no value block of the own table: one root names it, and nothing else does
 use Rattle.std.proofs.Common.{◌≡◌, ℕ, ◌%◌, ◌<◌, refl, sym, ap, ◌∙◌, subst, arith, true, eqb, List, [], ◌∷◌, Option, Some, None, inl, inr}
+use Rattle.std.proofs.lemmas.{Bool.{cases_Bool, cases_eq, cond-false, cond-true}, List.Elements.All-contains}
 use Rattle.std.specs.List.{Contains}
-use Rattle.std.proofs.lemmas.Bool.{cases_Bool, cases_eq, cond-false, cond-true}
-use Rattle.std.proofs.lemmas.List.Elements.{All-contains}
 use Rattle.shm_words.specs.Headers.{header_of}
-use Rattle.shm_graph.specs.declared.ask.Me.{Me}
-use Rattle.shm_graph.specs.declared.memo.Memo.{Memo}
-use Rattle.shm_graph.specs.declared.spot.Spot.{Spot}
-use Rattle.shm_graph.specs.declared.spot.Spot.TheVariants.{Body, Head, Home, Root}
-use Rattle.shm_graph.specs.declared.table.Entry.{Entry}
-use Rattle.shm_graph.specs.declared.table.Part.{Part}
-use Rattle.shm_graph.specs.declared.table.Part.TheVariants.{Loose, Table}
-use Rattle.shm_graph.specs.Held.{HeldAt, MadeAt, PartTie}
-use Rattle.shm_graph.specs.Tables.{Contents, IsChain, IsEntry, contents_of, find}
+use Rattle.shm_graph.specs.declared.{ask.Me.Me, memo.Memo.Memo, spot.Spot.{Spot, TheVariants.{Body, Head, Home, Root}}}
+use Rattle.shm_graph.specs.declared.table.{Entry.Entry, Part.{Part, TheVariants.{Loose, Table}}}
+use Rattle.shm_graph.specs.{Held.{HeldAt, MadeAt, PartTie}, Tables.{Contents, IsChain, IsEntry, contents_of, find}}
 use Rattle.shm_graph.specs.Views.{targets, view}
 use Rattle.shm_laws.proofs.References.{two_names}
 use Rattle.shm_steps.specs.Reparting.{map_in}

@@ -1,71 +1,43 @@
 -- what is owed of a put
 use Rattle.std.proofs.Common.{◌≡◌, ◌≢◌, ℕ, zero, suc, length-append, ◌+◌, ◌*◌, ◌%◌, ◌^◌, ◌<◌, ◌≤◌, refl, sym, ap, ◌∙◌, subst, arith, Bool, true, false, eqb, ◌&&◌, List, [], ◌∷◌, ◌++◌, slice_index, Option, Some, None, inl, inr, ◌⊎◌}
-use Rattle.std.specs.Prelude.{Result, Ok, Err, length}
-use Rattle.std.specs.List.{All, Contains}
 use Rattle.std.proofs.lemmas.Bool.{cond-false, cond-true, eq-eqb, and_from}
 use Rattle.std.proofs.lemmas.List.Elements.{All-nil, Contains-append_left}
-use Rattle.shm_words.specs.Tags.{tag_plain, tag_refs, TagFits}
-use Rattle.shm_words.specs.declared.tag.Tag.{Tag as ATag}
-use Rattle.shm_words.proofs.Placing.{total_small}
-use Rattle.shm_words.proofs.Words.{place_some, tag_plain-word, tag_refs-word}
-use Rattle.shm_words.specs.Layout.{address_limit}
-use Rattle.shm_graph.specs.declared.ask.Me.{Me}
-use Rattle.shm_graph.specs.declared.memo.Making.{Making}
-use Rattle.shm_graph.specs.declared.memo.Memo.{Memo}
-use Rattle.shm_graph.specs.declared.table.Part.{Part}
-use Rattle.shm_graph.specs.declared.spot.Spot.TheVariants.{Body, Home}
+use Rattle.std.specs.{Prelude.{Result, Ok, Err, length}, List.{All, Contains}}
+use Rattle.shm_words.specs.{Tags.{tag_plain, tag_refs, TagFits}, declared.tag.Tag.Tag as ATag, Layout.address_limit}
+use Rattle.shm_words.proofs.{Placing.total_small, Words.{place_some, tag_plain-word, tag_refs-word}}
+use Rattle.shm_graph.specs.declared.{ask.Me.Me, memo.{Making.Making, Memo.Memo}, table.Part.Part}
+use Rattle.shm_graph.specs.{declared.spot.Spot.TheVariants.{Body, Home}, Agents.recovers, Asks.Trail}
+use Rattle.shm_graph.specs.{Bounds.{alloc_steps, tear_steps, redo_steps}, Events.Event, Held.is_loose}
+use Rattle.shm_graph.specs.{MemoAfterRead.valued, Views.own_word}
 use Rattle.shm_graph.specs.declared.spot.Spot.TheVariants as spot
-use Rattle.shm_graph.specs.Agents.{recovers}
-use Rattle.shm_graph.specs.Asks.{Trail}
-use Rattle.shm_graph.specs.Bounds.{alloc_steps, tear_steps, redo_steps}
-use Rattle.shm_graph.specs.Events.{Event}
 use Rattle.shm_graph.specs.Events as event
-use Rattle.shm_graph.specs.Held.{is_loose}
-use Rattle.shm_graph.specs.MemoAfterRead.{valued}
-use Rattle.shm_graph.specs.Views.{own_word}
 use Rattle.shm_steps.specs.Reparting.{sight, map_in, IsValue}
-use Rattle.shm_calls.specs.declared.or.Or.TheVariants.{First, Second}
-use Rattle.shm_calls.specs.CallTells.{within_more}
-use Rattle.shm_calls.specs.CallsPart.{calls_part, calls_part_laws}
-use Rattle.shm_calls.specs.Either.{or_control, or_part, or_part_laws}
-use Rattle.shm_calls.specs.Parts.{IsHeld, PartLaws}
-use Rattle.shm_calls.specs.Plans.{PlanLaws, PlanStays, IsCall, Follows}
-use Rattle.shm_alloc.specs.declared.alloc.AllocFault.{AllocFault}
+use Rattle.shm_calls.specs.{declared.or.Or.TheVariants.{First, Second}, CallTells.within_more}
+use Rattle.shm_calls.specs.{CallsPart.{calls_part, calls_part_laws}, Either.{or_control, or_part, or_part_laws}}
+use Rattle.shm_calls.specs.{Parts.{IsHeld, PartLaws}, Plans.{PlanLaws, PlanStays, IsCall, Follows}}
+use Rattle.shm_alloc.specs.declared.{alloc.AllocFault.AllocFault, request.Request.Request}
+use Rattle.shm_alloc.specs.Alloc.{Control.{RequestFits, alloc_control, tag_asked}, AnswerHolds, MadeGives}
+use Rattle.shm_alloc.specs.Alloc.AsPart.{AllocLeaves, alloc_part, alloc_part_laws}
 use Rattle.shm_alloc.specs.declared.alloc.AllocFault.TheVariants as alloc_fault
 use Rattle.shm_alloc.specs.declared.point.AllocPoint.TheVariants as alloc
-use Rattle.shm_alloc.specs.declared.request.Request.{Request}
-use Rattle.shm_alloc.specs.Alloc.Control.{RequestFits, alloc_control, tag_asked}
-use Rattle.shm_alloc.specs.Alloc.{AnswerHolds, MadeGives}
-use Rattle.shm_alloc.specs.Alloc.AsPart.{AllocLeaves, alloc_part, alloc_part_laws}
-use Rattle.shm_alloc.proofs.AllocBound.{alloc_bound}
-use Rattle.shm_alloc.proofs.MadeBlocks.{block_inside}
-use Rattle.shm_count.specs.declared.answer.EraSpent.{EraSpent}
-use Rattle.shm_count.specs.declared.answer.Made.{Made}
-use Rattle.shm_count.specs.Roots.{root_word}
-use Rattle.shm_count.specs.Step.Control.{IsInside}
+use Rattle.shm_alloc.proofs.{AllocBound.alloc_bound, MadeBlocks.block_inside}
+use Rattle.shm_count.specs.{declared.answer.{EraSpent.EraSpent, Made.Made}, Roots.root_word, Step.Control.IsInside}
 use Rattle.shm_count.specs.Tear.Events.{Visit, frees}
-use Rattle.shm_ref.specs.DropRoot.Control.{drop_parts, dropping}
-use Rattle.shm_ref.specs.DropRoot.{DropLeaves, drop_plan}
-use Rattle.shm_ref.specs.DropRoot.Laws.{drop_laws}
+use Rattle.shm_ref.specs.DropRoot.{Control.{drop_parts, dropping}, DropLeaves, drop_plan, Laws.drop_laws}
 use Rattle.shm_ref.specs.DropRoots.Control.{drop_root}
-use Rattle.shm_table.specs.declared.answer.PutFault.{PutFault}
-use Rattle.shm_table.specs.declared.answer.PutFault.TheVariants as fault
-use Rattle.shm_table.specs.declared.put.PutPoint.{PutPoint}
-use Rattle.shm_table.specs.declared.put.PutPoint.TheVariants.{Make, Put, Drop}
-use Rattle.shm_table.specs.declared.put.PutState.{PutState}
-use Rattle.shm_table.specs.Answers.{fault_answer, made_fault, spent_fault}
-use Rattle.shm_table.specs.Put.Control.{PutAnswer, is_make, put_call_at, put_parts, value_request}
-use Rattle.shm_table.specs.Commands.{CommandCause, MayCommand, RestSo, cause_put, cause_then, left_too}
-use Rattle.shm_table.specs.Put.Fresh.{not_mapped}
+use Rattle.shm_table.specs.declared.{answer.PutFault.PutFault, put.PutPoint.{PutPoint, TheVariants.{Make, Put, Drop}}}
+use Rattle.shm_table.specs.{declared.put.PutState.PutState, Answers.{fault_answer, made_fault, spent_fault}}
+use Rattle.shm_table.specs.Put.{Control.{PutAnswer, is_make, put_call_at, put_parts, value_request}, Fresh.not_mapped}
 use Rattle.shm_table.specs.Put.{HasValue, IsPut, NotStored, PutKnows, PutLeaves, PutStored, put_part, put_plan}
-use Rattle.shm_table.specs.PutRoot.Control.{put_root_parts, putting_root}
-use Rattle.shm_table.specs.PutRoot.{IsDecided, IsEraSpent, PutRootLeaves, put_root_control, put_root_plan, put_root_steps}
+use Rattle.shm_table.specs.Commands.{CommandCause, MayCommand, RestSo, cause_put, cause_then, left_too}
+use Rattle.shm_table.specs.PutRoot.Control.{put_root_parts, putting_root, put_root_control}
+use Rattle.shm_table.specs.PutRoot.{IsDecided, IsEraSpent, PutRootLeaves, put_root_plan, put_root_steps}
 use Rattle.shm_table.specs.PutRoot.Steps.{decided_after, decided_more, frees_append, same_more, same_part, search_before, search_more, set_after, set_then}
 use Rattle.shm_table.specs.Staying.{Cleared, Ended, PutCause, SameMap}
 use Rattle.shm_table.specs.Staying.Laws.{cleared_drop, dropped_else, keeps_drop, keeps_made, keeps_more, left_by, made_cause, made_home, made_others, made_root, rests_unmade, spent_drop, spent_later}
-use Rattle.shm_table.specs.Undoing.{dropped_undone, none_undone, put_undone, stopped_undone}
-use Rattle.shm_table.specs.ValuesListed.{idle_here}
+use Rattle.shm_table.specs.{Undoing.{dropped_undone, none_undone, put_undone, stopped_undone}, ValuesListed.idle_here}
 use Rattle.shm_table.specs.Costs.{tear_sum, tear_same}
+use Rattle.shm_table.specs.declared.answer.PutFault.TheVariants as fault
 
 -- ---- the plan
 

@@ -1,15 +1,10 @@
 -- how many word steps a put takes: by the keys that were read, and the blocks that were torn down or left on the way
 use Rattle.std.proofs.Common.{◌≡◌, ℕ, ◌+◌, ◌*◌, arith, Bool, inr, ◌⊎◌, List, length}
-use Rattle.std.specs.Prelude.{Result, Ok, Err}
-use Rattle.std.specs.List.{All, Contains}
-use Rattle.shm_graph.specs.declared.ask.Me.{Me}
-use Rattle.shm_graph.specs.declared.memo.Memo.{Memo}
-use Rattle.shm_graph.specs.Asks.{Trail, IsWithin}
-use Rattle.shm_graph.specs.Bounds.{command_steps, tear_steps}
-use Rattle.shm_graph.specs.Events.{Event}
+use Rattle.std.specs.{Prelude.{Result, Ok, Err}, List.{All, Contains}}
+use Rattle.shm_graph.specs.{declared.{ask.Me.Me, memo.Memo.Memo}, Asks.{Trail, IsWithin}}
+use Rattle.shm_graph.specs.{Bounds.{command_steps, tear_steps}, Events.Event}
 use Rattle.shm_count.specs.Tear.Events.{Visit, frees}
-use Rattle.shm_table.specs.declared.answer.PutFault.{PutFault}
-use Rattle.shm_table.specs.PutRoot.Control.{putting_root}
+use Rattle.shm_table.specs.{declared.answer.PutFault.PutFault, PutRoot.Control.putting_root}
 use Rattle.shm_table.specs.PutRoot.{HasSearch, PutRootLeaves, put_root_steps}
 
 -- so many keys were read by the search, or none was made, these blocks are left of a tear-down, and so many word steps were made at most

@@ -1,38 +1,22 @@
 -- the control of putting a value block into the own table: which call comes next, and where it goes by what that call answered
-use Rattle.std.specs.Prelude.{ℕ, ◌+◌, ◌-◌, ◌%◌, ◌<◌, nat_lt, Bool, true, false, if◌then◌else◌, Option, Some, None, IfSome, Result, Ok, Err}
+use Rattle.std.specs.Prelude.{ℕ, ◌+◌, ◌-◌, ◌%◌, ◌<◌, nat_lt, Bool, true, false, if◌then◌else◌, Option, Some, None, IfSome, Result, Ok, Err, []}
 use Rattle.shm_words.specs.Layout.{GeometryFits, address_limit}
-use Rattle.shm_graph.specs.declared.ask.Me.{Me}
-use Rattle.shm_graph.specs.Laws.{Control}
-use Rattle.shm_calls.specs.declared.calls.Calls.{Calls}
-use Rattle.shm_calls.specs.declared.or.Or.{Or}
-use Rattle.shm_calls.specs.declared.or.Or.TheVariants.{First, Second}
-use Rattle.shm_calls.specs.CallsControl.{calls_control, calls_of}
-use Rattle.shm_calls.specs.Either.{or_control}
+use Rattle.shm_graph.specs.{declared.ask.Me.Me, Laws.Control}
+use Rattle.shm_calls.specs.declared.{calls.Calls.Calls, or.Or.{Or, TheVariants.{First, Second}}}
+use Rattle.shm_calls.specs.{CallsControl.{calls_control, calls_of}, Either.or_control, Steering.Steered}
 use Rattle.shm_count.specs.declared.answer.EraSpent.{EraSpent}
-use Rattle.shm_ref.specs.DropRoot.Control.{dropping}
-use Rattle.shm_ref.specs.DropRoot.{drop_plan}
-use Rattle.shm_ref.specs.DropRoots.Control.{RootsCall, drop_root}
-use Rattle.shm_table.specs.declared.answer.PutFault.{PutFault}
-use Rattle.shm_table.specs.declared.enter.Entered.{Entered}
-use Rattle.shm_table.specs.declared.enter.Entered.TheVariants.{Linked, Unlinked, Unmade}
-use Rattle.shm_table.specs.declared.enter.EnterState.{EnterState}
-use Rattle.shm_table.specs.declared.find.Found.{Found}
-use Rattle.shm_table.specs.declared.find.Found.TheVariants.{Absent, At}
-use Rattle.shm_table.specs.declared.open_table.OpenState.{OpenState}
-use Rattle.shm_table.specs.declared.put_root.PutRootPoint.{PutRootPoint}
+use Rattle.shm_ref.specs.{DropRoot.Control.{dropping, drop_steered}, DropRoots.Control.{RootsCall, drop_root}}
+use Rattle.shm_table.specs.declared.{answer.PutFault.PutFault, enter.Entered.Entered}
+use Rattle.shm_table.specs.declared.enter.{Entered.TheVariants.{Linked, Unlinked, Unmade}, EnterState.EnterState}
+use Rattle.shm_table.specs.declared.{find.Found.{Found, TheVariants.{Absent, At}}, open_table.OpenState.OpenState}
+use Rattle.shm_table.specs.declared.put_root.{PutRootPoint.PutRootPoint, PutRootState.PutRootState}
+use Rattle.shm_table.specs.{declared.replace.ReplaceState.ReplaceState, Answers.spent_fault}
+use Rattle.shm_table.specs.Enter.Control.{EnterAnswer, EnterCall, enter_parts, entering, enter_steered}
+use Rattle.shm_table.specs.Locate.Control.{locating, locate_steered, LocateCalls, locate_control}
+use Rattle.shm_table.specs.OpenTable.Control.{OpenAnswer, OpenCall, open_parts, opening, open_steered}
+use Rattle.shm_table.specs.Replace.Control.{ReplaceAnswer, ReplaceCall, replace_parts, replacing, replace_steered}
+use Rattle.shm_table.specs.Unlatch.{UnlatchCalls, unlatch_control, unlatching, unlatch_steered}
 use Rattle.shm_table.specs.declared.put_root.PutRootPoint.TheVariants as point
-use Rattle.shm_table.specs.declared.put_root.PutRootState.{PutRootState}
-use Rattle.shm_table.specs.declared.replace.ReplaceState.{ReplaceState}
-use Rattle.shm_table.specs.Answers.{spent_fault}
-use Rattle.shm_table.specs.Enter.Control.{EnterAnswer, EnterCall, enter_parts, entering}
-use Rattle.shm_table.specs.Enter.{enter_plan}
-use Rattle.shm_table.specs.Locate.Control.{locating}
-use Rattle.shm_table.specs.Locate.{LocateCalls, locate_control, locate_plan}
-use Rattle.shm_table.specs.OpenTable.Control.{OpenAnswer, OpenCall, open_parts, opening}
-use Rattle.shm_table.specs.OpenTable.{open_plan}
-use Rattle.shm_table.specs.Replace.Control.{ReplaceAnswer, ReplaceCall, replace_parts, replacing}
-use Rattle.shm_table.specs.Replace.{replace_plan}
-use Rattle.shm_table.specs.Unlatch.{UnlatchCalls, unlatch_control, unlatch_plan, unlatching}
 
 -- ---- its calls
 
@@ -40,19 +24,19 @@ abbrev pub OpenCalls : Type 0
 OpenCalls = Calls OpenState OpenCall (Result (Unit {0}) PutFault) OpenAnswer
 
 abbrev pub open_control : Control OpenCalls (Result (Unit {0}) PutFault)
-open_control = calls_control open_parts open_plan
+open_control = calls_control open_parts open_steered
 
 abbrev pub ReplaceCalls : Type 0
 ReplaceCalls = Calls ReplaceState ReplaceCall (Result Bool PutFault) ReplaceAnswer
 
 abbrev pub replace_control : Control ReplaceCalls (Result Bool PutFault)
-replace_control = calls_control replace_parts replace_plan
+replace_control = calls_control replace_parts replace_steered
 
 abbrev pub EnterCalls : Type 0
 EnterCalls = Calls EnterState EnterCall Entered EnterAnswer
 
 abbrev pub enter_control : Control EnterCalls Entered
-enter_control = calls_control enter_parts enter_plan
+enter_control = calls_control enter_parts enter_steered
 
 -- what it calls, and what they answer
 abbrev pub PutRootCall : Type 0
@@ -75,12 +59,12 @@ root_or (Some k) = k
 root_or None = 0
 
 abbrev pub put_root_call : PutRootState → PutRootPoint → PutRootCall
-put_root_call m point.Open = First (First (calls_of open_plan (opening m.me)))
-put_root_call m point.Locate = First (Second (calls_of locate_plan (locating m.me m.me.who m.key)))
-put_root_call m point.Replace = Second (First (First (calls_of replace_plan (replacing m.me m.entry m.value))))
-put_root_call m point.Enter = Second (First (Second (calls_of enter_plan (entering m.me m.key m.value m.home m.first))))
-put_root_call m point.Unlatch = Second (Second (First (calls_of unlatch_plan (unlatching m.me m.me.who))))
-put_root_call m point.Drop = Second (Second (Second (calls_of drop_plan (dropping m.me (root_or m.root)))))
+put_root_call m point.Open = First (First (calls_of open_steered (opening m.me)))
+put_root_call m point.Locate = First (Second (calls_of locate_steered (locating m.me m.me.who m.key)))
+put_root_call m point.Replace = Second (First (First (calls_of replace_steered (replacing m.me m.entry m.value))))
+put_root_call m point.Enter = Second (First (Second (calls_of enter_steered (entering m.me m.key m.value m.home m.first))))
+put_root_call m point.Unlatch = Second (Second (First (calls_of unlatch_steered (unlatching m.me m.me.who))))
+put_root_call m point.Drop = Second (Second (Second (calls_of drop_steered (dropping m.me (root_or m.root)))))
 
 -- ---- where it goes
 
@@ -157,3 +141,20 @@ pub record PutRootInRange (m : PutRootState) : Type 0 where
 -- the control of its calls
 abbrev pub put_root_parts : Control PutRootCall PutRootAnswer
 put_root_parts = or_control (or_control open_control locate_control) (or_control (or_control replace_control enter_control) (or_control unlatch_control drop_root))
+
+-- what the plan does: its identity and its line, its calls, and where it goes by their answers
+abbrev pub put_root_steered : Steered PutRootState PutRootCall PutRootAnswer (Result Bool PutFault)
+put_root_steered =
+    record {
+      me = λ m. m.me;
+      line = λ m. [];
+      first = λ m. is_open m.point;
+      start = λ m. putting_root m.me m.key m.value;
+      call = λ m. put_root_call m m.point;
+      after = put_root_after;
+      turns = put_root_turns;
+    }
+
+-- its control
+abbrev pub put_root_control : Control PutRootCalls (Result Bool PutFault)
+put_root_control = calls_control put_root_parts put_root_steered

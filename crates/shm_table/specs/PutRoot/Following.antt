@@ -1,53 +1,34 @@
 -- putting a value block into the own table: what each call leads to
 use Rattle.std.proofs.Common.{◌≡◌, ◌≢◌, ℕ, zero, suc, ◌+◌, ◌*◌, ◌%◌, ◌≤◌, refl, sym, ap, ◌∙◌, subst, arith, Bool, append-nil, List, [], ◌∷◌, ◌++◌, Option, Some, None, inl, inr, ◌⊎◌}
-use Rattle.std.specs.Prelude.{Result, Ok, Err, IfSome, length}
-use Rattle.std.specs.List.{All, Contains}
-use Rattle.std.proofs.lemmas.Bool.{true≢false}
-use Rattle.std.proofs.lemmas.List.Elements.{All-nil}
-use Rattle.shm_graph.specs.declared.memo.Memo.{Memo}
-use Rattle.shm_graph.specs.declared.spot.Spot.TheVariants.{Body, Home}
+use Rattle.std.proofs.lemmas.{Bool.true≢false, List.Elements.All-nil}
+use Rattle.std.specs.{Prelude.{Result, Ok, Err, IfSome, length}, List.{All, Contains}}
+use Rattle.shm_graph.specs.{declared.{memo.Memo.Memo, spot.Spot.TheVariants.{Body, Home}}, Agents.recovers}
+use Rattle.shm_graph.specs.{Asks.{Trail, IsWithin}, Bounds.{alloc_steps, change_steps, tear_steps, redo_steps}}
+use Rattle.shm_graph.specs.{Events.Event, Views.own_word}
 use Rattle.shm_graph.specs.declared.spot.Spot.TheVariants as spot
-use Rattle.shm_graph.specs.Agents.{recovers}
-use Rattle.shm_graph.specs.Asks.{Trail, IsWithin}
-use Rattle.shm_graph.specs.Bounds.{alloc_steps, change_steps, tear_steps, redo_steps}
-use Rattle.shm_graph.specs.Events.{Event}
 use Rattle.shm_graph.specs.Events as event
-use Rattle.shm_graph.specs.Views.{own_word}
 use Rattle.shm_steps.specs.Reparting.{sight, IsValue}
-use Rattle.shm_calls.specs.declared.or.Or.TheVariants.{First, Second}
-use Rattle.shm_calls.specs.CallTells.{within_more}
-use Rattle.shm_calls.specs.Parts.{IsHeld}
+use Rattle.shm_calls.specs.{declared.or.Or.TheVariants.{First, Second}, CallTells.within_more, Parts.IsHeld}
 use Rattle.shm_calls.specs.Plans.{Follows}
-use Rattle.shm_count.specs.declared.answer.EraSpent.{EraSpent}
-use Rattle.shm_count.specs.Roots.{root_word}
-use Rattle.shm_count.specs.Tear.Events.{Visit, frees}
-use Rattle.shm_ref.specs.DropRoot.Control.{dropping}
-use Rattle.shm_ref.specs.DropRoot.{DropLeaves}
-use Rattle.shm_table.specs.declared.answer.PutFault.{PutFault}
-use Rattle.shm_table.specs.declared.enter.Entered.{Entered}
-use Rattle.shm_table.specs.declared.enter.Entered.TheVariants.{Linked, Unlinked, Unmade}
-use Rattle.shm_table.specs.declared.find.Found.{Found}
-use Rattle.shm_table.specs.declared.find.Found.TheVariants.{Absent, At}
-use Rattle.shm_table.specs.declared.put_root.PutRootPoint.{PutRootPoint}
+use Rattle.shm_count.specs.{declared.answer.EraSpent.EraSpent, Roots.root_word, Tear.Events.{Visit, frees}}
+use Rattle.shm_ref.specs.DropRoot.{Control.dropping, DropLeaves}
+use Rattle.shm_table.specs.declared.{answer.PutFault.PutFault, enter.Entered.Entered}
+use Rattle.shm_table.specs.declared.{enter.Entered.TheVariants.{Linked, Unlinked, Unmade}, find.Found.Found}
+use Rattle.shm_table.specs.declared.{find.Found.TheVariants.{Absent, At}, put_root.PutRootPoint.PutRootPoint}
 use Rattle.shm_table.specs.declared.put_root.PutRootPoint.TheVariants.{Open, Locate, Replace, Enter, Unlatch, Drop}
-use Rattle.shm_table.specs.declared.put_root.PutRootState.{PutRootState}
-use Rattle.shm_table.specs.Enter.Control.{entering}
-use Rattle.shm_table.specs.Enter.{EnterLeaves, IsHalfMade, enter_steps, link_events}
-use Rattle.shm_table.specs.Locate.{Located}
-use Rattle.shm_table.specs.OpenTable.Control.{opening}
-use Rattle.shm_table.specs.OpenTable.{HomeSo, IsOpening, OpenLeaves, OpenLeft}
+use Rattle.shm_table.specs.{declared.put_root.PutRootState.PutRootState, Enter.Control.entering}
+use Rattle.shm_table.specs.{Enter.{EnterLeaves, IsHalfMade, enter_steps, link_events}, Locate.Located}
+use Rattle.shm_table.specs.OpenTable.{Control.opening, HomeSo, IsOpening, OpenLeaves, OpenLeft}
 use Rattle.shm_table.specs.OpenTable.OpenLeft.{Unmade as NotMade, Unnamed, Undropped}
 use Rattle.shm_table.specs.PutRoot.Control.{PutRootAnswer, put_root_parts}
 use Rattle.shm_table.specs.PutRoot.{Decides, IsDecided, IsEraSpent, IsSettled, IsUnlisted, MapSo, PutRootDone, PutRootKnows, PutRootRefused, RootsSo, UnlistedSo, put_root_plan, opened_steps, searched_steps, settled_steps}
 use Rattle.shm_table.specs.PutRoot.Decides.{Begins, Leads as Leading, Replaces}
 use Rattle.shm_table.specs.PutRoot.Undoing.{home_more, opening_still, still_more, still_same, still_stopped, unlisted_dropped, unlisted_home, unlisted_still}
 use Rattle.shm_table.specs.PutRoot.Steps.{decided_after, decided_more, frees_append, located_absent, located_at, located_opening, located_putting, located_searched, same_more, same_part, search_more, set_after, set_then}
-use Rattle.shm_table.specs.Replace.Control.{replacing}
-use Rattle.shm_table.specs.Replace.{MayReplace, ReplaceLeaves}
+use Rattle.shm_table.specs.Replace.{Control.replacing, MayReplace, ReplaceLeaves}
 use Rattle.shm_table.specs.Staying.{Cleared, Ended, SameMap, Still}
 use Rattle.shm_table.specs.Staying.Laws.{cause_before, cause_later, cleared_drop, cleared_more, dropped_else, ended_drop, keeps_drop, keeps_more, keeps_unlatched, left_by, spent_drop, spent_later, unlatched_else}
-use Rattle.shm_table.specs.Unlatch.{Unlatched}
-use Rattle.shm_table.specs.Costs.{tear_sum}
+use Rattle.shm_table.specs.{Unlatch.Unlatched, Costs.tear_sum}
 
 -- ---- what is left
 

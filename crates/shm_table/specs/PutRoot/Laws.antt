@@ -1,40 +1,23 @@
 -- what is owed of putting a value block into the own table
 use Rattle.std.proofs.Common.{◌≡◌, ℕ, ◌+◌, ◌<◌, refl, sym, ◌∙◌, subst, Bool, List, ◌++◌, Option, Some, None}
 use Rattle.std.specs.Prelude.{Ok, Err}
-use Rattle.shm_graph.specs.declared.memo.Memo.{Memo}
-use Rattle.shm_graph.specs.Agents.{recovers}
-use Rattle.shm_graph.specs.Asks.{Trail}
-use Rattle.shm_graph.specs.Events.{Event}
-use Rattle.shm_calls.specs.declared.or.Or.TheVariants.{First, Second}
-use Rattle.shm_calls.specs.CallsPart.{calls_part, calls_part_laws}
-use Rattle.shm_calls.specs.Either.{or_control, or_part, or_part_laws}
-use Rattle.shm_calls.specs.Parts.{IsHeld, PartLaws}
-use Rattle.shm_calls.specs.Plans.{PlanLaws, PlanStays, IsCall, Follows}
-use Rattle.shm_calls.specs.Words.{word_control}
-use Rattle.shm_ref.specs.DropRoot.Control.{drop_parts, dropping}
-use Rattle.shm_ref.specs.DropRoot.{DropLeaves, drop_plan}
-use Rattle.shm_ref.specs.DropRoot.Laws.{drop_laws}
+use Rattle.shm_graph.specs.{declared.memo.Memo.Memo, Agents.recovers, Asks.Trail, Events.Event}
+use Rattle.shm_calls.specs.{declared.or.Or.TheVariants.{First, Second}, CallsPart.{calls_part, calls_part_laws}}
+use Rattle.shm_calls.specs.{Either.{or_control, or_part, or_part_laws}, Parts.{IsHeld, PartLaws}}
+use Rattle.shm_calls.specs.{Plans.{PlanLaws, PlanStays, IsCall, Follows}, Words.word_control}
+use Rattle.shm_ref.specs.DropRoot.{Control.{drop_parts, dropping}, DropLeaves, drop_plan, Laws.drop_laws}
 use Rattle.shm_ref.specs.DropRoots.Control.{drop_root}
 use Rattle.shm_table.specs.declared.enter.Entered.TheVariants.{Linked, Unlinked, Unmade}
-use Rattle.shm_table.specs.declared.find.Found.TheVariants.{Absent, At}
-use Rattle.shm_table.specs.declared.put_root.PutRootPoint.{PutRootPoint}
+use Rattle.shm_table.specs.declared.{find.Found.TheVariants.{Absent, At}, put_root.PutRootPoint.PutRootPoint}
 use Rattle.shm_table.specs.declared.put_root.PutRootPoint.TheVariants.{Open, Locate, Replace, Enter, Unlatch, Drop}
-use Rattle.shm_table.specs.declared.put_root.PutRootState.{PutRootState}
-use Rattle.shm_table.specs.Enter.Control.{enter_parts}
-use Rattle.shm_table.specs.Enter.{enter_plan}
-use Rattle.shm_table.specs.Locate.Control.{locate_parts}
-use Rattle.shm_table.specs.Locate.{locate_control, locate_plan}
-use Rattle.shm_table.specs.Locate.Laws.{locate_begin}
-use Rattle.shm_table.specs.OpenTable.Control.{open_parts}
-use Rattle.shm_table.specs.OpenTable.{open_plan}
+use Rattle.shm_table.specs.{declared.put_root.PutRootState.PutRootState, Enter.{Control.enter_parts, enter_plan}}
+use Rattle.shm_table.specs.Locate.{Control.{locate_parts, locate_control}, locate_plan, Laws.locate_begin}
+use Rattle.shm_table.specs.OpenTable.{Control.open_parts, open_plan}
 use Rattle.shm_table.specs.PutRoot.Control.{PutRootAnswer, enter_control, is_open, open_control, put_root_call, root_or, put_root_parts, replace_control}
 use Rattle.shm_table.specs.PutRoot.{IsSettled, MayPut, PutRootKnows, RootsSo, put_root_part, put_root_plan, settled_steps}
 use Rattle.shm_table.specs.PutRoot.Following.{dropped_so, entered, located, opened, replaced, unlatched_so}
-use Rattle.shm_table.specs.Replace.Control.{replace_parts}
-use Rattle.shm_table.specs.Replace.{replace_plan}
-use Rattle.shm_table.specs.Unlatch.{unlatch_control, unlatch_plan}
-use Rattle.shm_table.specs.Unlatch.Laws.{unlatch_laws}
-use Rattle.shm_table.specs.ValuesListed.{idle_here}
+use Rattle.shm_table.specs.{Replace.{Control.replace_parts, replace_plan}, Unlatch.{unlatch_control, unlatch_plan}}
+use Rattle.shm_table.specs.{Unlatch.Laws.unlatch_laws, ValuesListed.idle_here}
 
 -- ---- the plan
 

@@ -1,39 +1,21 @@
 -- putting a value block into the own table: what follows each call
 use Rattle.std.proofs.Common.{◌≡◌, ◌≢◌, ℕ, zero, suc, ◌+◌, ◌-◌, ◌*◌, ◌%◌, ◌<◌, refl, sym, ap, ◌∙◌, subst, arith, append_assoc, append-nil, List, [], ◌∷◌, ◌++◌, Some, None, inl, inr, ◌⊎◌}
-use Rattle.std.specs.Prelude.{◌==◌, if◌then◌else◌}
 use Rattle.std.proofs.lemmas.Bool.{cond-true, lt-ltb}
+use Rattle.std.specs.Prelude.{◌==◌, if◌then◌else◌}
 use Rattle.shm_words.proofs.Placing.{total_small}
 use Rattle.shm_words.specs.Layout.{address_limit}
-use Rattle.shm_graph.specs.declared.ask.Me.{Me}
-use Rattle.shm_graph.specs.declared.memo.Memo.{Memo}
-use Rattle.shm_graph.specs.declared.spot.Spot.TheVariants.{Home}
-use Rattle.shm_graph.specs.Agents.{recovers}
-use Rattle.shm_graph.specs.Asks.{Trail, IsWithin}
-use Rattle.shm_graph.specs.Bounds.{tear_steps}
-use Rattle.shm_graph.specs.Events.{Event}
-use Rattle.shm_graph.specs.Telling.{Directory, role_in, roles, shaped}
-use Rattle.shm_graph.specs.Views.{own_word}
-use Rattle.shm_steps.specs.Reparting.{sight, map_in, IsValue}
-use Rattle.shm_steps.specs.Walking.{IsVacant}
-use Rattle.shm_steps.proofs.Reaching.{look_reached}
-use Rattle.shm_steps.proofs.Words.Blocks.{told_inside}
-use Rattle.shm_steps.proofs.Covering.{role_told}
-use Rattle.shm_calls.specs.CallTells.{within_more}
-use Rattle.shm_calls.specs.Parts.{IsHeld}
-use Rattle.shm_count.specs.Roots.{root_word}
-use Rattle.shm_count.specs.Tear.Events.{frees}
+use Rattle.shm_graph.specs.{declared.{ask.Me.Me, memo.Memo.Memo, spot.Spot.TheVariants.Home}, Agents.recovers}
+use Rattle.shm_graph.specs.{Asks.{Trail, IsWithin}, Bounds.tear_steps, Events.Event}
+use Rattle.shm_graph.specs.{Telling.{Directory, role_in, roles, shaped}, Views.own_word}
+use Rattle.shm_steps.specs.{Reparting.{sight, map_in, IsValue}, Walking.IsVacant}
+use Rattle.shm_steps.proofs.{Reaching.look_reached, Words.Blocks.told_inside, Covering.role_told}
+use Rattle.shm_calls.specs.{CallTells.within_more, Parts.IsHeld}
+use Rattle.shm_count.specs.{Roots.root_word, Tear.Events.frees}
 use Rattle.shm_ref.specs.CountedBlocks.{reached_counted}
-use Rattle.shm_table.specs.declared.find.Found.{Found}
-use Rattle.shm_table.specs.declared.find.Found.TheVariants.{Absent, At}
-use Rattle.shm_table.specs.Enter.{MayEnter}
-use Rattle.shm_table.specs.Find.Bound.{find_within, keys_read}
-use Rattle.shm_table.specs.Find.{OnlyReads}
-use Rattle.shm_table.specs.Locate.{Located}
-use Rattle.shm_table.specs.Locate.Laws.{find_only}
-use Rattle.shm_table.specs.PutRoot.Control.{home_of}
-use Rattle.shm_table.specs.PutRoot.{HasSearch, IsDecided, IsPutting, IsSearched, MayPutRoot, OpenedSo}
-use Rattle.shm_table.specs.PutRoot.Undoing.{opening_still}
-use Rattle.shm_table.specs.Replace.{MayReplace}
+use Rattle.shm_table.specs.{declared.find.Found.{Found, TheVariants.{Absent, At}}, Enter.MayEnter}
+use Rattle.shm_table.specs.{Find.{Bound.{find_within, keys_read}, OnlyReads}, Locate.{Located, Laws.find_only}}
+use Rattle.shm_table.specs.PutRoot.{Control.home_of, HasSearch, IsDecided, IsPutting, IsSearched, MayPutRoot, OpenedSo}
+use Rattle.shm_table.specs.{PutRoot.Undoing.opening_still, Replace.MayReplace}
 use Rattle.shm_table.specs.Staying.{Cleared, Keeps, MapSet, SameMap}
 use Rattle.shm_table.specs.Staying.Laws.{cleared_more, keeps_latched, keeps_more, keeps_read, latched_else, rests_read, root_kept}
 

@@ -1,23 +1,15 @@
 -- what a refusal leaves of the home, of the zero-count blocks and of the graph
 use Rattle.std.proofs.Common.{◌≡◌, ℕ, refl, sym, ap, ◌∙◌, subst, arith, append_assoc, append-nil, List, [], ◌++◌, Option, Some, None, inl, inr}
-use Rattle.std.specs.List.{Contains}
 use Rattle.std.proofs.lemmas.List.Elements.{Contains-append_left, Contains-append_right}
-use Rattle.shm_graph.specs.declared.ask.Me.{Me}
-use Rattle.shm_graph.specs.declared.memo.Memo.{Memo}
-use Rattle.shm_graph.specs.declared.spot.Spot.TheVariants.{Home}
-use Rattle.shm_graph.specs.Events.{Event}
-use Rattle.shm_graph.specs.Events as event
+use Rattle.std.specs.List.{Contains}
+use Rattle.shm_graph.specs.{declared.{ask.Me.Me, memo.Memo.Memo, spot.Spot.TheVariants.Home}, Events.Event}
 use Rattle.shm_graph.specs.Views.{own_word}
+use Rattle.shm_graph.specs.Events as event
 use Rattle.shm_laws.proofs.Keep.{filter_from}
-use Rattle.shm_count.specs.Roots.{root_word}
-use Rattle.shm_count.specs.Tear.Events.{Visit}
-use Rattle.shm_count.specs.Tear.{is_outside}
+use Rattle.shm_count.specs.{Roots.root_word, Tear.{Events.Visit, is_outside}}
 use Rattle.shm_ref.specs.Lefts.{RootEvents, Stopped}
-use Rattle.shm_table.specs.declared.answer.PutFault.{PutFault}
-use Rattle.shm_table.specs.Enter.{IsHalfMade}
-use Rattle.shm_table.specs.OpenTable.{HomeSo, IsOpening}
-use Rattle.shm_table.specs.PutRoot.{IsUnlisted, UnlistedSo}
-use Rattle.shm_table.specs.Staying.{Still}
+use Rattle.shm_table.specs.{declared.answer.PutFault.PutFault, Enter.IsHalfMade, OpenTable.{HomeSo, IsOpening}}
+use Rattle.shm_table.specs.{PutRoot.{IsUnlisted, UnlistedSo}, Staying.Still}
 
 -- ---- zero-count blocks
 

@@ -1,27 +1,16 @@
 -- how many word steps a receive into a table takes
-use Rattle.std.proofs.Common.{ℕ, ◌+◌, ◌*◌, arith, inl, refl, List, [], Bool}
-use Rattle.std.proofs.lemmas.List.Elements.{All-nil}
-use Rattle.std.specs.List.{Contains}
-use Rattle.std.specs.Prelude.{Result, Ok, Err}
-use Rattle.shm_graph.specs.declared.ask.Me.{Me}
-use Rattle.shm_graph.specs.declared.memo.Memo.{Memo}
-use Rattle.shm_graph.specs.Asks.{Trail, IsWithin}
-use Rattle.shm_graph.specs.Bounds.{command_steps, tear_steps}
-use Rattle.shm_graph.specs.Events.{Event}
-use Rattle.shm_count.specs.declared.answer.EraSpent.{EraSpent as Spent}
-use Rattle.shm_count.specs.Tear.Events.{Visit}
+use Rattle.std.proofs.{Common.{ℕ, ◌+◌, ◌*◌, arith, inl, refl, List, [], Bool}, lemmas.List.Elements.All-nil}
+use Rattle.std.specs.{List.Contains, Prelude.{Result, Ok, Err}}
+use Rattle.shm_graph.specs.{declared.{ask.Me.Me, memo.Memo.Memo}, Asks.{Trail, IsWithin}}
+use Rattle.shm_graph.specs.{Bounds.{command_steps, tear_steps}, Events.Event}
+use Rattle.shm_count.specs.{declared.answer.EraSpent.EraSpent as Spent, Tear.Events.Visit}
 use Rattle.shm_script.specs.declared.log.Answer.{Answer}
 use Rattle.shm_script.specs.declared.log.Answer.TheVariants as answer
-use Rattle.shm_table.specs.declared.answer.PutFault.{PutFault}
-use Rattle.shm_table.specs.declared.answer.PutFault.TheVariants.{EraSpent, RootsFull, Full, CountFull}
-use Rattle.shm_table.specs.declared.fetch_head.FetchedHead.{FetchedHead}
-use Rattle.shm_table.specs.declared.fetch_head.FetchedHead.TheVariants.{Empty, Refused, Rooted}
-use Rattle.shm_table.specs.FetchHead.Control.{fetching_head}
-use Rattle.shm_table.specs.FetchHead.{FetchHeadLeaves, fetch_head_steps}
-use Rattle.shm_table.specs.PutRoot.Bound.{IsPutShort}
-use Rattle.shm_table.specs.RecvKey.Control.{receiving_key}
-use Rattle.shm_table.specs.RecvKey.{NotReceivedIn, RecvLeaves, recv_steps}
-use Rattle.shm_table.specs.TakeHead.Control.{taking_head}
+use Rattle.shm_table.specs.declared.answer.PutFault.{PutFault, TheVariants.{EraSpent, RootsFull, Full, CountFull}}
+use Rattle.shm_table.specs.declared.fetch_head.FetchedHead.{FetchedHead, TheVariants.{Empty, Refused, Rooted}}
+use Rattle.shm_table.specs.FetchHead.{Control.fetching_head, FetchHeadLeaves, fetch_head_steps}
+use Rattle.shm_table.specs.{PutRoot.Bound.IsPutShort, RecvKey.Control.receiving_key}
+use Rattle.shm_table.specs.{RecvKey.{NotReceivedIn, RecvLeaves, recv_steps}, TakeHead.Control.taking_head}
 use Rattle.shm_table.specs.TakeHead.{TakeHeadLeaves, take_head_steps}
 
 -- whatever was fetched

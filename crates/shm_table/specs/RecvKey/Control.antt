@@ -1,35 +1,23 @@
 -- the control of a receive into a table: which call comes next, and where it goes by what that call answered
 use Rattle.std.specs.Prelude.{ℕ, ◌%◌, ◌<◌, Bool, true, false, Option, Some, None, Result, Ok, Err}
 use Rattle.shm_words.specs.Layout.{GeometryFits, address_limit}
-use Rattle.shm_graph.specs.declared.ask.Me.{Me}
-use Rattle.shm_graph.specs.Laws.{Control}
-use Rattle.shm_calls.specs.declared.calls.Calls.{Calls}
-use Rattle.shm_calls.specs.declared.or.Or.{Or}
-use Rattle.shm_calls.specs.declared.or.Or.TheVariants.{First, Second}
-use Rattle.shm_calls.specs.CallsControl.{calls_control, calls_of}
-use Rattle.shm_calls.specs.Either.{or_control}
+use Rattle.shm_graph.specs.{declared.ask.Me.Me, Laws.Control}
+use Rattle.shm_calls.specs.declared.{calls.Calls.Calls, or.Or.{Or, TheVariants.{First, Second}}}
+use Rattle.shm_calls.specs.{CallsControl.{calls_control, calls_of}, Either.or_control, Steering.Steered}
 use Rattle.shm_count.specs.declared.answer.EraSpent.{EraSpent}
-use Rattle.shm_ref.specs.DropRoot.Control.{dropping}
-use Rattle.shm_ref.specs.DropRoot.{drop_plan}
-use Rattle.shm_ref.specs.DropRoots.Control.{RootsCall, drop_root}
-use Rattle.shm_script.specs.declared.log.Answer.{Answer}
+use Rattle.shm_ref.specs.{DropRoot.Control.{dropping, drop_steered}, DropRoots.Control.{RootsCall, drop_root}}
+use Rattle.shm_script.specs.{declared.log.Answer.Answer, Text.line_spelled}
 use Rattle.shm_script.specs.declared.log.Answer.TheVariants as answer
-use Rattle.shm_table.specs.declared.answer.PutFault.{PutFault}
-use Rattle.shm_table.specs.declared.fetch_head.FetchHeadState.{FetchHeadState}
-use Rattle.shm_table.specs.declared.fetch_head.FetchedHead.{FetchedHead}
-use Rattle.shm_table.specs.declared.fetch_head.FetchedHead.TheVariants.{Empty, Refused, Rooted}
-use Rattle.shm_table.specs.declared.recv.RecvPoint.{RecvPoint}
-use Rattle.shm_table.specs.declared.recv.RecvPoint.TheVariants as point
-use Rattle.shm_table.specs.declared.recv.RecvState.{RecvState}
-use Rattle.shm_table.specs.declared.take_head.TakeHeadState.{TakeHeadState}
-use Rattle.shm_table.specs.Answers.{fault_answer}
+use Rattle.shm_script.specs.declared.line.Line.TheVariants as line
+use Rattle.shm_table.specs.declared.{answer.PutFault.PutFault, fetch_head.FetchHeadState.FetchHeadState}
+use Rattle.shm_table.specs.declared.fetch_head.FetchedHead.{FetchedHead, TheVariants.{Empty, Refused, Rooted}}
+use Rattle.shm_table.specs.declared.recv.{RecvPoint.RecvPoint, RecvState.RecvState}
+use Rattle.shm_table.specs.{declared.take_head.TakeHeadState.TakeHeadState, Answers.fault_answer}
 use Rattle.shm_table.specs.CopyKey.Control.{copy_answer, stuck_answer}
-use Rattle.shm_table.specs.FetchHead.Control.{FetchHeadAnswer, FetchHeadCall, fetch_head_parts, fetching_head}
-use Rattle.shm_table.specs.FetchHead.{fetch_head_plan}
-use Rattle.shm_table.specs.PutRoot.Control.{PutRootCalls, putting_root}
-use Rattle.shm_table.specs.PutRoot.{put_root_control, put_root_plan}
-use Rattle.shm_table.specs.TakeHead.Control.{TakeHeadAnswer, TakeHeadCall, take_head_parts, taking_head}
-use Rattle.shm_table.specs.TakeHead.{take_head_plan}
+use Rattle.shm_table.specs.FetchHead.Control.{FetchHeadAnswer, FetchHeadCall, fetch_head_parts, fetching_head, fetch_head_steered}
+use Rattle.shm_table.specs.PutRoot.Control.{PutRootCalls, putting_root, put_root_steered, put_root_control}
+use Rattle.shm_table.specs.TakeHead.Control.{TakeHeadAnswer, TakeHeadCall, take_head_parts, taking_head, take_head_steered}
+use Rattle.shm_table.specs.declared.recv.RecvPoint.TheVariants as point
 
 -- ---- its calls
 
@@ -38,13 +26,13 @@ abbrev pub FetchHeadCalls : Type 0
 FetchHeadCalls = Calls FetchHeadState FetchHeadCall FetchedHead FetchHeadAnswer
 
 abbrev pub fetch_head_control : Control FetchHeadCalls FetchedHead
-fetch_head_control = calls_control fetch_head_parts fetch_head_plan
+fetch_head_control = calls_control fetch_head_parts fetch_head_steered
 
 abbrev pub TakeHeadCalls : Type 0
 TakeHeadCalls = Calls TakeHeadState TakeHeadCall (Result (Unit {0}) EraSpent) TakeHeadAnswer
 
 abbrev pub take_head_control : Control TakeHeadCalls (Result (Unit {0}) EraSpent)
-take_head_control = calls_control take_head_parts take_head_plan
+take_head_control = calls_control take_head_parts take_head_steered
 
 abbrev pub RecvCall : Type 0
 RecvCall = Or (Or FetchHeadCalls TakeHeadCalls) (Or PutRootCalls RootsCall)
@@ -61,10 +49,10 @@ abbrev pub receiving_key : Me → ℕ → ℕ → RecvState
 receiving_key me s key = record { me = me; from = s; key = key; root = 0; block = 0; number = 0; at = 0; decided = false; refused = None; point = point.Fetch }
 
 abbrev pub recv_call_at : RecvState → RecvPoint → RecvCall
-recv_call_at m point.Fetch = First (First (calls_of fetch_head_plan (fetching_head m.me m.from)))
-recv_call_at m point.Take = First (Second (calls_of take_head_plan (taking_head m.me m.from m.at m.block)))
-recv_call_at m point.Put = Second (First (calls_of put_root_plan (putting_root m.me m.key m.block)))
-recv_call_at m point.Drop = Second (Second (calls_of drop_plan (dropping m.me m.root)))
+recv_call_at m point.Fetch = First (First (calls_of fetch_head_steered (fetching_head m.me m.from)))
+recv_call_at m point.Take = First (Second (calls_of take_head_steered (taking_head m.me m.from m.at m.block)))
+recv_call_at m point.Put = Second (First (calls_of put_root_steered (putting_root m.me m.key m.block)))
+recv_call_at m point.Drop = Second (Second (calls_of drop_steered (dropping m.me m.root)))
 
 -- ---- where it goes
 
@@ -112,3 +100,16 @@ pub record RecvInRange (m : RecvState) : Type 0 where
 -- the control of its calls
 abbrev pub recv_parts : Control RecvCall RecvAnswer
 recv_parts = or_control (or_control fetch_head_control take_head_control) (or_control put_root_control drop_root)
+
+-- what the plan does: its identity and its line, its calls, and where it goes by their answers
+abbrev pub recv_steered : Steered RecvState RecvCall RecvAnswer Answer
+recv_steered =
+    record {
+      me = λ m. m.me;
+      line = λ m. line_spelled (line.Recv m.from m.key);
+      first = λ m. is_fetch m.point;
+      start = λ m. receiving_key m.me m.from m.key;
+      call = λ m. recv_call_at m m.point;
+      after = recv_after;
+      turns = recv_turns;
+    }

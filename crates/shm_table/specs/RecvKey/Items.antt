@@ -1,21 +1,15 @@
 -- a receive into a table: when the item may be fetched and taken, and what is left of it
 use Rattle.std.proofs.Common.{◌≡◌, ℕ, ◌+◌, ◌<◌, refl, sym, ap, ◌∙◌, List, Option, Some, None, inl, inr}
-use Rattle.std.specs.Prelude.{slice_index}
 use Rattle.std.proofs.lemmas.Bool.{cases_eq, cond-false, cond-true, eq-eqb, ne_eqb}
-use Rattle.shm_graph.specs.declared.ask.Me.{Me}
-use Rattle.shm_graph.specs.declared.memo.Memo.{Memo}
+use Rattle.std.specs.Prelude.{slice_index}
+use Rattle.shm_graph.specs.{declared.{ask.Me.Me, memo.Memo.Memo}, Events.Event, Idle.IsIdle}
+use Rattle.shm_graph.specs.{MemoAfterStore.{lane_with, put as put_item}, Views.own_word}
 use Rattle.shm_graph.specs.declared.spot.Spot.TheVariants as spot
-use Rattle.shm_graph.specs.Events.{Event}
-use Rattle.shm_graph.specs.Idle.{IsIdle}
-use Rattle.shm_graph.specs.MemoAfterStore.{lane_with, put as put_item}
-use Rattle.shm_graph.specs.Views.{own_word}
 use Rattle.shm_graph.proofs.Spots.Spotting.{same_spot_self}
 use Rattle.shm_steps.proofs.Items.{put_at}
 use Rattle.shm_queue.specs.QueueSteps.{put_here}
-use Rattle.shm_table.specs.declared.answer.PutFault.{PutFault}
-use Rattle.shm_table.specs.FetchHead.{MayFetchHead}
-use Rattle.shm_table.specs.RecvKey.{IsPassed, IsWaiting, ItemSo, ItemTaken, MayRecv}
-use Rattle.shm_table.specs.TakeHead.{MayTakeHead}
+use Rattle.shm_table.specs.{declared.answer.PutFault.PutFault, FetchHead.MayFetchHead}
+use Rattle.shm_table.specs.{RecvKey.{IsPassed, IsWaiting, ItemSo, ItemTaken, MayRecv}, TakeHead.MayTakeHead}
 use Rattle.shm_table.specs.ValuesListed.{idle_here}
 
 -- ---- the item

@@ -1,44 +1,26 @@
 -- what is owed of a receive into a table
 use Rattle.std.proofs.Common.{◌≡◌, ◌≢◌, ℕ, length-append, ◌+◌, ◌*◌, ◌%◌, ◌≤◌, refl, sym, ap, ◌∙◌, subst, arith, Bool, false, List, [], ◌++◌, Option, Some, None, inl, inr, ◌⊎◌}
-use Rattle.std.specs.Prelude.{Result, Ok, Err, length}
-use Rattle.std.specs.List.{All, Contains}
 use Rattle.std.proofs.lemmas.List.Elements.{All-nil, Contains-append_left, Contains-append_right}
+use Rattle.std.specs.{Prelude.{Result, Ok, Err, length}, List.{All, Contains}}
 use Rattle.shm_words.specs.Layout.{address_limit}
-use Rattle.shm_graph.specs.declared.ask.Me.{Me}
-use Rattle.shm_graph.specs.declared.memo.Memo.{Memo}
+use Rattle.shm_graph.specs.{declared.{ask.Me.Me, memo.Memo.Memo}, Asks.{Trail, IsWithin}}
+use Rattle.shm_graph.specs.{Bounds.{tear_steps, redo_steps}, Events.Event, Views.own_word}
 use Rattle.shm_graph.specs.declared.spot.Spot.TheVariants as spot
-use Rattle.shm_graph.specs.Asks.{Trail, IsWithin}
-use Rattle.shm_graph.specs.Bounds.{tear_steps, redo_steps}
-use Rattle.shm_graph.specs.Events.{Event}
 use Rattle.shm_graph.specs.Events as event
-use Rattle.shm_graph.specs.Views.{own_word}
-use Rattle.shm_calls.specs.declared.or.Or.TheVariants.{First, Second}
-use Rattle.shm_calls.specs.CallTells.{within_more}
-use Rattle.shm_calls.specs.CallsPart.{calls_part, calls_part_laws}
-use Rattle.shm_calls.specs.Either.{or_control, or_part, or_part_laws}
-use Rattle.shm_calls.specs.Parts.{IsHeld, PartLaws}
-use Rattle.shm_calls.specs.Plans.{PlanLaws, PlanStays, IsCall, Follows}
-use Rattle.shm_count.specs.declared.answer.EraSpent.{EraSpent}
-use Rattle.shm_count.specs.Roots.{root_word}
-use Rattle.shm_count.specs.Tear.Events.{Visit, frees}
-use Rattle.shm_ref.specs.DropRoot.Control.{drop_parts, dropping}
-use Rattle.shm_ref.specs.DropRoot.{DropLeaves, drop_plan}
-use Rattle.shm_ref.specs.DropRoot.Laws.{drop_laws}
+use Rattle.shm_calls.specs.{declared.or.Or.TheVariants.{First, Second}, CallTells.within_more}
+use Rattle.shm_calls.specs.{CallsPart.{calls_part, calls_part_laws}, Either.{or_control, or_part, or_part_laws}}
+use Rattle.shm_calls.specs.{Parts.{IsHeld, PartLaws}, Plans.{PlanLaws, PlanStays, IsCall, Follows}}
+use Rattle.shm_count.specs.{declared.answer.EraSpent.EraSpent, Roots.root_word, Tear.Events.{Visit, frees}}
+use Rattle.shm_ref.specs.DropRoot.{Control.{drop_parts, dropping}, DropLeaves, drop_plan, Laws.drop_laws}
 use Rattle.shm_ref.specs.DropRoots.Control.{drop_root}
-use Rattle.shm_table.specs.declared.answer.PutFault.{PutFault}
-use Rattle.shm_table.specs.declared.answer.PutFault.TheVariants as fault
-use Rattle.shm_table.specs.declared.fetch_head.FetchedHead.{FetchedHead}
-use Rattle.shm_table.specs.declared.fetch_head.FetchedHead.TheVariants as fetched
-use Rattle.shm_table.specs.declared.recv.RecvPoint.{RecvPoint}
-use Rattle.shm_table.specs.declared.recv.RecvPoint.TheVariants.{Fetch, Put, Take, Drop}
-use Rattle.shm_table.specs.declared.recv.RecvState.{RecvState}
-use Rattle.shm_table.specs.Answers.{fault_answer}
+use Rattle.shm_table.specs.declared.{answer.PutFault.PutFault, fetch_head.FetchedHead.FetchedHead}
+use Rattle.shm_table.specs.declared.recv.RecvPoint.{RecvPoint, TheVariants.{Fetch, Put, Take, Drop}}
+use Rattle.shm_table.specs.{declared.recv.RecvState.RecvState, Answers.fault_answer}
 use Rattle.shm_table.specs.Commands.{RestSo, cause_fetch, cause_put, cause_then, left_too}
 use Rattle.shm_table.specs.FetchHead.Control.{fetch_head_parts, fetching_head}
 use Rattle.shm_table.specs.FetchHead.{FetchHeadLeaves, IsHeadRooted, fetch_head_plan, fetch_head_steps}
-use Rattle.shm_table.specs.FetchHead.Laws.{fetch_head_begin}
-use Rattle.shm_table.specs.PutRoot.Control.{put_root_parts}
-use Rattle.shm_table.specs.PutRoot.{IsDecided, PutRootDone, PutRootRefused, put_root_control, put_root_plan, put_root_steps}
+use Rattle.shm_table.specs.{FetchHead.Laws.fetch_head_begin, PutRoot.Control.{put_root_parts, put_root_control}}
+use Rattle.shm_table.specs.PutRoot.{IsDecided, PutRootDone, PutRootRefused, put_root_plan, put_root_steps}
 use Rattle.shm_table.specs.PutRoot.Steps.{decided_after, decided_more, frees_append, same_more, same_part, search_before, search_more, set_after, set_then}
 use Rattle.shm_table.specs.RecvKey.Control.{RecvAnswer, fetch_head_control, is_fetch, receiving_key, recv_call_at, recv_parts, take_head_control}
 use Rattle.shm_table.specs.RecvKey.Items.{item_idle, item_taken, may_fetch, may_take}
@@ -48,9 +30,10 @@ use Rattle.shm_table.specs.Staying.Laws.{Rests, cleared_drop, dropped_else, keep
 use Rattle.shm_table.specs.TakeHead.Control.{take_head_parts, taking_head}
 use Rattle.shm_table.specs.TakeHead.{TakeHeadLeaves, passed_memo, take_head_plan, take_head_steps}
 use Rattle.shm_table.specs.TakeHead.Laws.{keeps_beside, take_head_begin}
-use Rattle.shm_table.specs.Undoing.{dropped_undone, none_undone, put_undone, stopped_undone}
-use Rattle.shm_table.specs.ValuesListed.{idle_here}
+use Rattle.shm_table.specs.{Undoing.{dropped_undone, none_undone, put_undone, stopped_undone}, ValuesListed.idle_here}
 use Rattle.shm_table.specs.Costs.{tear_sum, tear_same}
+use Rattle.shm_table.specs.declared.answer.PutFault.TheVariants as fault
+use Rattle.shm_table.specs.declared.fetch_head.FetchedHead.TheVariants as fetched
 
 -- ---- before each call
 

@@ -1,57 +1,33 @@
 -- what is owed of giving an entry another value block
 use Rattle.std.proofs.Common.{◌≡◌, ◌≢◌, ℕ, ◌+◌, ◌%◌, ◌<◌, ◌≤◌, refl, sym, ap, ◌∙◌, subst, arith, Bool, true, false, List, [], ◌++◌, append-nil, inl, inr, length}
-use Rattle.std.specs.Prelude.{◌==◌, if◌then◌else◌, Some, None, Result, Ok, Err}
-use Rattle.std.specs.List.{All, Contains}
-use Rattle.std.proofs.lemmas.Bool.{cases_eq, eq-eqb, ne_eqb, true≢false}
-use Rattle.std.proofs.lemmas.List.Elements.{All-nil}
+use Rattle.std.proofs.lemmas.{Bool.{cases_eq, eq-eqb, ne_eqb, true≢false}, List.Elements.All-nil}
+use Rattle.std.specs.{Prelude.{◌==◌, if◌then◌else◌, Some, None, Result, Ok, Err}, List.{All, Contains}}
 use Rattle.shm_words.proofs.Placing.{total_small}
 use Rattle.shm_words.specs.Layout.{total_of, address_limit}
-use Rattle.shm_graph.specs.declared.ask.Me.{Me}
-use Rattle.shm_graph.specs.declared.memo.Memo.{Memo}
-use Rattle.shm_graph.specs.declared.spot.Spot.{Spot}
-use Rattle.shm_graph.specs.declared.spot.Spot.TheVariants.{Body, Home, Root}
-use Rattle.shm_graph.specs.Agents.{recovers}
-use Rattle.shm_graph.specs.Asks.{Trail, IsWithin}
-use Rattle.shm_graph.specs.Bounds.{change_steps, tear_steps}
-use Rattle.shm_graph.specs.Events.{Event}
-use Rattle.shm_graph.specs.Laws.{Outcome}
-use Rattle.shm_graph.specs.Telling.{Entry as AnEntry}
-use Rattle.shm_graph.specs.Views.{own_word}
-use Rattle.shm_calls.specs.declared.or.Or.TheVariants.{First, Second}
-use Rattle.shm_calls.specs.CallTells.{within_more}
-use Rattle.shm_calls.specs.Either.{or_control, or_part, or_part_laws}
-use Rattle.shm_calls.specs.Parts.{IsHeld}
+use Rattle.shm_graph.specs.declared.{ask.Me.Me, memo.Memo.Memo, spot.Spot.{Spot, TheVariants.{Body, Home, Root}}}
+use Rattle.shm_graph.specs.{Agents.recovers, Asks.{Trail, IsWithin}, Bounds.{change_steps, tear_steps}, Events.Event}
+use Rattle.shm_graph.specs.{Laws.Outcome, Telling.Entry as AnEntry, Views.own_word}
+use Rattle.shm_calls.specs.{declared.or.Or.TheVariants.{First, Second}, CallTells.within_more}
+use Rattle.shm_calls.specs.{Either.{or_control, or_part, or_part_laws}, Parts.IsHeld}
 use Rattle.shm_calls.specs.Plans.{PlanLaws, PlanStays, IsCall, Follows}
 use Rattle.shm_calls.specs.Words.{word_control, word_part_laws, WordLeaves}
 use Rattle.shm_steps.specs.Reparting.{sight, map_in, IsValue}
-use Rattle.shm_steps.proofs.Cores.{here_same}
-use Rattle.shm_steps.proofs.Reaching.{look_reached, root_reached}
-use Rattle.shm_count.specs.declared.answer.EraSpent.{EraSpent as ASpent}
-use Rattle.shm_count.specs.declared.answer.UpFault.{UpFault}
-use Rattle.shm_count.specs.declared.point.Aim.TheVariants as aims
-use Rattle.shm_count.specs.CountParts.{tear_part, tear_part_laws}
-use Rattle.shm_count.specs.Lowering.{dies, torn_leaves}
-use Rattle.shm_count.specs.Roots.{root_word}
-use Rattle.shm_count.specs.Slots.{Lost, StepCause, Took, Untouched}
-use Rattle.shm_count.specs.Slots.Parts.{change_slot_laws, change_slot_part}
-use Rattle.shm_count.specs.Step.Control.{IsInside, step_control}
-use Rattle.shm_count.specs.Tear.Control.{tear_control}
-use Rattle.shm_count.specs.Tear.Events.{Visit, frees}
+use Rattle.shm_steps.proofs.{Cores.here_same, Reaching.{look_reached, root_reached}}
+use Rattle.shm_count.specs.declared.answer.{EraSpent.EraSpent as ASpent, UpFault.UpFault}
+use Rattle.shm_count.specs.{CountParts.{tear_part, tear_part_laws}, Lowering.{dies, torn_leaves}, Roots.root_word}
+use Rattle.shm_count.specs.Slots.{Lost, StepCause, Took, Untouched, Parts.{change_slot_laws, change_slot_part}}
+use Rattle.shm_count.specs.{Step.Control.{IsInside, step_control}, Tear.{Control.tear_control, Events.{Visit, frees}}}
 use Rattle.shm_count.specs.Tear.{TearLeaves}
+use Rattle.shm_count.specs.declared.point.Aim.TheVariants as aims
 use Rattle.shm_ref.specs.CountedBlocks.{reached_counted}
-use Rattle.shm_table.specs.declared.answer.PutFault.{PutFault}
-use Rattle.shm_table.specs.declared.replace.ReplacePoint.{ReplacePoint}
-use Rattle.shm_table.specs.declared.replace.ReplacePoint.TheVariants.{Look, Change, Tear}
-use Rattle.shm_table.specs.declared.replace.ReplaceState.{ReplaceState}
-use Rattle.shm_table.specs.Answers.{raised_fault}
-use Rattle.shm_table.specs.EntryReads.{EntryReads, entry_loads, reference_reads}
-use Rattle.shm_table.specs.EntrySteps.{ValueSteps, value_steps, word_step}
-use Rattle.shm_table.specs.Find.Control.{word_ask}
+use Rattle.shm_table.specs.declared.{answer.PutFault.PutFault, replace.ReplacePoint.ReplacePoint}
+use Rattle.shm_table.specs.declared.replace.{ReplacePoint.TheVariants.{Look, Change, Tear}, ReplaceState.ReplaceState}
+use Rattle.shm_table.specs.{Answers.raised_fault, EntryReads.{EntryReads, entry_loads, reference_reads}}
+use Rattle.shm_table.specs.{EntrySteps.{ValueSteps, value_steps, word_step}, Find.Control.word_ask}
 use Rattle.shm_table.specs.Find.SearchLoads.{entry_latched, look_in}
 use Rattle.shm_table.specs.Replace.Control.{ReplaceAnswer, is_look, replace_call_at, replace_parts, replacing}
 use Rattle.shm_table.specs.Replace.{IsFallen, IsSeen, IsTorn, MayBegin, MayReplace, NotReplaced, Replaced, ReplaceKnows, ReplaceLeaves, changed_events, look_part, replace_plan}
-use Rattle.shm_table.specs.Staying.{Ended, Keeps, SameMap}
-use Rattle.shm_table.specs.Staying.Laws.{keeps_more, keeps_untouched, raised_cause, same_map}
+use Rattle.shm_table.specs.Staying.{Ended, Keeps, SameMap, Laws.{keeps_more, keeps_untouched, raised_cause, same_map}}
 use Rattle.shm_table.specs.Staying.Steps.{keeps_took}
 use Rattle.shm_table.specs.ValuesListed.{ReadsMore, cause_read, idle_here, keeps_reads, reads_more_by}
 use Rattle.shm_table.specs.Costs.{tear_same}

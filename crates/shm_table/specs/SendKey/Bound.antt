@@ -1,19 +1,12 @@
 -- how many word steps it takes to send what an own key has: by the keys that were read
 use Rattle.std.proofs.Common.{ℕ, ◌+◌, ◌*◌, refl, arith, List, length, Bool}
-use Rattle.shm_graph.specs.declared.ask.Me.{Me}
-use Rattle.shm_graph.specs.declared.memo.Memo.{Memo}
-use Rattle.shm_graph.specs.Asks.{Trail, IsWithin}
-use Rattle.shm_graph.specs.Bounds.{command_steps}
+use Rattle.shm_graph.specs.{declared.{ask.Me.Me, memo.Memo.Memo}, Asks.{Trail, IsWithin}, Bounds.command_steps}
 use Rattle.shm_graph.specs.Events.{Event}
 use Rattle.shm_script.specs.declared.log.Answer.{Answer}
 use Rattle.shm_script.specs.declared.log.Answer.TheVariants as answer
-use Rattle.shm_table.specs.declared.find.Found.TheVariants.{Absent}
-use Rattle.shm_table.specs.Find.Control.{Passed}
-use Rattle.shm_table.specs.Get.Bound.{GetAsked, missing_within}
-use Rattle.shm_table.specs.PutRoot.{HasSearch}
-use Rattle.shm_table.specs.SendKey.Control.{sending_key}
-use Rattle.shm_table.specs.SendKey.{SendKeyLeaves, send_key_steps}
-use Rattle.shm_table.specs.Unlatch.{unlatch_trail}
+use Rattle.shm_table.specs.{declared.find.Found.TheVariants.Absent, Find.Control.Passed}
+use Rattle.shm_table.specs.{Get.Bound.{GetAsked, missing_within}, PutRoot.HasSearch, SendKey.Control.sending_key}
+use Rattle.shm_table.specs.{SendKey.{SendKeyLeaves, send_key_steps}, Unlatch.unlatch_trail}
 
 -- so many keys were read by the search, and so many word steps were made at most
 abbrev pub IsSendShort : Me → ℕ → (ℕ → ℕ) → Trail → Type 0

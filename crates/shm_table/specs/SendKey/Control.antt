@@ -1,32 +1,20 @@
 -- the control of sending what an own key has: which call comes next, and where it goes by what that call answered
 use Rattle.std.specs.Prelude.{ℕ, ◌%◌, ◌<◌, Bool, true, false, Option, Some, None, Result, Ok, Err}
 use Rattle.shm_words.specs.Layout.{GeometryFits, address_limit}
-use Rattle.shm_graph.specs.declared.ask.Me.{Me}
-use Rattle.shm_graph.specs.Laws.{Control}
-use Rattle.shm_calls.specs.declared.calls.Calls.{Calls}
-use Rattle.shm_calls.specs.declared.or.Or.{Or}
-use Rattle.shm_calls.specs.declared.or.Or.TheVariants.{First, Second}
-use Rattle.shm_calls.specs.declared.word.Word.{Word}
-use Rattle.shm_calls.specs.CallsControl.{calls_of}
-use Rattle.shm_calls.specs.Either.{or_control}
-use Rattle.shm_calls.specs.Words.{word_control}
-use Rattle.shm_queue.specs.declared.answer.SendFault.{SendFault}
-use Rattle.shm_queue.specs.declared.answer.SendFault.TheVariants.{QueueFull, EraSpent, CountFull}
-use Rattle.shm_queue.specs.declared.send.SendState.{SendState}
-use Rattle.shm_queue.specs.Machines.{send as send_control}
-use Rattle.shm_queue.specs.Send.Control.{SendCall, SendAnswer, sending}
-use Rattle.shm_queue.specs.Send.{send_plan}
-use Rattle.shm_script.specs.declared.log.Answer.{Answer}
+use Rattle.shm_graph.specs.{declared.ask.Me.Me, Laws.Control}
+use Rattle.shm_calls.specs.declared.{calls.Calls.Calls, or.Or.{Or, TheVariants.{First, Second}}, word.Word.Word}
+use Rattle.shm_calls.specs.{CallsControl.calls_of, Either.or_control, Words.word_control, Steering.Steered}
+use Rattle.shm_queue.specs.declared.answer.SendFault.{SendFault, TheVariants.{QueueFull, EraSpent, CountFull}}
+use Rattle.shm_queue.specs.{declared.send.SendState.SendState, Machines.send as send_control}
+use Rattle.shm_queue.specs.Send.Control.{SendCall, SendAnswer, sending, send_steered}
+use Rattle.shm_script.specs.{declared.log.Answer.Answer, Text.line_spelled}
 use Rattle.shm_script.specs.declared.log.Answer.TheVariants as answer
-use Rattle.shm_table.specs.declared.find.Found.{Found}
-use Rattle.shm_table.specs.declared.find.Found.TheVariants.{Absent, At}
-use Rattle.shm_table.specs.declared.send_key.SendKeyPoint.{SendKeyPoint}
+use Rattle.shm_script.specs.declared.line.Line.TheVariants as line
+use Rattle.shm_table.specs.declared.{find.Found.{Found, TheVariants.{Absent, At}}, send_key.SendKeyPoint.SendKeyPoint}
 use Rattle.shm_table.specs.declared.send_key.SendKeyPoint.TheVariants.{Search, Value, Send, Give}
-use Rattle.shm_table.specs.declared.send_key.SendKeyState.{SendKeyState}
-use Rattle.shm_table.specs.Find.Control.{word_ask}
-use Rattle.shm_table.specs.Locate.Control.{locating}
-use Rattle.shm_table.specs.Locate.{LocateCalls, locate_control, locate_plan}
-use Rattle.shm_table.specs.Unlatch.{UnlatchCalls, unlatch_control, unlatch_plan, unlatching}
+use Rattle.shm_table.specs.{declared.send_key.SendKeyState.SendKeyState, Find.Control.word_ask}
+use Rattle.shm_table.specs.Locate.Control.{locating, locate_steered, LocateCalls, locate_control}
+use Rattle.shm_table.specs.Unlatch.{UnlatchCalls, unlatch_control, unlatching, unlatch_steered}
 
 -- its calls, and what they answer
 abbrev pub SendKeyCall : Type 0
@@ -44,10 +32,10 @@ abbrev pub sending_key : Me → ℕ → ℕ → SendKeyState
 sending_key me i key = record { me = me; to = i; key = key; entry = 0; block = 0; outcome = answer.Missing; point = Search }
 
 abbrev pub send_key_call : SendKeyState → SendKeyPoint → SendKeyCall
-send_key_call m Search = First (calls_of locate_plan (locating m.me m.me.who m.key))
+send_key_call m Search = First (calls_of locate_steered (locating m.me m.me.who m.key))
 send_key_call m Value = Second (First (record { me = m.me; ask = word_ask m.entry 1; over = false }))
-send_key_call m Send = Second (Second (First (calls_of send_plan (sending m.me m.to m.block))))
-send_key_call m Give = Second (Second (Second (calls_of unlatch_plan (unlatching m.me m.me.who))))
+send_key_call m Send = Second (Second (First (calls_of send_steered (sending m.me m.to m.block))))
+send_key_call m Give = Second (Second (Second (calls_of unlatch_steered (unlatching m.me m.me.who))))
 
 -- what it answers once the latch is given back, by whether the block was sent
 abbrev pub sent_answer : Result ℕ SendFault → Answer
@@ -84,3 +72,16 @@ pub record SendKeyInRange (m : SendKeyState) : Type 0 where
 -- the control of its calls
 abbrev pub send_key_parts : Control SendKeyCall SendKeyAnswer
 send_key_parts = or_control locate_control (or_control word_control (or_control send_control unlatch_control))
+
+-- what the plan does: its identity and its line, its calls, and where it goes by their answers
+abbrev pub send_key_steered : Steered SendKeyState SendKeyCall SendKeyAnswer Answer
+send_key_steered =
+    record {
+      me = λ m. m.me;
+      line = λ m. line_spelled (line.Send m.to m.key);
+      first = λ m. is_search m.point;
+      start = λ m. sending_key m.me m.to m.key;
+      call = λ m. send_key_call m m.point;
+      after = send_key_after;
+      turns = send_key_turns;
+    }

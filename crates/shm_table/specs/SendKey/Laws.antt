@@ -2,51 +2,30 @@
 use Rattle.std.proofs.Common.{◌≡◌, ℕ, ◌+◌, ◌*◌, ◌%◌, refl, sym, ap, ◌∙◌, subst, arith, false, List, [], ◌∷◌, ◌++◌}
 use Rattle.std.specs.Prelude.{Some, None, Ok, Err, slice_index}
 use Rattle.shm_words.specs.Layout.{address_limit}
-use Rattle.shm_graph.specs.declared.ask.Me.{Me}
-use Rattle.shm_graph.specs.declared.memo.Memo.{Memo}
-use Rattle.shm_graph.specs.declared.spot.Spot.TheVariants.{Body, Era, Home, Slot, Tail}
-use Rattle.shm_graph.specs.Agents.{recovers}
-use Rattle.shm_graph.specs.Asks.{Trail, IsWithin}
-use Rattle.shm_graph.specs.Events.{Event}
-use Rattle.shm_graph.specs.Events as event
-use Rattle.shm_graph.specs.Idle.{IsIdle}
-use Rattle.shm_graph.specs.Trails.{Answers, Asked}
+use Rattle.shm_graph.specs.declared.{ask.Me.Me, memo.Memo.Memo, spot.Spot.TheVariants.{Body, Era, Home, Slot, Tail}}
+use Rattle.shm_graph.specs.{Agents.recovers, Asks.{Trail, IsWithin}, Events.Event, Idle.IsIdle, Trails.{Answers, Asked}}
 use Rattle.shm_graph.specs.Bounds.{redo_steps}
-use Rattle.shm_calls.specs.declared.or.Or.TheVariants.{First, Second}
-use Rattle.shm_calls.specs.CallTells.{within_more}
-use Rattle.shm_calls.specs.CallsPart.{calls_part, calls_part_laws}
-use Rattle.shm_calls.specs.Either.{or_control, or_part, or_part_laws}
-use Rattle.shm_calls.specs.Parts.{IsHeld}
-use Rattle.shm_calls.specs.Plans.{PlanLaws, PlanStays, IsCall, Follows}
+use Rattle.shm_graph.specs.Events as event
+use Rattle.shm_calls.specs.{declared.or.Or.TheVariants.{First, Second}, CallTells.within_more}
+use Rattle.shm_calls.specs.{CallsPart.{calls_part, calls_part_laws}, Either.{or_control, or_part, or_part_laws}}
+use Rattle.shm_calls.specs.{Parts.IsHeld, Plans.{PlanLaws, PlanStays, IsCall, Follows}}
 use Rattle.shm_calls.specs.Words.{word_control, word_part, word_part_laws}
-use Rattle.shm_steps.specs.Reparting.{map_in}
-use Rattle.shm_steps.specs.WordParts.{ReferenceLoaded}
-use Rattle.shm_steps.proofs.Reaching.{look_reached}
-use Rattle.shm_steps.proofs.Words.Blocks.{idle_settled, reference_load}
+use Rattle.shm_steps.specs.{Reparting.map_in, WordParts.ReferenceLoaded}
+use Rattle.shm_steps.proofs.{Reaching.look_reached, Words.Blocks.{idle_settled, reference_load}}
 use Rattle.shm_ref.specs.AskedParts.{asked_part_laws}
-use Rattle.shm_queue.specs.declared.answer.SendFault.{SendFault}
-use Rattle.shm_queue.specs.declared.answer.SendFault.TheVariants.{QueueFull, EraSpent, CountFull}
-use Rattle.shm_queue.specs.Machines.{send as send_control}
-use Rattle.shm_queue.specs.Send.Control.{send_parts, sending}
-use Rattle.shm_queue.specs.Send.{MaySendTo, NotSent, SendDone, SendLeaves, send_plan}
-use Rattle.shm_queue.specs.Send.Laws.{send_laws}
+use Rattle.shm_queue.specs.declared.answer.SendFault.{SendFault, TheVariants.{QueueFull, EraSpent, CountFull}}
+use Rattle.shm_queue.specs.{Machines.send as send_control, Send.Control.{send_parts, sending}}
+use Rattle.shm_queue.specs.Send.{MaySendTo, NotSent, SendDone, SendLeaves, send_plan, Laws.send_laws}
 use Rattle.shm_script.specs.declared.log.Answer.{Answer}
 use Rattle.shm_script.specs.declared.log.Answer.TheVariants as answer
-use Rattle.shm_table.specs.declared.find.Found.TheVariants.{Absent, At}
-use Rattle.shm_table.specs.declared.get.GetPoint.TheVariants as get
-use Rattle.shm_table.specs.declared.send_key.SendKeyPoint.{SendKeyPoint}
+use Rattle.shm_table.specs.declared.{find.Found.TheVariants.{Absent, At}, send_key.SendKeyPoint.SendKeyPoint}
 use Rattle.shm_table.specs.declared.send_key.SendKeyPoint.TheVariants.{Search, Value, Send, Give}
-use Rattle.shm_table.specs.declared.send_key.SendKeyState.{SendKeyState}
-use Rattle.shm_table.specs.Fetch.{IsOn}
+use Rattle.shm_table.specs.{declared.send_key.SendKeyState.SendKeyState, Fetch.IsOn}
 use Rattle.shm_table.specs.Fetch.Steps.{clear_reading, idle_more, keeps_reading, map_reading, on_more, one_step, search_on, value_seen}
-use Rattle.shm_table.specs.Find.Control.{word_ask}
-use Rattle.shm_table.specs.Find.SearchLoads.{entry_latched}
-use Rattle.shm_table.specs.Get.{IsReading}
+use Rattle.shm_table.specs.{Find.{Control.word_ask, SearchLoads.entry_latched}, Get.IsReading}
 use Rattle.shm_table.specs.Get.Laws.{at_entry, latch_of, may_unlatch, missing, nowhere, value_read}
-use Rattle.shm_table.specs.Get.UnderLatch.{reference_more}
-use Rattle.shm_table.specs.Locate.Control.{locate_parts}
-use Rattle.shm_table.specs.Locate.{Located, MayLocate, locate_control, locate_plan}
-use Rattle.shm_table.specs.Locate.Laws.{locate_begin, locate_laws}
+use Rattle.shm_table.specs.{Get.UnderLatch.reference_more, Locate.Control.{locate_parts, locate_control}}
+use Rattle.shm_table.specs.Locate.{Located, MayLocate, locate_plan, Laws.{locate_begin, locate_laws}}
 use Rattle.shm_table.specs.PutRoot.Steps.{same_more, same_part, search_more}
 use Rattle.shm_table.specs.SendKey.Control.{SendKeyAnswer, is_search, send_key_call, send_key_parts, sending_key}
 use Rattle.shm_table.specs.SendKey.{GiveKnows, IsSent, IsUnsent, MaySendKey, SendCause, SendKeyKnows, SendKeyLeaves, got, send_key_part, send_key_plan, send_key_steps, sent_steps, value_part}
@@ -54,8 +33,8 @@ use Rattle.shm_table.specs.SendKey.Steps.{keeps_after, keeps_sent, own_names, re
 use Rattle.shm_table.specs.Staying.{Cleared, Keeps, SameMap}
 use Rattle.shm_table.specs.Staying.Laws.{Rests, cleared_more, keeps_core, keeps_more, keeps_unlatched, keeps_untouched, rests_core, rests_untouched, unlatched_else}
 use Rattle.shm_table.specs.Unlatch.{MayUnlatch, Unlatched, unlatch_control, unlatch_plan}
-use Rattle.shm_table.specs.Unlatch.Laws.{unlatch_begin, unlatch_laws}
-use Rattle.shm_table.specs.ValuesListed.{idle_here}
+use Rattle.shm_table.specs.{Unlatch.Laws.{unlatch_begin, unlatch_laws}, ValuesListed.idle_here}
+use Rattle.shm_table.specs.declared.get.GetPoint.TheVariants as get
 
 -- ---- what the calls need
 

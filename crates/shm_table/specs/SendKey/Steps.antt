@@ -1,31 +1,18 @@
 -- what stays of a memo where a block is sent under the own latch, and what the own map had
 use Rattle.std.proofs.Common.{◌≡◌, ℕ, ◌+◌, ◌<◌, refl, sym, ap, ◌∙◌, subst, arith, true, false, List, inl, inr}
-use Rattle.std.specs.Prelude.{Some}
-use Rattle.std.specs.List.{Contains}
 use Rattle.std.proofs.lemmas.Bool.{cases_Bool, cond-false, cond-true}
-use Rattle.shm_graph.specs.declared.ask.Me.{Me}
-use Rattle.shm_graph.specs.declared.memo.Memo.{Memo}
-use Rattle.shm_graph.specs.declared.memo.Stored.{Stored}
-use Rattle.shm_graph.specs.declared.spot.Spot.{Spot}
-use Rattle.shm_graph.specs.declared.spot.Spot.TheVariants.{Body, Hold, Home, Root, Tail}
-use Rattle.shm_graph.specs.Asks.{Trail}
-use Rattle.shm_graph.specs.Events.{Event}
-use Rattle.shm_graph.specs.Held.{is_loose}
-use Rattle.shm_graph.specs.Idle.{hold_word}
-use Rattle.shm_graph.specs.Spots.{same_spot}
-use Rattle.shm_graph.specs.MemoAfterStore.{lane_with}
-use Rattle.shm_graph.specs.Views.{own_word}
+use Rattle.std.specs.{Prelude.Some, List.Contains}
+use Rattle.shm_graph.specs.declared.{ask.Me.Me, memo.{Memo.Memo, Stored.Stored}, spot.Spot.Spot}
+use Rattle.shm_graph.specs.{declared.spot.Spot.TheVariants.{Body, Hold, Home, Root, Tail}, Asks.Trail, Events.Event}
+use Rattle.shm_graph.specs.{Held.is_loose, Idle.hold_word, Spots.same_spot, MemoAfterStore.lane_with, Views.own_word}
 use Rattle.shm_graph.proofs.Spots.Spotting.{same_spot_is, same_spot_self}
 use Rattle.shm_calls.specs.Parts.{IsHeld}
 use Rattle.shm_steps.specs.Reparting.{map_in}
 use Rattle.shm_count.specs.Tear.Memos.{is_lasting}
 use Rattle.shm_queue.specs.Send.{Sent}
 use Rattle.shm_script.specs.declared.log.Answer.TheVariants as answer
-use Rattle.shm_table.specs.Find.{IsLook}
-use Rattle.shm_table.specs.Find.Tells.{HasRead, author_names}
-use Rattle.shm_table.specs.SendKey.Control.{sending_key}
-use Rattle.shm_table.specs.SendKey.{SendKeyLeaves, with_sent}
-use Rattle.shm_table.specs.Staying.{Keeps, is_set}
+use Rattle.shm_table.specs.{Find.{IsLook, Tells.{HasRead, author_names}}, SendKey.Control.sending_key}
+use Rattle.shm_table.specs.{SendKey.{SendKeyLeaves, with_sent}, Staying.{Keeps, is_set}}
 use Rattle.shm_table.specs.Staying.Laws.{Rests, keeps_more, value_same}
 
 -- ---- the own map

@@ -1,59 +1,32 @@
 -- what stays where nothing is done, over one part after another, over latches, reading, allocations, steps at the own home, refused steps and drops of roots
 use Rattle.std.proofs.Common.{◌≡◌, ◌≢◌, ℕ, ◌+◌, ◌<◌, ◌≤◌, refl, sym, ap, ◌∙◌, subst, arith, Bool, true, false, eqb, ◌&&◌, append-nil, List, [], Option, Some, None, inl, inr}
-use Rattle.std.specs.Prelude.{◌⊎◌, ◌==◌, Result, Ok, Err}
-use Rattle.std.specs.List.{Contains, list_any}
 use Rattle.std.proofs.lemmas.Bool.{cases_Bool, cond-false, cond-true, eq-eqb, eqb-true, false≢true, ne_eqb, true≢false, not-true}
 use Rattle.std.proofs.lemmas.List.Elements.{Contains-append_right}
+use Rattle.std.specs.{Prelude.{◌⊎◌, ◌==◌, Result, Ok, Err}, List.{Contains, list_any}}
 use Rattle.shm_laws.proofs.Keep.{Contains-filter}
-use Rattle.shm_graph.specs.declared.ask.Me.{Me}
-use Rattle.shm_graph.specs.declared.spot.Spot.{Spot}
-use Rattle.shm_graph.specs.declared.spot.Spot.TheVariants.{Hold, Home, Era, RedoMore, Root, Tag, Body}
-use Rattle.shm_graph.specs.declared.memo.Memo.{Memo}
-use Rattle.shm_graph.specs.declared.memo.Op.TheVariants.{Nothing}
-use Rattle.shm_graph.specs.declared.memo.Stored.{Stored}
-use Rattle.shm_graph.specs.declared.table.Part.{Part}
-use Rattle.shm_graph.specs.Asks.{Trail}
-use Rattle.shm_graph.specs.Core.{core}
-use Rattle.shm_graph.specs.Events.{Event}
-use Rattle.shm_graph.specs.Held.{is_loose, is_slot}
-use Rattle.shm_graph.specs.Idle.{IsIdle, hold_word}
-use Rattle.shm_graph.specs.Ops.{cover}
-use Rattle.shm_graph.specs.Ops.Cover.{On}
-use Rattle.shm_graph.specs.Reach.{binds_unlatched, is_latch_of, is_named, named_blocks, unlatched}
-use Rattle.shm_graph.specs.Spots.{same_spot}
-use Rattle.shm_graph.specs.Views.{own_word}
+use Rattle.shm_graph.specs.declared.{ask.Me.Me, spot.Spot.Spot}
+use Rattle.shm_graph.specs.declared.{spot.Spot.TheVariants.{Hold, Home, Era, RedoMore, Root, Tag, Body}, memo.Memo.Memo}
+use Rattle.shm_graph.specs.{declared.{memo.{Op.TheVariants.Nothing, Stored.Stored}, table.Part.Part}, Asks.Trail}
+use Rattle.shm_graph.specs.{Core.core, Events.Event, Held.{is_loose, is_slot}, Idle.{IsIdle, hold_word}, Ops.cover}
+use Rattle.shm_graph.specs.{Ops.Cover.On, Reach.{binds_unlatched, is_latch_of, is_named, named_blocks, unlatched}}
+use Rattle.shm_graph.specs.{Spots.same_spot, Views.own_word}
 use Rattle.shm_graph.proofs.Spots.Spotting.{same_spot_self}
 use Rattle.shm_steps.specs.Reparting.{sight, map_in, IsValue}
-use Rattle.shm_steps.proofs.PartsSet.{loose_stays}
-use Rattle.shm_steps.proofs.Reaching.{root_reached}
-use Rattle.shm_steps.proofs.UnlatchedValue.{value_unlatched}
+use Rattle.shm_steps.proofs.{PartsSet.loose_stays, Reaching.root_reached, UnlatchedValue.value_unlatched}
 use Rattle.shm_calls.specs.Parts.{IsHeld}
-use Rattle.shm_count.specs.declared.answer.EraSpent.{EraSpent}
-use Rattle.shm_count.specs.declared.answer.Made.{Made}
-use Rattle.shm_count.specs.declared.answer.UpFault.{UpFault}
+use Rattle.shm_count.specs.declared.{answer.{EraSpent.EraSpent, Made.Made, UpFault.UpFault}, point.Aim.Aim}
+use Rattle.shm_count.specs.{declared.point.Aim.TheVariants.{Up, Down, Change}, Retaining.slot_known}
+use Rattle.shm_count.specs.{Roots.{rest, root_word}, Slots.{Filled, StepCause, Untouched}}
+use Rattle.shm_count.specs.{Step.Parts.{lasting_not, part_after}, Tear.Memos.{is_lasting, Knows, Remains}}
 use Rattle.shm_count.specs.declared.answer.UpFault.TheVariants as up
-use Rattle.shm_count.specs.declared.point.Aim.{Aim}
-use Rattle.shm_count.specs.declared.point.Aim.TheVariants.{Up, Down, Change}
-use Rattle.shm_count.specs.Retaining.{slot_known}
-use Rattle.shm_count.specs.Roots.{rest, root_word}
-use Rattle.shm_count.specs.Slots.{Filled, StepCause, Untouched}
-use Rattle.shm_count.specs.Step.Parts.{lasting_not, part_after}
-use Rattle.shm_count.specs.Tear.Memos.{is_lasting, Knows, Remains}
-use Rattle.shm_alloc.specs.declared.alloc.AllocFault.{AllocFault}
+use Rattle.shm_alloc.specs.{declared.{alloc.AllocFault.AllocFault, request.Request.Request}, Alloc.Carrying.value_made}
+use Rattle.shm_alloc.specs.Alloc.{AnswerHolds, MadeGives, goal_of, Steps.ready_word}
 use Rattle.shm_alloc.specs.declared.alloc.AllocFault.TheVariants as alloc
-use Rattle.shm_alloc.specs.declared.request.Request.{Request}
-use Rattle.shm_alloc.specs.Alloc.Carrying.{value_made}
-use Rattle.shm_alloc.specs.Alloc.{AnswerHolds, MadeGives, goal_of}
-use Rattle.shm_alloc.specs.Alloc.Steps.{ready_word}
-use Rattle.shm_ref.specs.declared.drop_root.DropState.{DropState}
-use Rattle.shm_ref.specs.DropRoot.{DropLeaves}
-use Rattle.shm_ref.specs.Hold.{wants}
-use Rattle.shm_ref.specs.Leaving.{left_root}
+use Rattle.shm_ref.specs.{declared.drop_root.DropState.DropState, DropRoot.DropLeaves, Hold.wants, Leaving.left_root}
 use Rattle.shm_ref.specs.Lefts.{Left, is_root_of}
 use Rattle.shm_table.specs.declared.answer.PutFault.{PutFault}
 use Rattle.shm_table.specs.declared.answer.PutFault.TheVariants.{EraSpent as Spent, RootsFull, Full, CountFull}
-use Rattle.shm_table.specs.Answers.{made_fault, raised_fault}
-use Rattle.shm_table.specs.Find.{OnlyReads}
+use Rattle.shm_table.specs.{Answers.{made_fault, raised_fault}, Find.OnlyReads}
 use Rattle.shm_table.specs.Staying.{Cleared, Ended, IsSpent, Keeps, Latched, PutCause, SameMap, is_set}
 
 -- ---- own words that are kept

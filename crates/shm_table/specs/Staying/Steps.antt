@@ -1,37 +1,20 @@
 -- what stays over count steps at words of blocks, and what the steps of tables make of the own map
 use Rattle.std.proofs.Common.{◌≡◌, ◌≢◌, ℕ, ◌<◌, refl, sym, ap, ◌∙◌, subst, arith, Bool, true, false, List, ◌∷◌, ◌++◌, inl, [], cond}
+use Rattle.std.proofs.lemmas.{Bool.{eq-eqb, false≢true}, List.Elements.{All-contains, Contains-push}}
 use Rattle.std.specs.List.{Contains}
-use Rattle.std.proofs.lemmas.Bool.{eq-eqb, false≢true}
-use Rattle.std.proofs.lemmas.List.Elements.{All-contains, Contains-push}
-use Rattle.shm_words.specs.declared.geometry.Geometry.{Geometry}
-use Rattle.shm_words.specs.Tags.{tag_refs}
-use Rattle.shm_graph.specs.declared.ask.Me.{Me}
-use Rattle.shm_graph.specs.declared.spot.Spot.{Spot}
-use Rattle.shm_graph.specs.declared.spot.Spot.TheVariants.{Hold, Home, Root, Tag, Body}
-use Rattle.shm_graph.specs.declared.memo.Memo.{Memo}
-use Rattle.shm_graph.specs.declared.memo.Op.TheVariants.{Nothing}
-use Rattle.shm_graph.specs.declared.memo.Stored.{Stored}
-use Rattle.shm_graph.specs.Held.{HeldAt, is_loose, is_slot}
-use Rattle.shm_graph.specs.Idle.{IsIdle}
-use Rattle.shm_graph.specs.Ops.{cover_of}
-use Rattle.shm_graph.specs.Reach.{is_named, learnt}
+use Rattle.shm_words.specs.{declared.geometry.Geometry.Geometry, Tags.tag_refs}
+use Rattle.shm_graph.specs.declared.{ask.Me.Me, spot.Spot.{Spot, TheVariants.{Hold, Home, Root, Tag, Body}}}
+use Rattle.shm_graph.specs.declared.memo.{Memo.Memo, Op.TheVariants.Nothing, Stored.Stored}
+use Rattle.shm_graph.specs.{Held.{HeldAt, is_loose, is_slot}, Idle.IsIdle, Ops.cover_of, Reach.{is_named, learnt}}
 use Rattle.shm_graph.specs.Views.{own_word, view}
 use Rattle.shm_graph.proofs.Memos.KnownChange.{ValueHolds}
-use Rattle.shm_steps.specs.Beginning.{IsOwnWord}
-use Rattle.shm_steps.specs.Reparting.{sight, map_in, map_after, TableStep}
-use Rattle.shm_steps.proofs.BeginAt.{SlotHas}
-use Rattle.shm_steps.proofs.BeginSlots.{home_has}
-use Rattle.shm_steps.proofs.BeginWords.{own_word_has}
-use Rattle.shm_steps.proofs.PartsSet.{loose_stays}
-use Rattle.shm_steps.proofs.Partitions.Reparted.{table_mapped}
-use Rattle.shm_steps.proofs.Partitions.Seeking.{learnt_other}
+use Rattle.shm_steps.specs.{Beginning.IsOwnWord, Reparting.{sight, map_in, map_after, TableStep}}
+use Rattle.shm_steps.proofs.{BeginAt.SlotHas, BeginSlots.home_has, BeginWords.own_word_has, PartsSet.loose_stays}
+use Rattle.shm_steps.proofs.Partitions.{Reparted.table_mapped, Seeking.learnt_other}
 use Rattle.shm_calls.specs.Parts.{IsHeld}
-use Rattle.shm_count.specs.Retaining.{held_counted, slot_known, slots_learnt}
-use Rattle.shm_count.specs.Roots.{rest, root_word}
-use Rattle.shm_count.specs.Slots.{Filled, Lost, Took}
-use Rattle.shm_count.specs.Step.Parts.{part_after}
-use Rattle.shm_table.specs.Staying.{Cleared, Keeps}
-use Rattle.shm_table.specs.Staying.Laws.{keeps_rest, root_named, value_by}
+use Rattle.shm_count.specs.{Retaining.{held_counted, slot_known, slots_learnt}, Roots.{rest, root_word}}
+use Rattle.shm_count.specs.{Slots.{Filled, Lost, Took}, Step.Parts.part_after}
+use Rattle.shm_table.specs.Staying.{Cleared, Keeps, Laws.{keeps_rest, root_named, value_by}}
 
 -- ---- value blocks are apart from blocks with reference words
 

@@ -1,23 +1,15 @@
 -- the control of taking an item that is known: which call comes next, and where it goes by what that call answered
-use Rattle.std.specs.Prelude.{ℕ, ◌+◌, ◌%◌, ◌^◌, ◌<◌, Bool, true, false, Option, Some, None, Result, Ok, Err}
-use Rattle.shm_words.specs.declared.place.Place.TheVariants as place
+use Rattle.std.specs.Prelude.{ℕ, ◌+◌, ◌%◌, ◌^◌, ◌<◌, Bool, true, false, Option, Some, None, Result, Ok, Err, []}
 use Rattle.shm_words.specs.Layout.{GeometryFits, address, address_limit}
-use Rattle.shm_graph.specs.declared.ask.Ask.{Ask}
+use Rattle.shm_words.specs.declared.place.Place.TheVariants as place
+use Rattle.shm_graph.specs.{declared.ask.{Ask.Ask, Me.Me}, Laws.Control}
 use Rattle.shm_graph.specs.declared.ask.Ask.TheVariants as ask
-use Rattle.shm_graph.specs.declared.ask.Me.{Me}
-use Rattle.shm_graph.specs.Laws.{Control}
-use Rattle.shm_calls.specs.declared.or.Or.{Or}
-use Rattle.shm_calls.specs.declared.or.Or.TheVariants.{First, Second}
-use Rattle.shm_calls.specs.declared.word.Word.{Word}
-use Rattle.shm_calls.specs.Either.{or_control}
-use Rattle.shm_calls.specs.Words.{word_control}
-use Rattle.shm_count.specs.declared.answer.EraSpent.{EraSpent}
-use Rattle.shm_count.specs.declared.point.Aim.TheVariants as aims
-use Rattle.shm_count.specs.declared.point.StepPoint.TheVariants.{Era}
-use Rattle.shm_count.specs.declared.point.StepState.{StepState}
+use Rattle.shm_calls.specs.{declared.{or.Or.{Or, TheVariants.{First, Second}}, word.Word.Word}, Either.or_control}
+use Rattle.shm_calls.specs.{Words.word_control, Steering.Steered}
+use Rattle.shm_count.specs.declared.{answer.EraSpent.EraSpent, point.{StepPoint.TheVariants.Era, StepState.StepState}}
 use Rattle.shm_count.specs.Step.Machines.{down_control}
-use Rattle.shm_table.specs.declared.take_head.TakeHeadPoint.{TakeHeadPoint}
-use Rattle.shm_table.specs.declared.take_head.TakeHeadPoint.TheVariants.{Lower, Store}
+use Rattle.shm_count.specs.declared.point.Aim.TheVariants as aims
+use Rattle.shm_table.specs.declared.take_head.TakeHeadPoint.{TakeHeadPoint, TheVariants.{Lower, Store}}
 use Rattle.shm_table.specs.declared.take_head.TakeHeadState.{TakeHeadState}
 
 -- its calls, and what they answer
@@ -69,3 +61,16 @@ pub record TakeHeadInRange (m : TakeHeadState) : Type 0 where
 -- the control of its calls
 abbrev pub take_head_parts : Control TakeHeadCall TakeHeadAnswer
 take_head_parts = or_control word_control down_control
+
+-- what the plan does: its identity and its line, its calls, and where it goes by their answers
+abbrev pub take_head_steered : Steered TakeHeadState TakeHeadCall TakeHeadAnswer (Result (Unit {0}) EraSpent)
+take_head_steered =
+    record {
+      me = λ m. m.me;
+      line = λ m. [];
+      first = λ m. is_lower m.point;
+      start = λ m. taking_head m.me m.from m.at m.block;
+      call = λ m. take_head_call m m.point;
+      after = take_head_after;
+      turns = take_head_turns;
+    }

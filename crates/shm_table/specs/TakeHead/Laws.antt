@@ -1,53 +1,30 @@
 -- what is owed of taking an item that is known
 use Rattle.std.proofs.Common.{◌≡◌, ◌≢◌, ℕ, ◌+◌, ◌%◌, ◌^◌, ◌<◌, ◌≤◌, refl, sym, ap, ◌∙◌, subst, arith, Bool, true, false, cond, append-nil, List, [], ◌∷◌, ◌++◌, inl}
-use Rattle.std.specs.Prelude.{Result, Ok, Err, slice_index}
-use Rattle.std.specs.List.{Contains, filter}
-use Rattle.std.proofs.Math.Nat.{mod-eq_of_lt}
-use Rattle.std.proofs.lemmas.Bool.{eq-eqb, false≢true}
-use Rattle.std.proofs.lemmas.List.Elements.{Contains-push}
-use Rattle.shm_graph.specs.declared.ask.Ask.TheVariants as ask
-use Rattle.shm_graph.specs.declared.ask.Me.{Me}
-use Rattle.shm_graph.specs.declared.memo.Memo.{Memo}
-use Rattle.shm_graph.specs.declared.memo.Stored.{Stored}
-use Rattle.shm_graph.specs.declared.spot.Spot.{Spot}
-use Rattle.shm_graph.specs.declared.spot.Spot.TheVariants as spot
-use Rattle.shm_graph.specs.declared.table.Part.{Part}
-use Rattle.shm_graph.specs.Asks.{Trail, IsWithin}
-use Rattle.shm_graph.specs.Core.{core}
-use Rattle.shm_graph.specs.Events.{Event}
-use Rattle.shm_graph.specs.Events as event
-use Rattle.shm_graph.specs.Idle.{IsIdle}
-use Rattle.shm_graph.specs.Reach.{is_named}
-use Rattle.shm_graph.specs.Spots.{same_spot}
-use Rattle.shm_graph.specs.MemoAfterStore.{head_stored, lane_with, other_than, put}
-use Rattle.shm_graph.specs.Views.{own_word}
+use Rattle.std.proofs.{Math.Nat.mod-eq_of_lt, lemmas.{Bool.{eq-eqb, false≢true}, List.Elements.Contains-push}}
+use Rattle.std.specs.{Prelude.{Result, Ok, Err, slice_index}, List.{Contains, filter}}
+use Rattle.shm_graph.specs.declared.{ask.Me.Me, memo.{Memo.Memo, Stored.Stored}, spot.Spot.Spot, table.Part.Part}
+use Rattle.shm_graph.specs.{Asks.{Trail, IsWithin}, Core.core, Events.Event, Idle.IsIdle, Reach.is_named}
+use Rattle.shm_graph.specs.{Spots.same_spot, MemoAfterStore.{head_stored, lane_with, other_than, put}, Views.own_word}
 use Rattle.shm_graph.specs.Bounds.{redo_steps}
+use Rattle.shm_graph.specs.declared.ask.Ask.TheVariants as ask
+use Rattle.shm_graph.specs.declared.spot.Spot.TheVariants as spot
+use Rattle.shm_graph.specs.Events as event
 use Rattle.shm_laws.proofs.Keep.{Contains-filter, filter_from}
-use Rattle.shm_calls.specs.declared.or.Or.TheVariants.{First, Second}
-use Rattle.shm_calls.specs.CallTells.{within_more}
-use Rattle.shm_calls.specs.Either.{or_part_laws}
-use Rattle.shm_calls.specs.Parts.{IsHeld}
-use Rattle.shm_calls.specs.Plans.{PlanLaws, PlanStays, IsCall, Follows}
+use Rattle.shm_calls.specs.{declared.or.Or.TheVariants.{First, Second}, CallTells.within_more, Either.or_part_laws}
+use Rattle.shm_calls.specs.{Parts.IsHeld, Plans.{PlanLaws, PlanStays, IsCall, Follows}}
 use Rattle.shm_calls.specs.Words.{word_control, word_part, word_part_laws, IsWord, WordLeaves}
-use Rattle.shm_steps.specs.Reparting.{sight, IsValue}
-use Rattle.shm_steps.specs.WordParts.{HeadStored}
-use Rattle.shm_steps.proofs.Cores.{here_same}
-use Rattle.shm_steps.proofs.Words.Queues.{head_store}
-use Rattle.shm_count.specs.declared.answer.EraSpent.{EraSpent}
+use Rattle.shm_steps.specs.{Reparting.{sight, IsValue}, WordParts.HeadStored}
+use Rattle.shm_steps.proofs.{Cores.here_same, Words.Queues.head_store}
+use Rattle.shm_count.specs.{declared.answer.EraSpent.EraSpent, Retaining.{held_counted, slot_known}}
+use Rattle.shm_count.specs.{Roots.{rest, root_word}, Slots.{Lost, StepLeft}}
+use Rattle.shm_count.specs.Slots.Parts.{down_slot_laws, down_slot_part, era_room}
+use Rattle.shm_count.specs.{Step.Machines.{down_control, down_told}, Tear.Memos.{is_lasting, is_slot_word}}
 use Rattle.shm_count.specs.declared.answer.UpFault.TheVariants as up
 use Rattle.shm_count.specs.declared.point.Aim.TheVariants as aims
-use Rattle.shm_count.specs.Retaining.{held_counted, slot_known}
-use Rattle.shm_count.specs.Roots.{rest, root_word}
-use Rattle.shm_count.specs.Slots.{Lost, StepLeft}
-use Rattle.shm_count.specs.Slots.Parts.{down_slot_laws, down_slot_part, era_room}
-use Rattle.shm_count.specs.Step.Machines.{down_control, down_told}
-use Rattle.shm_count.specs.Tear.Memos.{is_lasting, is_slot_word}
 use Rattle.shm_queue.specs.QueueSteps.{put_here, same_part as queue_part, take_may}
 use Rattle.shm_queue.specs.QueueWords.{head_small, item_inside}
-use Rattle.shm_table.specs.declared.take_head.TakeHeadPoint.{TakeHeadPoint}
-use Rattle.shm_table.specs.declared.take_head.TakeHeadPoint.TheVariants.{Lower, Store}
-use Rattle.shm_table.specs.declared.take_head.TakeHeadState.{TakeHeadState}
-use Rattle.shm_table.specs.Staying.{Keeps}
+use Rattle.shm_table.specs.declared.take_head.TakeHeadPoint.{TakeHeadPoint, TheVariants.{Lower, Store}}
+use Rattle.shm_table.specs.{declared.take_head.TakeHeadState.TakeHeadState, Staying.Keeps}
 use Rattle.shm_table.specs.Staying.Laws.{Rests, keeps_rest, raised_cause, root_named}
 use Rattle.shm_table.specs.TakeHead.Control.{TakeHeadAnswer, head_at, is_lower, take_head_ask, take_head_call, take_head_parts, taking_head}
 use Rattle.shm_table.specs.TakeHead.{IsLowered, MayTakeHead, TakeHeadKnows, passed_memo, take_head_part, take_head_plan}

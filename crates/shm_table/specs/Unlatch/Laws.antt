@@ -1,30 +1,16 @@
 -- what is owed of giving back a latch of which it is known whose it is
-use Rattle.std.proofs.Common.{◌≡◌, ℕ, refl, ap, ◌∙◌, arith, true, false, List, [], ◌++◌}
-use Rattle.std.proofs.lemmas.Bool.{lt-ltb}
-use Rattle.shm_words.specs.declared.place.Place.TheVariants as place
+use Rattle.std.proofs.{Common.{◌≡◌, ℕ, refl, ap, ◌∙◌, arith, true, false, List, [], ◌++◌}, lemmas.Bool.lt-ltb}
 use Rattle.shm_words.specs.Layout.{address}
-use Rattle.shm_graph.specs.declared.ask.Me.{Me}
-use Rattle.shm_graph.specs.declared.spot.Spot.TheVariants.{Hold, Latch}
-use Rattle.shm_graph.specs.declared.memo.Memo.{Memo}
-use Rattle.shm_graph.specs.Asks.{Trail}
-use Rattle.shm_graph.specs.Blocks.{classes}
-use Rattle.shm_graph.specs.Core.{core}
-use Rattle.shm_graph.specs.Events.{Event}
-use Rattle.shm_graph.specs.Laws.{framed}
-use Rattle.shm_graph.specs.Reach.{unlatched}
-use Rattle.shm_graph.specs.Spots.{spot_at}
+use Rattle.shm_words.specs.declared.place.Place.TheVariants as place
+use Rattle.shm_graph.specs.{declared.{ask.Me.Me, spot.Spot.TheVariants.{Hold, Latch}, memo.Memo.Memo}, Asks.Trail}
+use Rattle.shm_graph.specs.{Blocks.classes, Core.core, Events.Event, Laws.framed, Reach.unlatched, Spots.spot_at}
 use Rattle.shm_graph.proofs.Spots.SpotPlaces.{spot-place}
-use Rattle.shm_steps.proofs.Cores.{called_core, here_same}
-use Rattle.shm_steps.proofs.OwnStores.{hold_stored}
+use Rattle.shm_steps.proofs.{Cores.{called_core, here_same}, OwnStores.hold_stored}
 use Rattle.shm_calls.specs.Plans.{PlanLaws, PlanStays, Follows}
-use Rattle.shm_calls.specs.Words.{word_control, word_part, word_part_laws, IsWord}
-use Rattle.shm_calls.specs.WordSteps.{word_at}
-use Rattle.shm_ref.specs.AskedParts.{asked_part_laws, one_more}
-use Rattle.shm_ref.specs.Hold.{wants}
-use Rattle.shm_table.specs.declared.unlatch.UnlatchPoint.{UnlatchPoint}
-use Rattle.shm_table.specs.declared.unlatch.UnlatchPoint.TheVariants.{Give, Back}
-use Rattle.shm_table.specs.declared.unlatch.UnlatchState.{UnlatchState}
-use Rattle.shm_table.specs.LatchGiving.{latch_given}
+use Rattle.shm_calls.specs.{Words.{word_control, word_part, word_part_laws, IsWord}, WordSteps.word_at}
+use Rattle.shm_ref.specs.{AskedParts.{asked_part_laws, one_more}, Hold.wants}
+use Rattle.shm_table.specs.declared.unlatch.UnlatchPoint.{UnlatchPoint, TheVariants.{Give, Back}}
+use Rattle.shm_table.specs.{declared.unlatch.UnlatchState.UnlatchState, LatchGiving.latch_given}
 use Rattle.shm_table.specs.Unlatch.{MayUnlatch, UnlatchFound, UnlatchKnows, given_trail, is_give, unlatch_ask, unlatch_call, unlatch_part, unlatch_plan, unlatching}
 
 -- ---- the word steps

@@ -1,28 +1,17 @@
 -- the control of taking an entry out of its chain: which call comes next, and where it goes by what that call answered
-use Rattle.std.specs.Prelude.{ℕ, ◌+◌, ◌%◌, ◌<◌, Bool, true, false, ◌==◌, if◌then◌else◌, Option, Some, None, Result, Ok, Err}
+use Rattle.std.specs.Prelude.{ℕ, ◌+◌, ◌%◌, ◌<◌, Bool, true, false, ◌==◌, if◌then◌else◌, Option, Some, None, Result, Ok, Err, []}
 use Rattle.shm_words.specs.Layout.{GeometryFits, address_limit}
-use Rattle.shm_graph.specs.declared.ask.Me.{Me}
-use Rattle.shm_graph.specs.Laws.{Control}
-use Rattle.shm_calls.specs.declared.or.Or.{Or}
-use Rattle.shm_calls.specs.declared.or.Or.TheVariants.{First, Second}
-use Rattle.shm_calls.specs.declared.word.Word.{Word}
-use Rattle.shm_calls.specs.Either.{or_control}
-use Rattle.shm_calls.specs.Words.{word_control}
-use Rattle.shm_count.specs.declared.answer.EraSpent.{EraSpent}
-use Rattle.shm_count.specs.declared.answer.UpFault.{UpFault}
+use Rattle.shm_graph.specs.{declared.ask.Me.Me, Laws.Control}
+use Rattle.shm_calls.specs.declared.{or.Or.{Or, TheVariants.{First, Second}}, word.Word.Word, calls.Calls.Calls}
+use Rattle.shm_calls.specs.{Either.or_control, Words.word_control, Steering.Steered, CallsControl.calls_control}
+use Rattle.shm_count.specs.declared.{answer.{EraSpent.EraSpent, UpFault.UpFault}, point.StepPoint.TheVariants.Era}
+use Rattle.shm_count.specs.declared.{point.StepState.StepState, tear_point.TearPoint.TheVariants.Begin}
+use Rattle.shm_count.specs.{declared.tear_point.TearState.TearState, Step.{Control.step_control, Machines.down_control}}
+use Rattle.shm_count.specs.Tear.Control.{tear_control}
 use Rattle.shm_count.specs.declared.answer.UpFault.TheVariants as fault
 use Rattle.shm_count.specs.declared.point.Aim.TheVariants as aims
-use Rattle.shm_count.specs.declared.point.StepPoint.TheVariants.{Era}
-use Rattle.shm_count.specs.declared.point.StepState.{StepState}
-use Rattle.shm_count.specs.declared.tear_point.TearPoint.TheVariants.{Begin}
-use Rattle.shm_count.specs.declared.tear_point.TearState.{TearState}
-use Rattle.shm_count.specs.Step.Control.{step_control}
-use Rattle.shm_count.specs.Step.Machines.{down_control}
-use Rattle.shm_count.specs.Tear.Control.{tear_control}
-use Rattle.shm_table.specs.declared.unlink.UnlinkPoint.{UnlinkPoint}
-use Rattle.shm_table.specs.declared.unlink.UnlinkPoint.TheVariants.{Look, Lower, Change, Tear}
-use Rattle.shm_table.specs.declared.unlink.UnlinkState.{UnlinkState}
-use Rattle.shm_table.specs.Find.Control.{word_ask}
+use Rattle.shm_table.specs.declared.unlink.UnlinkPoint.{UnlinkPoint, TheVariants.{Look, Lower, Change, Tear}}
+use Rattle.shm_table.specs.{declared.unlink.UnlinkState.UnlinkState, Find.Control.word_ask}
 
 -- its calls, and what they answer
 abbrev pub UnlinkCall : Type 0
@@ -97,3 +86,23 @@ pub record UnlinkInRange (m : UnlinkState) : Type 0 where
 -- the control of its calls
 abbrev pub unlink_parts : Control UnlinkCall UnlinkAnswer
 unlink_parts = or_control word_control (or_control down_control (or_control step_control tear_control))
+
+-- what the plan does: its identity and its line, its calls, and where it goes by their answers
+abbrev pub unlink_steered : Steered UnlinkState UnlinkCall UnlinkAnswer (Result (Unit {0}) UpFault)
+unlink_steered =
+    record {
+      me = λ m. m.me;
+      line = λ m. [];
+      first = λ m. is_look m.point;
+      start = λ m. unlinking m.me m.entry m.before m.word;
+      call = λ m. unlink_call_at m m.point;
+      after = unlink_after;
+      turns = unlink_turns;
+    }
+
+-- it as a call of larger machines, and its control
+abbrev pub UnlinkCalls : Type 0
+UnlinkCalls = Calls UnlinkState UnlinkCall (Result (Unit {0}) UpFault) UnlinkAnswer
+
+abbrev pub unlink_control : Control UnlinkCalls (Result (Unit {0}) UpFault)
+unlink_control = calls_control unlink_parts unlink_steered

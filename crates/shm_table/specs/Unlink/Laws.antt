@@ -1,58 +1,34 @@
 -- what is owed of taking an entry out of its chain
 use Rattle.std.proofs.Common.{◌≡◌, ◌≢◌, ℕ, zero, suc, ◌+◌, ◌%◌, ◌^◌, ◌<◌, refl, sym, ap, ◌∙◌, subst, arith, Bool, true, false, List, [], ◌∷◌, ◌++◌, append-nil, inl, inr, length}
-use Rattle.std.specs.Prelude.{◌==◌, if◌then◌else◌, None, Result, Ok, Err}
-use Rattle.std.specs.List.{All, Contains}
-use Rattle.std.proofs.lemmas.Bool.{cases_eq, eq-eqb, ne_eqb}
-use Rattle.std.proofs.lemmas.List.Elements.{All-nil}
+use Rattle.std.proofs.lemmas.{Bool.{cases_eq, eq-eqb, ne_eqb}, List.Elements.All-nil}
+use Rattle.std.specs.{Prelude.{◌==◌, if◌then◌else◌, None, Result, Ok, Err}, List.{All, Contains}}
 use Rattle.shm_words.proofs.Placing.{total_small}
 use Rattle.shm_words.specs.Layout.{address_limit}
-use Rattle.shm_graph.specs.declared.ask.Me.{Me}
-use Rattle.shm_graph.specs.declared.memo.Memo.{Memo}
-use Rattle.shm_graph.specs.declared.spot.Spot.{Spot}
-use Rattle.shm_graph.specs.declared.spot.Spot.TheVariants.{Body, Home, Root}
-use Rattle.shm_graph.specs.Agents.{recovers}
-use Rattle.shm_graph.specs.Asks.{Trail, IsWithin}
-use Rattle.shm_graph.specs.Bounds.{change_steps, down_steps, tear_steps}
-use Rattle.shm_graph.specs.Events.{Event}
+use Rattle.shm_graph.specs.declared.{ask.Me.Me, memo.Memo.Memo, spot.Spot.{Spot, TheVariants.{Body, Home, Root}}}
+use Rattle.shm_graph.specs.{Agents.recovers, Asks.{Trail, IsWithin}, Bounds.{change_steps, down_steps, tear_steps}}
+use Rattle.shm_graph.specs.{Events.Event, Telling.Entry as AnEntry, Views.own_word}
 use Rattle.shm_graph.specs.Events as event
-use Rattle.shm_graph.specs.Telling.{Entry as AnEntry}
-use Rattle.shm_graph.specs.Views.{own_word}
-use Rattle.shm_calls.specs.declared.or.Or.TheVariants.{First, Second}
-use Rattle.shm_calls.specs.CallTells.{within_more}
-use Rattle.shm_calls.specs.Either.{or_control, or_part, or_part_laws}
-use Rattle.shm_calls.specs.Parts.{IsHeld}
+use Rattle.shm_calls.specs.{declared.or.Or.TheVariants.{First, Second}, CallTells.within_more}
+use Rattle.shm_calls.specs.{Either.{or_control, or_part, or_part_laws}, Parts.IsHeld}
 use Rattle.shm_calls.specs.Plans.{PlanLaws, PlanStays, IsCall, Follows}
 use Rattle.shm_calls.specs.Words.{word_control, word_part_laws, WordLeaves}
 use Rattle.shm_steps.specs.Reparting.{map_in}
-use Rattle.shm_steps.proofs.Cores.{here_same}
-use Rattle.shm_steps.proofs.Reaching.{look_reached}
-use Rattle.shm_count.specs.declared.answer.EraSpent.{EraSpent as ASpent}
-use Rattle.shm_count.specs.declared.answer.UpFault.{UpFault}
-use Rattle.shm_count.specs.declared.answer.UpFault.TheVariants.{CountFull, EraSpent}
-use Rattle.shm_count.specs.declared.point.Aim.{Aim}
-use Rattle.shm_count.specs.declared.point.Aim.TheVariants as aims
-use Rattle.shm_count.specs.CountParts.{tear_part, tear_part_laws}
-use Rattle.shm_count.specs.Lowering.{dies, torn_leaves}
-use Rattle.shm_count.specs.Roots.{root_word}
+use Rattle.shm_steps.proofs.{Cores.here_same, Reaching.look_reached}
+use Rattle.shm_count.specs.declared.answer.{EraSpent.EraSpent as ASpent, UpFault.UpFault}
+use Rattle.shm_count.specs.declared.{answer.UpFault.TheVariants.{CountFull, EraSpent}, point.Aim.Aim}
+use Rattle.shm_count.specs.{CountParts.{tear_part, tear_part_laws}, Lowering.{dies, torn_leaves}, Roots.root_word}
 use Rattle.shm_count.specs.Slots.{Lost, StepCause, Took, Untouched}
 use Rattle.shm_count.specs.Slots.Parts.{change_slot_laws, change_slot_part, down_slot_laws, down_slot_part}
-use Rattle.shm_count.specs.Step.Control.{last_era, step_control}
-use Rattle.shm_count.specs.Step.Machines.{down_control}
-use Rattle.shm_count.specs.Tear.Control.{tear_control}
-use Rattle.shm_count.specs.Tear.Events.{Visit, frees}
-use Rattle.shm_count.specs.Tear.{TearLeaves}
+use Rattle.shm_count.specs.{Step.{Control.{last_era, step_control}, Machines.down_control}, Tear.Control.tear_control}
+use Rattle.shm_count.specs.Tear.{Events.{Visit, frees}, TearLeaves}
+use Rattle.shm_count.specs.declared.point.Aim.TheVariants as aims
 use Rattle.shm_ref.specs.CountedBlocks.{reached_counted}
-use Rattle.shm_table.specs.declared.unlink.UnlinkPoint.{UnlinkPoint}
-use Rattle.shm_table.specs.declared.unlink.UnlinkPoint.TheVariants.{Look, Lower, Change, Tear}
+use Rattle.shm_table.specs.declared.unlink.UnlinkPoint.{UnlinkPoint, TheVariants.{Look, Lower, Change, Tear}}
 use Rattle.shm_table.specs.declared.unlink.UnlinkState.{UnlinkState}
 use Rattle.shm_table.specs.EntryReads.{EntryReads, entry_loads, reference_reads}
-use Rattle.shm_table.specs.EntrySteps.{LinkSteps, link_steps, word_step}
-use Rattle.shm_table.specs.Find.Control.{word_ask}
-use Rattle.shm_table.specs.Find.SearchLoads.{entry_latched, look_in}
-use Rattle.shm_table.specs.Replace.{IsTorn}
-use Rattle.shm_table.specs.Staying.{Ended, Keeps}
-use Rattle.shm_table.specs.Staying.Laws.{keeps_more, keeps_untouched}
-use Rattle.shm_table.specs.Staying.Steps.{keeps_took}
+use Rattle.shm_table.specs.{EntrySteps.{LinkSteps, link_steps, word_step}, Find.Control.word_ask}
+use Rattle.shm_table.specs.{Find.SearchLoads.{entry_latched, look_in}, Replace.IsTorn, Staying.{Ended, Keeps}}
+use Rattle.shm_table.specs.Staying.{Laws.{keeps_more, keeps_untouched}, Steps.keeps_took}
 use Rattle.shm_table.specs.Unlink.Control.{UnlinkAnswer, is_look, step_point, unlink_call_at, unlink_parts}
 use Rattle.shm_table.specs.Unlink.{IsFallen, IsSeen, MayBegin, MayUnlink, NotUnlinked, Unlinked, UnlinkCause, UnlinkKnows, link_aim, link_events, look_part, unlink_plan}
 use Rattle.shm_table.specs.ValuesListed.{ReadsMore, cause_read, idle_here, keeps_reads, reads_more_by}

@@ -1,26 +1,16 @@
 -- what is owed of the comparing of two roots
 use Rattle.std.proofs.Common.{◌≡◌, ℕ, ◌<◌, refl, sym, ap, ◌∙◌, subst, List, [], ◌∷◌, ◌++◌}
 use Rattle.std.specs.Prelude.{◌==◌}
-use Rattle.shm_graph.specs.declared.ask.Me.{Me}
-use Rattle.shm_graph.specs.declared.memo.Memo.{Memo}
-use Rattle.shm_graph.specs.Asks.{Trail, pair}
-use Rattle.shm_graph.specs.Core.{core}
-use Rattle.shm_graph.specs.Events.{Event}
+use Rattle.shm_graph.specs.{declared.{ask.Me.Me, memo.Memo.Memo}, Asks.{Trail, pair}, Core.core, Events.Event}
 use Rattle.shm_graph.proofs.Idles.{idle_core}
 use Rattle.shm_steps.proofs.Cores.{here_same}
-use Rattle.shm_calls.specs.CallsPart.{MayCall, calls_part_laws}
-use Rattle.shm_calls.specs.Plans.{PlanLaws, PlanStays, Follows}
-use Rattle.shm_calls.specs.Tasks.{IsNew, TaskLaws}
-use Rattle.shm_calls.specs.Words.{word_control}
+use Rattle.shm_calls.specs.{CallsPart.{MayCall, calls_part_laws}, Plans.{PlanLaws, PlanStays, Follows}}
+use Rattle.shm_calls.specs.{Tasks.{IsNew, TaskLaws}, Words.word_control}
 use Rattle.shm_count.specs.Roots.{root_word}
-use Rattle.shm_ref.specs.LatchTasks.{may_drop}
-use Rattle.shm_ref.specs.Lefts.{MayDrop}
-use Rattle.shm_ref.specs.RootOf.{naming_ask, naming_plan}
-use Rattle.shm_ref.specs.RootOf.Laws.{naming_laws}
-use Rattle.uses.specs.declared.machine.ComparePoint.{ComparePoint}
-use Rattle.uses.specs.declared.machine.ComparePoint.TheVariants.{First, Second}
+use Rattle.shm_ref.specs.{LatchTasks.may_drop, Lefts.MayDrop, RootOf.{naming_ask, naming_plan, Laws.naming_laws}}
+use Rattle.uses.specs.declared.machine.ComparePoint.{ComparePoint, TheVariants.{First, Second}}
 use Rattle.uses.specs.declared.machine.CompareState.{CompareState}
-use Rattle.uses.specs.Compare.{CompareKnows, CompareMay, compare_call, compare_plan, root_of}
+use Rattle.uses.specs.Compare.{CompareKnows, CompareMay, compare_call, compare_plan, root_of, compare_steered}
 
 stays : (m : CompareState) (y : ComparePoint) (b : ℕ) → PlanStays root_of compare_plan (record m { point = y }) b
 stays m First b = record { same_me = refl; same_line = refl; same_start = refl; started = λ e. refl }
@@ -49,7 +39,7 @@ compare_laws =
     record {
       stays = λ m b. stays m m.point b;
       calls = λ m. record { me = refl; asks = refl };
-      parts = λ m. calls_part_laws word_control naming_plan naming_laws (compare_plan.first m);
+      parts = λ m. calls_part_laws word_control naming_plan naming_laws (compare_steered.first m);
       opens = λ m. opens m m.point;
       leads = λ m r0 rs r tr t es ds b h g held same. leads m m.point r0 rs r tr t es ds b h g;
     }

@@ -1,10 +1,7 @@
 use Rattle.std.proofs.Common.{◌≡◌, ℕ, List, [], ◌∷◌, sym, subst, ap, ◌∙◌}
-use Rattle.std.specs.Prelude.{Option, Some, None, slice_get}
-use Rattle.std.specs.List.{AllByRecursion}
-use Rattle.std.specs.Option.{option_copied}
+use Rattle.std.specs.{Prelude.{Option, Some, None, slice_get}, List.AllByRecursion, Option.option_copied}
 use Rattle.shm_graph.specs.declared.run.Start.{Start}
-use Rattle.shm_script.specs.Ranges.{ScriptFits}
-use Rattle.shm_script.specs.Values.{Scripted, Traced}
+use Rattle.shm_script.specs.{Ranges.ScriptFits, Values.{Scripted, Traced}}
 use Rattle.shm_pool.specs.Tokens.{Token}
 use Rattle.pool_calls.specs.Clients.{AllFirst}
 use Rattle.pool_calls.proofs.FirstTokens.{all_first}

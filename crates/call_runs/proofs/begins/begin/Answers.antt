@@ -1,7 +1,6 @@
 use Rattle.std.proofs.Common.{◌≡◌, ◌≢◌, ◌<◌, ℕ, refl, sym, ap, ◌∙◌, subst}
 use Rattle.shm_words.specs.declared.geometry.Geometry.{Geometry}
-use Rattle.shm_graph.specs.declared.run.Start.{Start}
-use Rattle.shm_graph.specs.Runs.{first_memo}
+use Rattle.shm_graph.specs.{declared.run.Start.Start, Runs.first_memo}
 use Rattle.shm_plain.specs.Pools.{memo_of}
 use Rattle.plain_calls.proofs.QueueReady.{clear_join}
 use Rattle.call_runs.proofs.Stands.{known_joined, stand_begun}

@@ -1,7 +1,6 @@
 use Rattle.std.proofs.Common.{ap, ◌∙◌}
 use Rattle.call_runs.specs.Known.{told}
-use Rattle.call_runs.proofs.Knowing.{after_ran}
-use Rattle.call_runs.proofs.Answered.{makes}
+use Rattle.call_runs.proofs.{Knowing.after_ran, Answered.makes}
 use Rattle.call_runs.proofs.counting.allocate.Goals as goal
 
 pub returns-in_ok-tell-in-Ok : goal.returns-in_ok-tell-in-Ok

@@ -1,7 +1,6 @@
 use Rattle.shm_graph.specs.declared.ask.Me.{Me}
 use Rattle.shm_plain.specs.Pools.{memo_of}
-use Rattle.shm_count.specs.Roots.{member}
-use Rattle.shm_count.specs.Step.Machines.{up_control}
+use Rattle.shm_count.specs.{Roots.member, Step.Machines.up_control}
 use Rattle.shm_ref.specs.RootSteps.{RaisingMay, raising, raising_plan}
 use Rattle.plain_calls.proofs.Running.{plan_may, plan_said}
 use Rattle.call_runs.proofs.Answered.{bares}

@@ -2,8 +2,7 @@ use Rattle.std.proofs.Common.{refl, sym, ap, ◌∙◌, subst, rules}
 use Rattle.std.specs.List.{Contains}
 use Rattle.shm_graph.specs.declared.ask.Me.{Me}
 use Rattle.shm_plain.specs.Pools.{memo_of}
-use Rattle.shm_count.specs.declared.tear_point.TearState.{TearState}
-use Rattle.shm_count.specs.Operating.{TearMay, tearing}
+use Rattle.shm_count.specs.{declared.tear_point.TearState.TearState, Operating.{TearMay, tearing}}
 use Rattle.call_runs.proofs.Knowing.{after_ran}
 use Rattle.call_runs.proofs.counting.tear_down.Goals as goal
 

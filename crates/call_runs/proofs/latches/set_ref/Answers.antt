@@ -3,11 +3,8 @@ use Rattle.shm_words.specs.Layout.{total_of}
 use Rattle.shm_graph.specs.declared.ask.Me.{Me}
 use Rattle.shm_plain.specs.Pools.{memo_of}
 use Rattle.shm_count.specs.Roots.{member}
-use Rattle.shm_ref.specs.SetRef.Control.{set_parts, setting}
-use Rattle.shm_ref.specs.SetRef.{set_plan}
-use Rattle.shm_ref.specs.RootTasks.{SetMay}
-use Rattle.plain_calls.proofs.Running.{plan_may, plan_said}
-use Rattle.plain_calls.proofs.Reaching.{reached_whole}
+use Rattle.shm_ref.specs.{SetRef.{Control.{set_parts, setting}, set_plan}, RootTasks.SetMay}
+use Rattle.plain_calls.proofs.{Running.{plan_may, plan_said}, Reaching.reached_whole}
 use Rattle.call_runs.proofs.Answered.{settles}
 use Rattle.call_runs.proofs.latches.set_ref.Goals as goal
 

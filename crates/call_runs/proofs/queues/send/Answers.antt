@@ -1,12 +1,9 @@
-use Rattle.std.proofs.Common.{◌<◌, refl, sym, ap, ◌∙◌, subst}
-use Rattle.std.proofs.lemmas.Bool.{true≢false}
+use Rattle.std.proofs.{Common.{◌<◌, refl, sym, ap, ◌∙◌, subst}, lemmas.Bool.true≢false}
 use Rattle.shm_words.specs.declared.geometry.Geometry.{Geometry}
 use Rattle.shm_graph.specs.declared.ask.Me.{Me}
 use Rattle.shm_plain.specs.Pools.{memo_of}
 use Rattle.shm_count.specs.Roots.{member}
-use Rattle.shm_queue.specs.QueueTasks.{SendMay}
-use Rattle.shm_queue.specs.Send.Control.{send_parts, sending}
-use Rattle.shm_queue.specs.Send.{send_plan}
+use Rattle.shm_queue.specs.{QueueTasks.SendMay, Send.{Control.{send_parts, sending}, send_plan}}
 use Rattle.plain_calls.proofs.Running.{plan_may, plan_said}
 use Rattle.call_runs.specs.Known.{told}
 use Rattle.call_runs.proofs.Answered.{keeps}

@@ -1,11 +1,8 @@
 use Rattle.std.proofs.Common.{◌≡◌, ◌<◌, sym, ap, ◌∙◌, subst, arith}
 use Rattle.std.specs.Prelude.{slice_index}
-use Rattle.shm_words.specs.declared.geometry.Geometry.{Geometry}
+use Rattle.shm_words.specs.{declared.geometry.Geometry.Geometry, Layout.{address, total_of}}
 use Rattle.shm_words.specs.declared.place.Place.TheVariants as place
-use Rattle.shm_words.specs.Layout.{address, total_of}
-use Rattle.shm_graph.specs.declared.run.Start.{Start}
-use Rattle.shm_graph.specs.declared.spot.Spot.TheVariants.{Era}
-use Rattle.shm_graph.specs.Views.{own_word}
+use Rattle.shm_graph.specs.{declared.{run.Start.Start, spot.Spot.TheVariants.Era}, Views.own_word}
 use Rattle.shm_plain.specs.Pools.{memo_of}
 use Rattle.table_calls.proofs.Opens.{all_after, era_below, era_read, open_after}
 use Rattle.call_runs.proofs.tables.answered.Goals as goal

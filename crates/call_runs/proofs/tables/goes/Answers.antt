@@ -1,7 +1,7 @@
 use Rattle.std.proofs.Common.{sym, subst}
 use Rattle.table_calls.specs.Running.{IsOpen}
-use Rattle.call_runs.proofs.tables.goes.Goals as goal
 use Rattle.call_runs.proofs.tables.goes.Goals.{then-clients-eq2+in-Some-Ok, else-clients-eq2}
+use Rattle.call_runs.proofs.tables.goes.Goals as goal
 
 pub returns-clause-others : goal.returns-clause-others
 returns-clause-others c = λ d n h.

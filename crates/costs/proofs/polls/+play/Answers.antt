@@ -5,8 +5,7 @@ use Rattle.shm_pool.specs.Tokens.{AllOf}
 use Rattle.pool_calls.specs.Clients.{AllFirst}
 use Rattle.pool_calls.proofs.FirstTokens.{all_first}
 use Rattle.costs.specs.Polling.{HasGrown, IsForTables, owners}
-use Rattle.costs.proofs.Polled.{others_first, others_in, own_last}
-use Rattle.costs.proofs.polls.+play.Goals.{play-In-Some}
+use Rattle.costs.proofs.{Polled.{others_first, others_in, own_last}, polls.+play.Goals.play-In-Some}
 use Rattle.costs.proofs.polls.+play.Goals as goal
 
 pub play-play_on-requires : goal.play-play_on-requires

@@ -1,6 +1,5 @@
 use Rattle.std.proofs.Common.{◌≡◌, ◌++◌, List, subst}
-use Rattle.std.specs.Prelude.{Option, Some, None, IfSome}
-use Rattle.std.specs.Option.{option_to_list}
+use Rattle.std.specs.{Prelude.{Option, Some, None, IfSome}, Option.option_to_list}
 use Rattle.shm_pool.specs.Tokens.{AllOf, Its, Token}
 use Rattle.shm_pool.proofs.Ends.{of_last}
 use Rattle.costs.proofs.shared.pop_of.Goals as goal

@@ -1,7 +1,6 @@
 use Rattle.std.proofs.Common.{◌∷◌, ◌++◌, [], rules, subst}
 use Rattle.costs.specs.Soaking.{AllBack}
-use Rattle.costs.proofs.Jobs.{back_front, back_last}
-use Rattle.costs.proofs.soak.gather.Goals.{In-Some}
+use Rattle.costs.proofs.{Jobs.{back_front, back_last}, soak.gather.Goals.In-Some}
 use Rattle.costs.proofs.soak.gather.Goals as goal
 
 -- what is there before the last one is taken

@@ -1,13 +1,8 @@
 use Rattle.std.proofs.Common.{◌≡◌, ℕ, ◌<◌, ◌∙◌, sym, ap, subst, inl, false}
-use Rattle.shm_words.specs.declared.geometry.Geometry.{Geometry}
-use Rattle.shm_words.specs.Layout.{GeometryFits}
-use Rattle.shm_graph.specs.declared.memo.Memo.{Memo}
-use Rattle.shm_graph.specs.declared.memo.Status.TheVariants.{New}
-use Rattle.shm_graph.specs.declared.run.Start.{Start}
-use Rattle.shm_graph.specs.Asks.{call_before}
+use Rattle.shm_words.specs.{declared.geometry.Geometry.Geometry, Layout.GeometryFits}
+use Rattle.shm_graph.specs.{declared.{memo.{Memo.Memo, Status.TheVariants.New}, run.Start.Start}, Asks.call_before}
 use Rattle.shm_plain.specs.Pools.{Pool, memo_of, readied}
-use Rattle.shm_recover.specs.declared.join.JoinState.{JoinState}
-use Rattle.shm_recover.specs.Join.{IsMember, JoinFits, join_control}
+use Rattle.shm_recover.specs.{declared.join.JoinState.JoinState, Join.{IsMember, JoinFits, join_control}}
 use Rattle.shm_recover.specs.Join.Keeps.{join_begins}
 use Rattle.costs.proofs.Stepping.{first_memo_at, ready_status}
 use Rattle.costs.proofs.steps.joined_pool.Goals as goal

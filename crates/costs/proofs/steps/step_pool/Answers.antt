@@ -1,11 +1,8 @@
-use Rattle.std.proofs.Common.{◌≡◌, ◌≢◌, ◌-◌, ◌∙◌, sym, ap, subst, refl, arith}
-use Rattle.std.proofs.lemmas.Bool.{eq-eqb, true≢false}
-use Rattle.shm_graph.specs.declared.memo.Step.{Step}
-use Rattle.shm_graph.specs.Whole.{fits_now, gives_now}
+use Rattle.std.proofs.{Common.{◌≡◌, ◌≢◌, ◌-◌, ◌∙◌, sym, ap, subst, refl, arith}, lemmas.Bool.{eq-eqb, true≢false}}
+use Rattle.shm_graph.specs.{declared.memo.Step.Step, Whole.{fits_now, gives_now}}
 use Rattle.shm_plain.specs.Pools.{Pool, memo_of, readied, turn_on, MayStep}
 use Rattle.shm_recover.specs.Join.{IsMember}
-use Rattle.costs.specs.declared.watch.WatchState.{WatchState}
-use Rattle.costs.specs.Watching.{watch_control, WatchFits, WatchGives}
+use Rattle.costs.specs.{declared.watch.WatchState.WatchState, Watching.{watch_control, WatchFits, WatchGives}}
 use Rattle.costs.specs.WatchKeeps.{watch_laws}
 use Rattle.costs.proofs.Stepping.{goes_on, more_lives, still}
 use Rattle.costs.proofs.steps.step_pool.Goals as goal

@@ -1,25 +1,14 @@
 use Rattle.std.specs.Option.{is_some}
-use Rattle.shm_words.specs.Layout.{GeometryFits}
-use Rattle.shm_graph.specs.declared.run.Start.{Start}
-use Rattle.shm_graph.specs.Events.{Event}
 use Rattle.std.proofs.Common.{◌≡◌, ℕ, ◌+◌, ◌<◌, ◌⊎◌, Bool, cond, length, true, List, refl, sym, ap, ◌∙◌, subst}
-use Rattle.shm_graph.specs.declared.ask.Me.{Me}
-use Rattle.shm_graph.specs.declared.memo.Memo.{Memo}
-use Rattle.shm_graph.specs.declared.memo.Status.{Status as AStatus}
-use Rattle.shm_graph.specs.declared.memo.Status.TheVariants.{New, Live, Gone}
-use Rattle.shm_graph.specs.Agents.{entered, is_recoverer, recovers}
-use Rattle.shm_graph.specs.Asks.{Trail, call_before}
-use Rattle.shm_recover.specs.declared.join.JoinState.{JoinState}
-use Rattle.shm_recover.specs.Join.{JoinFits, JoinGives, is_start, join_control, join_fresh}
-use Rattle.shm_recover.specs.Join.Keeps.{join_begins}
-use Rattle.shm_plain.specs.Pools.{memo_of, readied}
-use Rattle.shm_plain.proofs.Answering.{of_done}
-use Rattle.shm_plain.proofs.Calling.{ready_status}
-use Rattle.shm_plain.proofs.Turning.{ready_memo}
-use Rattle.shm_plain.specs.Calls.{Did, Ran}
-use Rattle.shm_plain.specs.Tracks.{kind_next}
+use Rattle.shm_words.specs.Layout.{GeometryFits}
+use Rattle.shm_graph.specs.declared.{run.Start.Start, ask.Me.Me, memo.{Memo.Memo, Status.Status as AStatus}}
+use Rattle.shm_graph.specs.{declared.memo.Status.TheVariants.{New, Live, Gone}, Events.Event}
+use Rattle.shm_graph.specs.{Agents.{entered, is_recoverer, recovers}, Asks.{Trail, call_before}}
 use Rattle.shm_graph.proofs.Memos.MemoSteps.{recovers-entered}
-use Rattle.shm_plain.proofs.Called.{Called, ran_fresh}
+use Rattle.shm_recover.specs.declared.join.JoinState.{JoinState}
+use Rattle.shm_recover.specs.Join.{JoinFits, JoinGives, is_start, join_control, join_fresh, Keeps.join_begins}
+use Rattle.shm_plain.specs.{Pools.{memo_of, readied}, Calls.{Did, Ran}, Tracks.kind_next}
+use Rattle.shm_plain.proofs.{Answering.of_done, Calling.ready_status, Turning.ready_memo, Called.{Called, ran_fresh}}
 use Rattle.plain_calls.proofs.JoinEvents.{join_tells, none_along, none_of}
 use Rattle.plain_calls.proofs.allocating.join.Goals.{After-new-join, After-call}
 use Rattle.plain_calls.proofs.allocating.join.Goals as goal

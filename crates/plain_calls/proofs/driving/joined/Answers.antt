@@ -1,23 +1,14 @@
 use Rattle.std.proofs.Common.{◌≡◌, ℕ, ◌+◌, ◌<◌, Bool, true, [], List, length, refl, sym, ap, ◌∙◌, subst, arith}
-use Rattle.shm_graph.specs.declared.memo.Kind.TheVariants.{Client}
-use Rattle.shm_graph.specs.declared.memo.Memo.{Memo}
-use Rattle.shm_graph.specs.declared.memo.Status.TheVariants.{Live, Gone}
-use Rattle.shm_graph.specs.declared.run.Start.{Start}
-use Rattle.shm_graph.specs.declared.spot.Spot.TheVariants.{Era, Root}
-use Rattle.shm_graph.specs.Agents.{entered, recovers}
-use Rattle.shm_graph.specs.Asks.{Trail, call_before}
-use Rattle.shm_graph.specs.Held.{is_loose}
-use Rattle.shm_graph.specs.Runs.{first_memo, first_part}
-use Rattle.shm_graph.specs.Views.{own_word}
+use Rattle.shm_graph.specs.declared.memo.{Kind.TheVariants.Client, Memo.Memo, Status.TheVariants.{Live, Gone}}
+use Rattle.shm_graph.specs.{declared.{run.Start.Start, spot.Spot.TheVariants.{Era, Root}}, Agents.{entered, recovers}}
+use Rattle.shm_graph.specs.{Asks.{Trail, call_before}, Held.is_loose, Runs.{first_memo, first_part}, Views.own_word}
+use Rattle.shm_graph.specs.Events.{Event}
 use Rattle.shm_graph.proofs.Memos.MemoSteps.{recovers-entered}
 use Rattle.shm_recover.specs.declared.join.JoinState.{JoinState}
 use Rattle.shm_recover.specs.Join.{JoinFits, JoinGives, is_start, join_control, join_fresh}
-use Rattle.shm_plain.specs.Pools.{Pool, first_pool, memo_of, readied, MayStep}
-use Rattle.shm_plain.specs.Calls.{Did, Ran}
+use Rattle.shm_plain.specs.{Pools.{Pool, first_pool, memo_of, readied, MayStep}, Calls.{Did, Ran}}
 use Rattle.shm_words.specs.Layout.{GeometryFits}
-use Rattle.shm_graph.specs.Events.{Event}
-use Rattle.plain_calls.proofs.Cut.{long}
-use Rattle.plain_calls.proofs.JoinEvents.{join_tells, none_along, none_of}
+use Rattle.plain_calls.proofs.{Cut.long, JoinEvents.{join_tells, none_along, none_of}}
 use Rattle.plain_calls.proofs.FirstJoin.{may_first, join_fits, join_over, long_first, memo_first, ready_first, first_own_era}
 use Rattle.plain_calls.proofs.driving.joined.Goals.{After-new-join, In-Some}
 use Rattle.plain_calls.proofs.driving.joined.Goals as goal

@@ -1,12 +1,8 @@
 use Rattle.std.proofs.Common.{◌≡◌, ◌<◌, false, [], sym, ap, ◌∙◌, subst}
-use Rattle.shm_graph.specs.declared.memo.Memo.{Memo}
-use Rattle.shm_graph.specs.declared.run.Start.{Start}
-use Rattle.shm_graph.specs.Asks.{call_before}
-use Rattle.shm_recover.specs.declared.join.JoinState.{JoinState}
-use Rattle.shm_recover.specs.Join.{JoinFits, is_start, join_fresh}
+use Rattle.shm_graph.specs.{declared.{memo.Memo.Memo, run.Start.Start}, Asks.call_before}
+use Rattle.shm_recover.specs.{declared.join.JoinState.JoinState, Join.{JoinFits, is_start, join_fresh}}
 use Rattle.shm_plain.specs.Pools.{Pool, memo_of, readied, MayStep}
-use Rattle.plain_calls.proofs.FirstJoin.{may_first, join_fits}
-use Rattle.plain_calls.proofs.joining.step_join.Goals.{After-of-life}
+use Rattle.plain_calls.proofs.{FirstJoin.{may_first, join_fits}, joining.step_join.Goals.After-of-life}
 use Rattle.plain_calls.proofs.joining.step_join.Goals as goal
 
 pub step-turn-requires-clause-agent : goal.step-turn-requires-clause-agent

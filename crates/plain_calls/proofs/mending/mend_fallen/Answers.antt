@@ -1,31 +1,24 @@
 use Rattle.std.proofs.Common.{◌≡◌, ◌<◌, sym, ap, ◌∙◌, subst, List, length}
 use Rattle.std.specs.Prelude.{IfSome}
-use Rattle.shm_graph.specs.declared.ask.Me.{Me}
-use Rattle.shm_graph.specs.declared.memo.Kind.TheVariants.{Recoverer}
-use Rattle.shm_graph.specs.declared.memo.Memo.{Memo}
-use Rattle.shm_graph.specs.Agents.{died, entered, recovers}
-use Rattle.shm_graph.specs.Asks.{call_before}
-use Rattle.shm_graph.specs.Events.{Event}
+use Rattle.shm_graph.specs.declared.{ask.Me.Me, memo.{Kind.TheVariants.Recoverer, Memo.Memo}}
+use Rattle.shm_graph.specs.{Agents.{died, entered, recovers}, Asks.call_before, Events.Event}
 use Rattle.shm_graph.proofs.Memos.MemoSteps.{recovers-entered}
-use Rattle.shm_plain.specs.Pools.{MayStep, Pool, after_fall, memo_of, readied}
-use Rattle.shm_plain.specs.Calls.{Did}
-use Rattle.shm_calls.specs.CallsControl.{calls_control, calls_of}
-use Rattle.shm_calls.specs.CallsFit.{CallsFits, CallsGives}
-use Rattle.shm_count.specs.Roots.{member}
-use Rattle.shm_recover.specs.declared.mend.MendState.{MendState}
-use Rattle.shm_recover.specs.Mend.Control.{mend_parts, mending}
-use Rattle.shm_recover.specs.Mend.{IsMended, MayMend, mend_plan}
+use Rattle.shm_plain.specs.{Pools.{MayStep, Pool, after_fall, memo_of, readied}, Calls.Did}
 use Rattle.shm_plain.proofs.Called.{Called}
+use Rattle.shm_calls.specs.{CallsControl.{calls_control, calls_of}, CallsFit.{CallsFits, CallsGives}}
+use Rattle.shm_count.specs.Roots.{member}
+use Rattle.shm_recover.specs.{declared.mend.MendState.MendState, Mend.Control.{mend_parts, mending, mend_steered}}
+use Rattle.shm_recover.specs.Mend.{IsMended, MayMend, mend_plan}
 use Rattle.plain_calls.proofs.Falling.{fits_then, may_recover, mend_answer, recovers_then}
 use Rattle.plain_calls.proofs.mending.mend_fallen.Goals.{After-new-machine}
 use Rattle.plain_calls.proofs.mending.mend_fallen.Goals as goal
 
 -- the machine makes the calls of the plan
-state : (c : After-new-machine) → c.new-machine.result ≡ calls_of mend_plan (mending (member c.args.pool.now.start.geometry c.args.who))
+state : (c : After-new-machine) → c.new-machine.result ≡ calls_of mend_steered (mending (member c.args.pool.now.start.geometry c.args.who))
 state c =
     let g = c.new.ensures.geometry ∙ c.geometry-geometry.ensures.is in
     let me : c.new.result ≡ member c.args.pool.now.start.geometry c.args.who = (λ i. record { geometry = g i; who = c.new.ensures.who i }) in
-    c.new-machine.ensures ∙ ap (λ (x : MendState). calls_of mend_plan x) (c.new-2.ensures ∙ ap (λ (x : Me). mending x) me)
+    c.new-machine.ensures ∙ ap (λ (x : MendState). calls_of mend_steered x) (c.new-2.ensures ∙ ap (λ (x : Me). mending x) me)
 
 -- the identity has an account, before its agent fell and after it
 there : (c : After-new-machine) → c.args.who < length c.args.pool.now.accounts
@@ -58,7 +51,7 @@ call-requires-clause-agent c =
 pub call-requires-clause-fits : goal.call-requires-clause-fits
 call-requires-clause-fits c =
     let at = (goal.at.call-requires-clause-fits c).After-new-machine in
-    let k = calls_control mend_parts mend_plan in
+    let k = calls_control mend_parts mend_steered in
     let r : Memo = memo_of (readied c.fall.new.self c.args.who) c.args.who in
     (r, subst (λ x. CallsFits mend_parts mend_plan x r r (call_before (k.fresh x) r.call)) (sym (state at)) (fits_then c.fall.new.self c.fall.new.self c.args.who (member c.args.pool.now.start.geometry c.args.who) 0 0 (may at)))
 
@@ -68,9 +61,9 @@ returns-clause-mended c =
     let p : Pool = c.fall.new.self in
     let q : Pool = c.call.new.self in
     let me : Me = member c.args.pool.now.start.geometry c.args.who in
-    let said : Called (calls_control mend_parts mend_plan) (CallsFits mend_parts mend_plan) (CallsGives mend_parts mend_plan) c.args.who p c.new-machine.result q c.args.life.now.left c.call.new.life.left c.call.result =
+    let said : Called (calls_control mend_parts mend_steered) (CallsFits mend_parts mend_plan) (CallsGives mend_parts mend_plan) c.args.who p c.new-machine.result q c.args.life.now.left c.call.new.life.left c.call.result =
     record { gave = c.call.ensures.gives; ran = c.call.ensures.ran; took = c.call.ensures.took; events = c.call.ensures.events } in
-    let call = subst (λ x. Called (calls_control mend_parts mend_plan) (CallsFits mend_parts mend_plan) (CallsGives mend_parts mend_plan) c.args.who p x q c.args.life.now.left c.call.new.life.left c.call.result) (state at) said in
+    let call = subst (λ x. Called (calls_control mend_parts mend_steered) (CallsFits mend_parts mend_plan) (CallsGives mend_parts mend_plan) c.args.who p x q c.args.life.now.left c.call.new.life.left c.call.result) (state at) said in
     subst (λ (z : Pool). IfSome c.call.result (λ a. (es : List Event) × Did c.args.who z q es × IsMended me (entered Recoverer (died (memo_of c.args.pool.now c.args.who))) (memo_of q c.args.who) (memo_of q c.args.who).call es)) c.fall.ensures.fallen
     (subst (λ (r : Memo). IfSome c.call.result (λ a. (es : List Event) × Did c.args.who p q es × IsMended me r (memo_of q c.args.who) (memo_of q c.args.who).call es)) (ready at)
     (mend_answer p q c.args.who me c.args.life.now.left c.call.new.life.left c.call.result (may at) call))

@@ -1,6 +1,5 @@
 use Rattle.std.proofs.Common.{◌≡◌, sym, subst, true}
-use Rattle.shm_graph.specs.Agents.{last_agent}
-use Rattle.shm_graph.specs.Runs.{fell_by}
+use Rattle.shm_graph.specs.{Agents.last_agent, Runs.fell_by}
 use Rattle.shm_steps.specs.Reparting.{map_in}
 use Rattle.shm_plain.specs.Pools.{Pool, memo_of}
 use Rattle.plain_calls.proofs.Fallen.{dead_fell, dead_map}

@@ -1,8 +1,6 @@
 use Rattle.std.proofs.Common.{sym, ap}
-use Rattle.shm_graph.specs.declared.memo.Kind.TheVariants.{Client}
-use Rattle.shm_graph.specs.Runs.{account_entered}
-use Rattle.shm_pool.specs.Called.{Rests}
-use Rattle.shm_pool.specs.Tokens.{Token, me_of}
+use Rattle.shm_graph.specs.{declared.memo.Kind.TheVariants.Client, Runs.account_entered}
+use Rattle.shm_pool.specs.{Called.Rests, Tokens.{Token, me_of}}
 use Rattle.shm_pool.proofs.Keeping.{rests_joined}
 use Rattle.pool_calls.proofs.Opens.{open_first}
 use Rattle.pool_calls.proofs.tables.open.Goals as goal

@@ -1,6 +1,6 @@
 use Rattle.pool_calls.proofs.Opens.{may_run, open_after}
-use Rattle.shm_pool.specs.declared.reply.Reply.TheVariants.{Died, Done}
 use Rattle.pool_calls.proofs.tables.run_line.Goals as goal
+use Rattle.shm_pool.specs.declared.reply.Reply.TheVariants.{Died, Done}
 
 pub command-requires-clause-line : goal.command-requires-clause-line
 command-requires-clause-line c = λ alive. may_run c.args.client.now c.args.line.now c.requires.open c.me.ensures.kind c.requires.line alive

@@ -1,10 +1,8 @@
 use Rattle.std.proofs.Common.{◌≡◌, subst}
-use Rattle.std.specs.Prelude.{IfSome}
-use Rattle.std.specs.Option.{option_to_list}
+use Rattle.std.specs.{Prelude.IfSome, Option.option_to_list}
 use Rattle.shm_pool.specs.Tokens.{Token, token_first}
 use Rattle.pool_calls.specs.Clients.{AllFirst}
-use Rattle.pool_calls.proofs.FirstTokens.{all_of, first_front, of_first, popped}
-use Rattle.pool_calls.proofs.team.pop_of.Goals.{After-pop}
+use Rattle.pool_calls.proofs.{FirstTokens.{all_of, first_front, of_first, popped}, team.pop_of.Goals.After-pop}
 use Rattle.pool_calls.proofs.team.pop_of.Goals as goal
 
 one : (c : After-pop) → IfSome c.pop.result (λ (t : Token). t ≡ token_first c.args.pool.now t.account.who)

@@ -1,14 +1,9 @@
 use Rattle.std.proofs.Common.{ap, ◌∙◌}
-use Rattle.shm_graph.specs.Tells.{happens_along}
+use Rattle.shm_graph.specs.{Tells.happens_along, Runs.memos_of}
 use Rattle.shm_count.proofs.CallEvents.{call_tells}
-use Rattle.shm_alloc.specs.declared.point.AllocPoint.{AllocPoint}
-use Rattle.shm_alloc.specs.Alloc.Control.{alloc_control, is_first}
-use Rattle.shm_alloc.specs.Alloc.Events.{alloc_event}
-use Rattle.shm_alloc.specs.Alloc.{AllocFits, AllocGives}
-use Rattle.shm_alloc.specs.Alloc.Going.{begins}
-use Rattle.shm_alloc.specs.Alloc.Laws.{alloc_laws}
+use Rattle.shm_alloc.specs.{declared.point.AllocPoint.AllocPoint, Alloc.Control.{alloc_control, is_first}}
+use Rattle.shm_alloc.specs.Alloc.{Events.alloc_event, AllocFits, AllocGives, Going.begins, Laws.alloc_laws}
 use Rattle.shm_alloc.specs.Alloc.Tells.{alloc_tells}
-use Rattle.shm_graph.specs.Runs.{memos_of}
 use Rattle.shm_alloc.proofs.events.alloc_own_events.Goals as goal
 
 pub returns : goal.returns

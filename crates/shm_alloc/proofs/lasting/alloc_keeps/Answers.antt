@@ -1,24 +1,13 @@
 use Rattle.std.proofs.Common.{◌≡◌, ◌≢◌, ℕ, ◌<◌, refl, sym, ap, ◌∙◌, subst, List, Result}
-use Rattle.std.specs.Prelude.{Ok, Err, IfErr, IfOk, slice_index}
 use Rattle.std.proofs.lemmas.Bool.{cond-true, cond-false, eq-eqb, ne_eqb}
-use Rattle.shm_graph.specs.declared.memo.Memo.{Memo}
-use Rattle.shm_graph.specs.declared.memo.Stored.{Stored}
-use Rattle.shm_graph.specs.declared.spot.Spot.TheVariants.{Root}
-use Rattle.shm_graph.specs.Asks.{Trail}
-use Rattle.shm_graph.specs.Events.{Event}
-use Rattle.shm_graph.specs.Held.{is_loose}
-use Rattle.shm_graph.specs.Operations.{IsHeld}
-use Rattle.shm_graph.specs.Views.{own_word}
-use Rattle.shm_count.specs.declared.answer.Made.{Made}
-use Rattle.shm_count.specs.Roots.{root_word}
-use Rattle.shm_count.specs.Step.Control.{IsInside}
+use Rattle.std.specs.Prelude.{Ok, Err, IfErr, IfOk, slice_index}
+use Rattle.shm_graph.specs.{declared.{memo.{Memo.Memo, Stored.Stored}, spot.Spot.TheVariants.Root}, Asks.Trail}
+use Rattle.shm_graph.specs.{Events.Event, Held.is_loose, Operations.IsHeld, Views.own_word}
+use Rattle.shm_count.specs.{declared.answer.Made.Made, Roots.root_word, Step.Control.IsInside}
 use Rattle.shm_count.proofs.RootSpots.{roots_reached}
-use Rattle.shm_alloc.specs.declared.alloc.AllocFault.{AllocFault}
-use Rattle.shm_alloc.specs.declared.point.AllocState.{AllocState}
-use Rattle.shm_alloc.specs.Alloc.AsPart.{AllocLeaves}
-use Rattle.shm_alloc.specs.Alloc.{MadeGives}
-use Rattle.shm_alloc.proofs.MadeBlocks.{block_inside}
-use Rattle.shm_alloc.proofs.MadeRoots.{made_word}
+use Rattle.shm_alloc.specs.declared.{alloc.AllocFault.AllocFault, point.AllocState.AllocState}
+use Rattle.shm_alloc.specs.Alloc.{AsPart.AllocLeaves, MadeGives}
+use Rattle.shm_alloc.proofs.{MadeBlocks.block_inside, MadeRoots.made_word}
 use Rattle.shm_alloc.proofs.lasting.alloc_keeps.Goals as goal
 
 module _ (m : AllocState) (r0 r : Memo) (tr : Trail) (es : List Event) where

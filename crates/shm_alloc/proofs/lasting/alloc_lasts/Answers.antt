@@ -1,11 +1,7 @@
-use Rattle.std.specs.Prelude.{Result, Ok, Err, IfOk}
-use Rattle.std.specs.List.{Contains}
-use Rattle.shm_graph.specs.declared.memo.Memo.{Memo}
-use Rattle.shm_graph.specs.Asks.{Trail}
+use Rattle.std.specs.{Prelude.{Result, Ok, Err, IfOk}, List.Contains}
+use Rattle.shm_graph.specs.{declared.memo.Memo.Memo, Asks.Trail}
 use Rattle.shm_count.specs.declared.answer.Made.{Made}
-use Rattle.shm_alloc.specs.declared.alloc.AllocFault.{AllocFault}
-use Rattle.shm_alloc.specs.declared.point.AllocState.{AllocState}
-use Rattle.shm_alloc.specs.Alloc.{AllocGives}
+use Rattle.shm_alloc.specs.{declared.{alloc.AllocFault.AllocFault, point.AllocState.AllocState}, Alloc.AllocGives}
 use Rattle.shm_alloc.proofs.lasting.alloc_lasts.Goals as goal
 
 -- a block of which it answers is one that the call made

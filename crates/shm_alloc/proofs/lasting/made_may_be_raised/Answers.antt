@@ -1,9 +1,5 @@
-use Rattle.std.proofs.Common.{◌≡◌, ap, ◌∙◌, arith, refl, true, List, inr}
-use Rattle.std.proofs.lemmas.Bool.{cond-true}
-use Rattle.shm_graph.specs.declared.memo.Stored.{Stored}
-use Rattle.shm_graph.specs.declared.spot.Spot.TheVariants.{Root}
-use Rattle.shm_graph.specs.Reach.{is_reached}
-use Rattle.shm_graph.specs.Views.{own_word}
+use Rattle.std.proofs.{Common.{◌≡◌, ap, ◌∙◌, arith, refl, true, List, inr}, lemmas.Bool.cond-true}
+use Rattle.shm_graph.specs.{declared.{memo.Stored.Stored, spot.Spot.TheVariants.Root}, Reach.is_reached, Views.own_word}
 use Rattle.shm_graph.proofs.Spots.Spotting.{same_spot_self}
 use Rattle.shm_count.specs.declared.point.Aim.TheVariants.{Up}
 use Rattle.shm_count.proofs.RootSpots.{can_root, fits_root, is_here, roots_reached, some_inside}

@@ -1,18 +1,14 @@
 use Rattle.std.proofs.Common.{◌≡◌, Bool, false, [], sym, ap, ◌∙◌, subst}
 use Rattle.shm_graph.specs.Agents.{acts}
-use Rattle.shm_agents.specs.declared.agents.Standing.TheVariants.{AtWork}
-use Rattle.shm_agents.specs.Cuts.{IsCut}
+use Rattle.shm_agents.specs.{declared.agents.Standing.TheVariants.AtWork, Cuts.IsCut}
 use Rattle.shm_pool.specs.Tokens.{Token}
-use Rattle.shm_team.specs.declared.done.Finish.{Finish}
-use Rattle.shm_team.specs.Lefts.{IsGivenBack, account_in, is_corpse}
-use Rattle.shm_async.specs.Cancelled.{HasCancelled}
-use Rattle.shm_async.specs.Polled.{AtPost, StandAt}
-use Rattle.shm_async.proofs.Cancelling.{by_acting, cancelled, cut_quiet}
-use Rattle.shm_async.proofs.identity.cut.Goals.{then-cut, else-cut}
+use Rattle.shm_team.specs.{declared.done.Finish.Finish, Lefts.{IsGivenBack, account_in, is_corpse}}
+use Rattle.shm_async.specs.{Cancelled.HasCancelled, Polled.{AtPost, StandAt}}
+use Rattle.shm_async.proofs.{Cancelling.{by_acting, cancelled, cut_quiet}, identity.cut.Goals.{then-cut, else-cut}}
 use Rattle.shm_async.proofs.identity.cut.Goals as goal
 
 pub returns : goal.returns
-returns c =
+returns g c =
     let s = c.args.script.now in
     let w : AtPost = record { agents = c.site.inside.agents; post = c.site.inside.post } in
     let v : AtPost = record { agents = c.cut.new.self; post = c.cut.new.pool } in

@@ -5,7 +5,7 @@ use Rattle.shm_async.proofs.Giving.{at, given_all, given_rest, one_given}
 use Rattle.shm_async.proofs.identity.give.Goals as goal
 
 pub loop-given-preserved : goal.loop-given-preserved
-loop-given-preserved c =
+loop-given-preserved g c =
     let i = c.loop-given.invariant in
     let u = c.turn.ensures in
     let w = at c.site.inside.agents c.site.inside.post in
@@ -17,7 +17,7 @@ loop-given-preserved c =
     )
 
 pub returns-else-eq : goal.returns-else-eq
-returns-else-eq c =
+returns-else-eq g c =
     let i = c.loop-given.invariant in
     let w = at c.site.inside.agents c.site.inside.post in
     let v = at c.loop-given.site-inside.agents c.loop-given.site-inside.post in
@@ -25,7 +25,7 @@ returns-else-eq c =
     subst (λ (z : AtPost). HasGiven c.args.q c.args.script.now z v) c.site.view_is (given_rest c.args.q c.loop-given.given c.args.script.now w v i.0 i.1 i.2 rest)
 
 pub returns-after-loop-given : goal.returns-after-loop-given
-returns-after-loop-given c =
+returns-after-loop-given g c =
     let i = c.loop-given.invariant in
     let w = at c.site.inside.agents c.site.inside.post in
     let v = at c.loop-given.site-inside.agents c.loop-given.site-inside.post in

@@ -1,13 +1,12 @@
 use Rattle.std.proofs.Common.{◌≡◌, ◌≢◌, ℕ, ◌<◌, ◌-◌, length, ◌∙◌, subst, arith, get_or-set_other, get_or-set_same, below_more}
-use Rattle.std.specs.Prelude.{Option, None, slice_index_or, slice_set}
 use Rattle.std.proofs.lemmas.List.{length-set}
-use Rattle.shm_async.specs.declared.limited.LimitedMember.{LimitedMember}
-use Rattle.shm_async.specs.LimitedMembers.{IsLimitedHere}
+use Rattle.std.specs.Prelude.{Option, None, slice_index_or, slice_set}
+use Rattle.shm_async.specs.{declared.limited.LimitedMember.LimitedMember, LimitedMembers.IsLimitedHere}
 use Rattle.shm_async.proofs.Listed.{index_any}
 use Rattle.shm_async.proofs.limits.poll_each.Goals as goal
 
 pub poll_one-more-requires-clause-here : goal.poll_one-more-requires-clause-here
-poll_one-more-requires-clause-here c =
+poll_one-more-requires-clause-here g c =
     let at = c.loop-at in
     let x = c.index-members-at in
     let (t, n, h) = c.requires.here in
@@ -16,11 +15,11 @@ poll_one-more-requires-clause-here c =
     (t, at.at, n, subst (IsLimitedHere t c.args.pool.now at.at n c.args.left) (index_any at.members at.at None x.result few) one)
 
 pub loop-at-preserved : goal.loop-at-preserved
-loop-at-preserved c =
+loop-at-preserved g c =
     let at = c.loop-at in
     let i = at.invariant in
     let x = c.index-members-at in
-    let v : Option LimitedMember = c.poll_one-more.new.slot in
+    let v : Option (LimitedMember _) = c.poll_one-more.new.slot in
     let few : at.at < length at.members = omega arith in
     record {
       many = length-set at.members at.at v ∙ i.many;
@@ -36,4 +35,4 @@ loop-at-preserved c =
     }
 
 pub returns : goal.returns
-returns c = λ t n h k l. c.loop-at.invariant.polled t n h k (omega arith)
+returns g c = λ t n h k l. c.loop-at.invariant.polled t n h k (omega arith)

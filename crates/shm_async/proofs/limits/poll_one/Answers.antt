@@ -4,17 +4,17 @@ use Rattle.shm_async.specs.LimitedMembers.{IsLimitedHere}
 use Rattle.shm_async.proofs.limits.poll_one.Goals as goal
 
 pub polled-member-requires-clause-member : goal.polled-member-requires-clause-member
-polled-member-requires-clause-member c =
+polled-member-requires-clause-member g c =
     let (t, k, n, h) = c.requires.here in
     let was : c.args.slot.now ≡ Some c.in-Some.member = (let a = c.take.ensures.value in let b = c.in-Some.is in cc) in
     (t, k, n, subst (IsLimitedHere t c.args.pool.now k n c.args.left) was h)
 
 pub returns-in-None : goal.returns-in-None
-returns-in-None c = λ t k n h.
+returns-in-None g c = λ t k n h.
     let gone : c.args.slot.now ≡ None = (let a = c.take.ensures.value in let b = c.in-None.is in cc) in
     absurd (subst (IsLimitedHere t c.args.pool.now k n c.args.left) gone h)
 
 pub returns-in-Some : goal.returns-in-Some
-returns-in-Some c = λ t k n h.
+returns-in-Some g c = λ t k n h.
     let was : c.args.slot.now ≡ Some c.in-Some.member = (let a = c.take.ensures.value in let b = c.in-Some.is in cc) in
     c.polled-member.ensures.member t k n (subst (IsLimitedHere t c.args.pool.now k n c.args.left) was h)

@@ -7,7 +7,7 @@ use Rattle.shm_async.proofs.Gathering.{HereFrom, here_more, members_of, one_more
 use Rattle.shm_async.proofs.members.all_members.Goals as goal
 
 pub loop-job-init : goal.loop-job-init
-loop-job-init c =
+loop-job-init g c =
     let (items, len, small, runs) = c.into_iter-job-iterator.ensures.into_iter_gives in
     let t = c.args.trace.now in
     let p = c.args.pool.now in
@@ -20,7 +20,7 @@ loop-job-init c =
     }
 
 pub of-requires-clause-job : goal.of-requires-clause-job
-of-requires-clause-job c =
+of-requires-clause-job g c =
     let at = c.loop-job in
     let t = c.args.trace.now in
     let p = c.args.pool.now in
@@ -28,7 +28,7 @@ of-requires-clause-job c =
     subst (λ (n : ℕ). IsJob t p n c.in-Some.job) (sym h.0) h.1
 
 pub loop-job-preserved : goal.loop-job-preserved
-loop-job-preserved c =
+loop-job-preserved g c =
     let at = c.loop-job in
     let i = at.invariant in
     let t = c.args.trace.now in
@@ -52,7 +52,7 @@ loop-job-preserved c =
     }
 
 pub returns : goal.returns
-returns c =
+returns g c =
     let at = c.loop-job in
     let all = all_yielded at.yielded _ _ _ at.invariant.items at.invariant.len c.in-None.ensures.steps.0 in
     members_of c.args.trace.now c.args.pool.now at.members.items (at.invariant.many ∙ (ap length all ∙ c.requires.many)) at.invariant.here

@@ -6,7 +6,7 @@ use Rattle.shm_async.proofs.Gathering.{HereFrom, dones_more, here_from, one_more
 use Rattle.shm_async.proofs.members.finish_all.Goals as goal
 
 pub loop-member-init : goal.loop-member-init
-loop-member-init c =
+loop-member-init g c =
     let (items, len, small, runs) = c.into_iter-member-iterator.ensures.into_iter_gives in
     let t = c.args.trace.now in
     let p = c.args.pool.now in
@@ -19,7 +19,7 @@ loop-member-init c =
     }
 
 pub finish-requires : goal.finish-requires
-finish-requires c =
+finish-requires g c =
     let at = c.loop-member in
     let t = c.args.trace.now in
     let p = c.args.pool.now in
@@ -27,7 +27,7 @@ finish-requires c =
     (t, p, n, (subst (HereFrom t p n) c.in-Some.ensures.steps.0 at.invariant.here).0)
 
 pub loop-member-preserved : goal.loop-member-preserved
-loop-member-preserved c =
+loop-member-preserved g c =
     let at = c.loop-member in
     let i = at.invariant in
     let t = c.args.trace.now in
@@ -52,10 +52,10 @@ loop-member-preserved c =
     }
 
 pub returns-clause-many : goal.returns-clause-many
-returns-clause-many c =
+returns-clause-many g c =
     let at = c.loop-member in
     let all = all_yielded at.yielded _ _ _ at.invariant.items at.invariant.len c.in-None.ensures.steps.0 in
     at.invariant.many ∙ (ap length all ∙ c.requires.many)
 
 pub returns-clause-dones : goal.returns-clause-dones
-returns-clause-dones c = c.loop-member.invariant.dones
+returns-clause-dones g c = c.loop-member.invariant.dones

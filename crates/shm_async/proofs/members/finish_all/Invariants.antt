@@ -5,7 +5,7 @@ use Rattle.shm_async.proofs.Gathering.{HereFrom}
 use Rattle.shm_async.proofs.members.finish_all.Given as goal
 
 abbrev pub invariant-loop-member : goal.invariant-loop-member
-invariant-loop-member l = record {
+invariant-loop-member g l = record {
   items : l.yielded ++ into_iter_items l.member-iterator ≡ l.fn.members.items;
   len : into_iter_len l.member-iterator ≡ length (into_iter_items l.member-iterator);
   here : HereFrom l.trace l.pool (length l.yielded) (into_iter_items l.member-iterator);

@@ -1,11 +1,10 @@
-use Rattle.std.proofs.Common.{◌<◌, length, ◌∙◌, subst, arith}
-use Rattle.std.proofs.lemmas.List.{length-set}
+use Rattle.std.proofs.{Common.{◌<◌, length, ◌∙◌, subst, arith}, lemmas.List.length-set}
 use Rattle.shm_async.specs.Members.{IsHere}
 use Rattle.shm_async.proofs.Gathering.{members_set}
 use Rattle.shm_async.proofs.members.poll_each.Goals as goal
 
 pub loop-at-preserved : goal.loop-at-preserved
-loop-at-preserved c =
+loop-at-preserved g c =
     let at = c.loop-at in
     let i = at.invariant in
     let x = c.index-members-at in

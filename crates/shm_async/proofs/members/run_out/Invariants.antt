@@ -5,10 +5,10 @@ use Rattle.shm_async.proofs.Gathering.{turns_site}
 use Rattle.shm_async.proofs.members.run_out.Given as goal
 
 abbrev pub invariant-turns : goal.invariant-turns
-invariant-turns l = record {
+invariant-turns g l = record {
   left : l.future.site ≢ None;
   gives : (x : Finish) → MayGive l.future x → MayGive l.initial.future x;
 }
 
 abbrev pub decreases-turns : goal.decreases-turns
-decreases-turns l = turns_site l.future.script l.future.site
+decreases-turns g l = turns_site l.future.script l.future.site

@@ -1,8 +1,6 @@
 use Rattle.std.proofs.Common.{◌≡◌, ◌+◌, false, true, sym, ap, ◌∙◌, arith}
 use Rattle.std.specs.Prelude.{Ok, Err}
-use Rattle.shm_graph.specs.declared.ask.Turn.{Turn}
-use Rattle.shm_graph.specs.declared.ask.Turn.TheVariants.{More, Done}
-use Rattle.shm_graph.specs.Laws.{is_died, is_done}
+use Rattle.shm_graph.specs.{declared.ask.Turn.{Turn, TheVariants.{More, Done}}, Laws.{is_died, is_done}}
 use Rattle.shm_pool.specs.Endings.{Answer}
 use Rattle.shm_recover.specs.Machines.Recovering.{recover}
 use Rattle.shm_async.proofs.Recovering.{ends_gone, ends_spent, goes, goes_stepped, not_true, over_stepped, some_left, stepped_then}

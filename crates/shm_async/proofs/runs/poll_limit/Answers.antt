@@ -1,6 +1,5 @@
-use Rattle.std.proofs.Common.{◌≡◌, ◌≤◌, ◌*◌, ℕ, ap, length, subst, arith}
+use Rattle.std.proofs.{Common.{◌≡◌, ◌≤◌, ◌*◌, ℕ, ap, length, subst, arith}, Math.Nat.mul-le-mul_left}
 use Rattle.std.specs.Prelude.{IfOk}
-use Rattle.std.proofs.Math.Nat.{mul-le-mul_left}
 use Rattle.shm_graph.specs.declared.run.Start.{Start}
 use Rattle.shm_async.proofs.runs.poll_limit.Goals as goal
 

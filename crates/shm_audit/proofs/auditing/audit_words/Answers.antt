@@ -1,8 +1,6 @@
 use Rattle.std.proofs.Common.{◌≡◌, ◌+◌, ◌-◌, ◌*◌, length-take-le, take, drop, sym, subst, ◌∙◌, arith}
 use Rattle.shm_words.specs.Layout.{address, bodies, total_of}
-use Rattle.shm_audit.specs.Images.{numbers}
-use Rattle.shm_audit.specs.Streams.{Seen}
-use Rattle.shm_audit.specs.Tallies.{AreFrom}
+use Rattle.shm_audit.specs.{Images.numbers, Streams.Seen, Tallies.AreFrom}
 use Rattle.shm_audit.proofs.Windows.{from_slice, from_take}
 use Rattle.shm_audit.proofs.auditing.audit_words.Goals as goal
 

@@ -1,7 +1,6 @@
 use Rattle.std.proofs.Common.{◌+◌, ◌*◌}
 use Rattle.shm_words.specs.Layout.{bodies}
-use Rattle.shm_audit.specs.Images.{numbers}
-use Rattle.shm_audit.specs.Streams.{Seen}
+use Rattle.shm_audit.specs.{Images.numbers, Streams.Seen}
 use Rattle.shm_audit.proofs.auditing.audit_words.Given as goal
 
 abbrev pub invariant-loop-number : goal.invariant-loop-number

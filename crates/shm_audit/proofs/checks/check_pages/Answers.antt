@@ -1,12 +1,9 @@
-use Rattle.std.proofs.Common.{get_or, sym, ap, ◌∙◌, arith, inl, inr}
-use Rattle.std.proofs.lemmas.Bool.{cases_eq}
+use Rattle.std.proofs.{Common.{get_or, sym, ap, ◌∙◌, arith, inl, inr}, lemmas.Bool.cases_eq}
 use Rattle.std.specs.Prelude.{Some}
 use Rattle.shm_words.specs.Layout.{address}
+use Rattle.shm_audit.specs.{Faults.is_page_word, Images.numbers}
 use Rattle.shm_audit.specs.declared.fault.ImageFault.TheVariants as fault
-use Rattle.shm_audit.specs.Faults.{is_page_word}
-use Rattle.shm_audit.specs.Images.{numbers}
-use Rattle.shm_audit.proofs.Fronts.{from_word, numbers_length}
-use Rattle.shm_audit.proofs.Steps.{bad_page}
+use Rattle.shm_audit.proofs.{Fronts.{from_word, numbers_length}, Steps.bad_page}
 use Rattle.shm_audit.proofs.checks.check_pages.Goals as goal
 
 pub loop-at-init : goal.loop-at-init

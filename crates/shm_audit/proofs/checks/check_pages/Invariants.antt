@@ -1,8 +1,6 @@
 use Rattle.std.proofs.Common.{◌≡◌, ℕ, ◌<◌, ◌≤◌, List, get_or, true}
 use Rattle.shm_words.specs.Layout.{pages}
-use Rattle.shm_audit.specs.Faults.{is_page_word}
-use Rattle.shm_audit.specs.Images.{numbers}
-use Rattle.shm_audit.specs.Tallies.{AreFrom}
+use Rattle.shm_audit.specs.{Faults.is_page_word, Images.numbers, Tallies.AreFrom}
 use Rattle.shm_audit.proofs.checks.check_pages.Given as goal
 
 abbrev pub invariant-loop-at : goal.invariant-loop-at

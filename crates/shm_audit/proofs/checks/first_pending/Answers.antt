@@ -1,11 +1,8 @@
 use Rattle.std.proofs.Common.{◌<◌, below_more, get_or, length, not, sym, ap, ◌∙◌, arith}
 use Rattle.shm_words.specs.Layout.{address}
 use Rattle.shm_graph.specs.Spots.{see}
-use Rattle.shm_audit.specs.Images.{numbers}
-use Rattle.shm_audit.specs.Verdicts.{is_pending, is_settled}
-use Rattle.shm_audit.proofs.Fronts.{from_word, numbers_length}
-use Rattle.shm_audit.proofs.Least.{none_below, some_below}
-use Rattle.shm_audit.proofs.Tested.{status_word}
+use Rattle.shm_audit.specs.{Images.numbers, Verdicts.{is_pending, is_settled}}
+use Rattle.shm_audit.proofs.{Fronts.{from_word, numbers_length}, Least.{none_below, some_below}, Tested.status_word}
 use Rattle.shm_audit.proofs.checks.first_pending.Goals as goal
 
 pub returns-then-not-is_settled : goal.returns-then-not-is_settled

@@ -1,8 +1,6 @@
 use Rattle.std.proofs.Common.{◌≡◌, ℕ, ◌<◌, List, false}
 use Rattle.shm_graph.specs.Spots.{see}
-use Rattle.shm_audit.specs.Images.{numbers}
-use Rattle.shm_audit.specs.Tallies.{AreFrom}
-use Rattle.shm_audit.specs.Verdicts.{is_pending}
+use Rattle.shm_audit.specs.{Images.numbers, Tallies.AreFrom, Verdicts.is_pending}
 use Rattle.shm_audit.proofs.checks.first_pending.Given as goal
 
 abbrev pub invariant-loop-c : goal.invariant-loop-c

@@ -1,6 +1,5 @@
-use Rattle.std.proofs.Common.{◌≡◌, get_or, sym, ap, ◌∙◌}
+use Rattle.std.proofs.{Common.{◌≡◌, get_or, sym, ap, ◌∙◌}, lemmas.Result.err_from_is_err_and}
 use Rattle.std.specs.Prelude.{IfErr, IfOk, Result, Ok, Err, Some}
-use Rattle.std.proofs.lemmas.Result.{err_from_is_err_and}
 use Rattle.shm_words.specs.declared.geometry.Geometry.{Geometry}
 use Rattle.shm_audit.specs.Images.{numbers, numbers_in}
 use Rattle.shm_audit.proofs.Windows.{announced, bad_mark, bad_sizes}

@@ -1,6 +1,5 @@
 use Rattle.std.proofs.Common.{◌≡◌, ◌++◌, take}
-use Rattle.std.specs.List.{flat_map}
-use Rattle.std.specs.Int.{w64, to_le_bytes}
+use Rattle.std.specs.{List.flat_map, Int.{w64, to_le_bytes}}
 use Rattle.shm_audit.proofs.image.write_image.Given as goal
 
 abbrev pub invariant-loop-word : goal.invariant-loop-word

@@ -1,8 +1,8 @@
 use Rattle.std.proofs.Common.{sym, ◌∙◌, arith, inl, inr}
 use Rattle.shm_audit.specs.Images.{numbers}
-use Rattle.shm_graph.proofs.Spots.WordsAt.{place_inside}
 use Rattle.shm_audit.proofs.Fronts.{from_word, front_home, front_other, front_root, front_slot, numbers_length}
 use Rattle.shm_audit.proofs.words.reference_before.Goals as goal
+use Rattle.shm_graph.proofs.Spots.WordsAt.{place_inside}
 
 pub returns-in-Home : goal.returns-in-Home
 returns-in-Home c = λ ws from.

@@ -2,9 +2,8 @@ use Rattle.std.proofs.Common.{sym, ap, ◌∙◌, arith}
 use Rattle.shm_words.specs.Layout.{is_in, address}
 use Rattle.shm_words.proofs.Placing.{address-place, in_place}
 use Rattle.shm_graph.specs.Spots.{spot_at, spot_of, classes_in}
-use Rattle.shm_graph.proofs.Spots.Spotting.{spot_past}
+use Rattle.shm_graph.proofs.Spots.{Spotting.spot_past, WordsAt.{place_inside, place_outside}}
 use Rattle.shm_audit.specs.Images.{numbers}
-use Rattle.shm_graph.proofs.Spots.WordsAt.{place_inside, place_outside}
 use Rattle.shm_audit.proofs.words.spot.Goals as goal
 
 pub spot_of-requires-clause-within : goal.spot_of-requires-clause-within

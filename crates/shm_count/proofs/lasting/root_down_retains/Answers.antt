@@ -1,15 +1,8 @@
 use Rattle.std.proofs.Common.{◌≡◌, ℕ, ◌<◌, ◌^◌, subst, arith, Bool}
 use Rattle.std.specs.Prelude.{Ok}
-use Rattle.shm_graph.specs.declared.memo.Memo.{Memo}
-use Rattle.shm_graph.specs.declared.spot.Spot.TheVariants.{Era, Root}
-use Rattle.shm_graph.specs.Asks.{Trail}
-use Rattle.shm_graph.specs.Views.{own_word}
-use Rattle.shm_count.specs.declared.point.Aim.{Aim}
-use Rattle.shm_count.specs.declared.point.Aim.TheVariants.{Down}
-use Rattle.shm_count.specs.declared.point.StepState.{StepState}
-use Rattle.shm_count.specs.Retaining.{slot_known}
-use Rattle.shm_count.specs.Roots.{RootLowered}
-use Rattle.shm_count.specs.Step.{Done, StepGives}
+use Rattle.shm_graph.specs.{declared.{memo.Memo.Memo, spot.Spot.TheVariants.{Era, Root}}, Asks.Trail, Views.own_word}
+use Rattle.shm_count.specs.{declared.point.{Aim.{Aim, TheVariants.Down}, StepState.StepState}, Retaining.slot_known}
+use Rattle.shm_count.specs.{Roots.RootLowered, Step.{Done, StepGives}}
 use Rattle.shm_count.proofs.RootLeaves.{root_leaves}
 use Rattle.shm_count.proofs.lasting.root_down_retains.Goals as goal
 

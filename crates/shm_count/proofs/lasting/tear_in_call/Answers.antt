@@ -1,6 +1,5 @@
 use Rattle.shm_calls.specs.Grown.{grown_laws}
-use Rattle.shm_count.specs.MadeSteps.{tear_making, tear_making_laws}
-use Rattle.shm_count.specs.Tear.Control.{tear_control}
+use Rattle.shm_count.specs.{MadeSteps.{tear_making, tear_making_laws}, Tear.Control.tear_control}
 use Rattle.shm_count.proofs.lasting.tear_in_call.Goals as goal
 
 pub returns : goal.returns

@@ -1,16 +1,8 @@
 use Rattle.std.proofs.Common.{◌≡◌, ℕ, refl, ap, List, Result}
-use Rattle.std.specs.Prelude.{Ok, Err, IfOk, slice_index}
-use Rattle.std.specs.List.{filter}
-use Rattle.shm_graph.specs.declared.ask.Me.{Me}
-use Rattle.shm_graph.specs.declared.memo.Memo.{Memo}
-use Rattle.shm_graph.specs.declared.spot.Spot.TheVariants.{Root}
-use Rattle.shm_graph.specs.Asks.{Trail}
-use Rattle.shm_graph.specs.Events.{Event}
-use Rattle.shm_graph.specs.Held.{is_loose}
-use Rattle.shm_graph.specs.MemoAfterStore.{not_block}
-use Rattle.shm_count.specs.declared.answer.EraSpent.{EraSpent}
-use Rattle.shm_count.specs.Idles.{stays_idle}
-use Rattle.shm_count.specs.Operating.{TearDownLeaves, tearing}
+use Rattle.std.specs.{Prelude.{Ok, Err, IfOk, slice_index}, List.filter}
+use Rattle.shm_graph.specs.{declared.{ask.Me.Me, memo.Memo.Memo, spot.Spot.TheVariants.Root}, Asks.Trail, Events.Event}
+use Rattle.shm_graph.specs.{Held.is_loose, MemoAfterStore.not_block}
+use Rattle.shm_count.specs.{declared.answer.EraSpent.EraSpent, Idles.stays_idle, Operating.{TearDownLeaves, tearing}}
 use Rattle.shm_count.specs.Tear.Memos.{TearStays}
 use Rattle.shm_count.proofs.RootSpots.{roots_reached}
 use Rattle.shm_count.proofs.lasting.tear_keeps.Goals as goal

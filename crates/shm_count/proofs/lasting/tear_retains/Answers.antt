@@ -1,12 +1,7 @@
 use Rattle.std.specs.Prelude.{Result, Ok, Err}
-use Rattle.shm_graph.specs.declared.memo.Memo.{Memo}
-use Rattle.shm_graph.specs.Asks.{Trail}
-use Rattle.shm_count.specs.declared.answer.EraSpent.{EraSpent}
-use Rattle.shm_count.specs.declared.tear_point.TearState.{TearState}
-use Rattle.shm_count.specs.Retaining.{named_stays, slot_known}
-use Rattle.shm_count.specs.Tear.{TearGives}
-use Rattle.shm_count.specs.Tear.Laws.{tear_retains}
-use Rattle.shm_count.specs.Tear.Memos.{TearStays}
+use Rattle.shm_graph.specs.{declared.memo.Memo.Memo, Asks.Trail}
+use Rattle.shm_count.specs.declared.{answer.EraSpent.EraSpent, tear_point.TearState.TearState}
+use Rattle.shm_count.specs.{Retaining.{named_stays, slot_known}, Tear.{TearGives, Laws.tear_retains, Memos.TearStays}}
 use Rattle.shm_count.proofs.lasting.tear_retains.Goals as goal
 
 stays : (m : TearState) (r0 r : Memo) (tr : Trail) (a : Result (Unit {0}) EraSpent) → TearGives m r0 r tr a → TearStays m.me.who r0 r

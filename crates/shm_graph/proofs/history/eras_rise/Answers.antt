@@ -1,5 +1,4 @@
-use Rattle.shm_graph.proofs.Runs.EraRises.{memo_bounds, own_bounds, run_rises}
-use Rattle.shm_graph.proofs.States.FirstHeld.{first_held}
+use Rattle.shm_graph.proofs.{Runs.EraRises.{memo_bounds, own_bounds, run_rises}, States.FirstHeld.first_held}
 use Rattle.shm_graph.proofs.history.eras_rise.Goals as goal
 
 pub returns-clause-rows : goal.returns-clause-rows

@@ -1,6 +1,5 @@
 use Rattle.shm_graph.specs.Runs.{first_state}
-use Rattle.shm_graph.proofs.States.FirstHeld.{first_held}
-use Rattle.shm_graph.proofs.States.HeldSound.{held_state_sound}
+use Rattle.shm_graph.proofs.States.{FirstHeld.first_held, HeldSound.held_state_sound}
 use Rattle.shm_graph.proofs.Runs.Running.{Leads-held, Leads-split}
 use Rattle.shm_graph.proofs.history.runs_are_sound.Goals as goal
 use Rattle.std.proofs.Common.{◌∷◌}

@@ -1,5 +1,4 @@
-use Rattle.shm_graph.proofs.StepKinds.Keeping.{live_kept}
-use Rattle.shm_graph.proofs.StepKinds.LoadKeeping.{load_kept, lost_kept}
+use Rattle.shm_graph.proofs.StepKinds.{Keeping.live_kept, LoadKeeping.{load_kept, lost_kept}}
 use Rattle.shm_graph.proofs.StepKinds.StatusKeeping.{dead_kept, gone_kept}
 use Rattle.shm_graph.proofs.laws.steps_keep.Goals as goal
 

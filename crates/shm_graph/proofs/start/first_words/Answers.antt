@@ -1,6 +1,5 @@
 use Rattle.std.proofs.Common.{◌≡◌, ℕ, ◌<◌, List, length, sym, ap, ◌∙◌, subst, arith, replicate, set}
-use Rattle.shm_words.specs.declared.geometry.Geometry.{Geometry}
-use Rattle.shm_words.specs.declared.place.Place.TheVariants.{Era}
+use Rattle.shm_words.specs.declared.{geometry.Geometry.Geometry, place.Place.TheVariants.Era}
 use Rattle.shm_words.specs.Layout.{address, total_of}
 use Rattle.shm_words.proofs.Placing.{address_below}
 use Rattle.shm_graph.proofs.Spots.FirstStoring.{words_below, none_below, one_more, own_in, all_below, length-words_below}

@@ -1,5 +1,4 @@
-use Rattle.std.proofs.Common.{arith, ◌∙◌}
-use Rattle.std.proofs.lemmas.List.{length-take}
+use Rattle.std.proofs.{Common.{arith, ◌∙◌}, lemmas.List.length-take}
 use Rattle.shm_io.proofs.ReadSteps.{ReadsOn-more, TakesFront-end}
 use Rattle.shm_io.proofs.reading.read_to_limit.Goals as goal
 

@@ -1,5 +1,4 @@
-use Rattle.std.proofs.Common.{arith, ◌∙◌}
-use Rattle.std.proofs.lemmas.List.{take_rest, length-take, length-drop}
+use Rattle.std.proofs.{Common.{arith, ◌∙◌}, lemmas.List.{take_rest, length-take, length-drop}}
 use Rattle.shm_io.proofs.WriteSteps.{Appends-front}
 use Rattle.shm_io.proofs.writing.write_all.Goals as goal
 

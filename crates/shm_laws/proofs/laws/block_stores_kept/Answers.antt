@@ -1,5 +1,4 @@
-use Rattle.shm_laws.proofs.PrepareStore.{prepare_kept, prepare_quiet}
-use Rattle.shm_laws.proofs.LinkStore.{link_kept, link_quiet}
+use Rattle.shm_laws.proofs.{PrepareStore.{prepare_kept, prepare_quiet}, LinkStore.{link_kept, link_quiet}}
 use Rattle.shm_laws.proofs.laws.block_stores_kept.Goals as goal
 
 pub returns-clause-prepare : goal.returns-clause-prepare

@@ -1,6 +1,4 @@
-use Rattle.shm_laws.proofs.ChangeFirst.{change_event}
-use Rattle.shm_laws.proofs.SecondHalf.{second_event}
-use Rattle.shm_laws.proofs.FreeBlock.{free_event}
+use Rattle.shm_laws.proofs.{ChangeFirst.change_event, SecondHalf.second_event, FreeBlock.free_event}
 use Rattle.shm_laws.proofs.laws.changes_are_events.Goals as goal
 
 pub returns-clause-first : goal.returns-clause-first

@@ -1,6 +1,4 @@
-use Rattle.shm_laws.proofs.AllocBlock.{alloc_event}
-use Rattle.shm_laws.proofs.UpBlock.{up_event}
-use Rattle.shm_laws.proofs.LowerBlock.{lower_event}
+use Rattle.shm_laws.proofs.{AllocBlock.alloc_event, UpBlock.up_event, LowerBlock.lower_event}
 use Rattle.shm_laws.proofs.laws.exchanges_are_events.Goals as goal
 
 pub returns-clause-alloc : goal.returns-clause-alloc

@@ -1,9 +1,5 @@
-use Rattle.shm_laws.proofs.Latches.{latch_kept}
-use Rattle.shm_laws.proofs.AllocBlock.{alloc_kept}
-use Rattle.shm_laws.proofs.UpBlock.{up_kept}
-use Rattle.shm_laws.proofs.LowerBlock.{lower_kept}
-use Rattle.shm_laws.proofs.ChangeFirst.{change_kept}
-use Rattle.shm_laws.proofs.SecondHalf.{second_kept}
+use Rattle.shm_laws.proofs.{Latches.latch_kept, AllocBlock.alloc_kept, UpBlock.up_kept, LowerBlock.lower_kept}
+use Rattle.shm_laws.proofs.{ChangeFirst.change_kept, SecondHalf.second_kept}
 use Rattle.shm_laws.proofs.laws.exchanges_kept.Goals as goal
 
 pub returns-clause-latch : goal.returns-clause-latch

@@ -1,5 +1,4 @@
-use Rattle.shm_laws.proofs.HoldStore.{hold_kept, hold_quiet}
-use Rattle.shm_laws.proofs.SegmentClaim.{claim_kept, claim_quiet}
+use Rattle.shm_laws.proofs.{HoldStore.{hold_kept, hold_quiet}, SegmentClaim.{claim_kept, claim_quiet}}
 use Rattle.shm_laws.proofs.SegmentBack.{segment_back_kept, segment_back_quiet}
 use Rattle.shm_laws.proofs.laws.holding_kept.Goals as goal
 

@@ -1,7 +1,4 @@
-use Rattle.shm_laws.proofs.Loads.{header_kept, row_kept}
-use Rattle.shm_laws.proofs.LookLoad.{look_kept}
-use Rattle.shm_laws.proofs.LookLoad.{look_quiet}
-use Rattle.shm_laws.proofs.Loads.{header_quiet, row_quiet}
+use Rattle.shm_laws.proofs.{Loads.{header_kept, row_kept, header_quiet, row_quiet}, LookLoad.{look_kept, look_quiet}}
 use Rattle.shm_laws.proofs.laws.loads_kept.Goals as goal
 
 pub returns-clause-header : goal.returns-clause-header

@@ -1,8 +1,5 @@
-use Rattle.shm_laws.proofs.RedoAndRows.{begin_kept, row_stored}
-use Rattle.shm_laws.proofs.CloseOp.{close_kept}
-use Rattle.shm_laws.proofs.QueueTails.{tail_kept}
-use Rattle.shm_laws.proofs.QueueHeads.{head_kept}
-use Rattle.shm_laws.proofs.MoreStore.{more_kept}
+use Rattle.shm_laws.proofs.{RedoAndRows.{begin_kept, row_stored}, CloseOp.close_kept, QueueTails.tail_kept}
+use Rattle.shm_laws.proofs.{QueueHeads.head_kept, MoreStore.more_kept}
 use Rattle.shm_laws.proofs.laws.own_stores_kept.Goals as goal
 
 pub returns-clause-redo : goal.returns-clause-redo

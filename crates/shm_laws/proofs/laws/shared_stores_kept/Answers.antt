@@ -1,7 +1,4 @@
-use Rattle.shm_laws.proofs.RootStore.{root_kept}
-use Rattle.shm_laws.proofs.BodyStore.{body_kept}
-use Rattle.shm_laws.proofs.PageClass.{class_kept}
-use Rattle.shm_laws.proofs.Latches.{back_kept}
+use Rattle.shm_laws.proofs.{RootStore.root_kept, BodyStore.body_kept, PageClass.class_kept, Latches.back_kept}
 use Rattle.shm_laws.proofs.FreeBlock.{free_kept}
 use Rattle.shm_laws.proofs.laws.shared_stores_kept.Goals as goal
 

@@ -1,5 +1,4 @@
-use Rattle.shm_laws.proofs.HomeStore.{home_kept, home_quiet}
-use Rattle.shm_laws.proofs.QueueStore.{queue_kept, queue_quiet}
+use Rattle.shm_laws.proofs.{HomeStore.{home_kept, home_quiet}, QueueStore.{queue_kept, queue_quiet}}
 use Rattle.shm_laws.proofs.laws.slot_stores_kept.Goals as goal
 
 pub returns-clause-home : goal.returns-clause-home

@@ -1,8 +1,7 @@
 use Rattle.std.proofs.Common.{◌≡◌, ◌+◌, sym, ap, subst, ◌∙◌, arith}
 use Rattle.shm_audit.specs.Images.{numbers}
 use Rattle.shm_audit.proofs.Blocks.{block_end}
-use Rattle.shm_migrate.specs.Widened.{widened_body, widened_tag}
-use Rattle.shm_migrate.specs.Writing.{WritesOn}
+use Rattle.shm_migrate.specs.{Widened.{widened_body, widened_tag}, Writing.WritesOn}
 use Rattle.shm_migrate.proofs.WordReading.{body_live}
 use Rattle.shm_migrate.proofs.Writing.{body_here, body_written, class_above, head_written, tag_here, tag_written, writes_more}
 use Rattle.shm_migrate.proofs.image.push_block.Goals as goal

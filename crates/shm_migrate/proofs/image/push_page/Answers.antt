@@ -1,6 +1,5 @@
 use Rattle.std.proofs.Common.{◌≡◌, ◌+◌, ◌*◌, get_or, sym, ap, subst, ◌∙◌, arith}
-use Rattle.shm_words.specs.Layout.{bodies, pages, address}
-use Rattle.shm_words.specs.Classes.{IsClass}
+use Rattle.shm_words.specs.{Layout.{bodies, pages, address}, Classes.IsClass}
 use Rattle.shm_words.proofs.Placing.{total_small}
 use Rattle.shm_graph.specs.Spots.{class_at, classes_in}
 use Rattle.shm_audit.specs.Images.{numbers}

@@ -1,8 +1,7 @@
 use Rattle.std.proofs.Common.{◌≡◌, ℕ, ◌+◌, ◌<◌, List}
 use Rattle.shm_words.specs.declared.geometry.Geometry.{Geometry as AGeometry}
 use Rattle.shm_graph.specs.Spots.{see}
-use Rattle.shm_migrate.specs.Widened.{widened_word}
-use Rattle.shm_migrate.specs.Writing.{WritesOn}
+use Rattle.shm_migrate.specs.{Widened.widened_word, Writing.WritesOn}
 use Rattle.shm_migrate.proofs.image.push_unused.Given as goal
 
 abbrev pub invariant-loop : goal.invariant-loop

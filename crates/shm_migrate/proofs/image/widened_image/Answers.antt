@@ -1,13 +1,10 @@
 use Rattle.std.proofs.Common.{◌≡◌, ℕ, codes, ◌++◌, List, map, ap, subst, ◌∙◌, arith}
-use Rattle.std.specs.List.{flat_map, range_with_len}
-use Rattle.std.specs.Int.{w64, to_le_bytes}
+use Rattle.std.specs.{List.{flat_map, range_with_len}, Int.{w64, to_le_bytes}}
 use Rattle.shm_words.specs.Layout.{total_of}
 use Rattle.shm_graph.specs.Spots.{see}
 use Rattle.shm_audit.specs.Images.{numbers}
-use Rattle.shm_migrate.specs.Widened.{wide_of, widened_word, widened}
-use Rattle.shm_migrate.specs.Writing.{IsWritten}
-use Rattle.shm_migrate.proofs.Widening.{widened_small}
-use Rattle.shm_migrate.proofs.Writing.{whole}
+use Rattle.shm_migrate.specs.{Widened.{wide_of, widened_word, widened}, Writing.IsWritten}
+use Rattle.shm_migrate.proofs.{Widening.widened_small, Writing.whole}
 use Rattle.shm_migrate.proofs.image.widened_image.Goals as goal
 
 pub loop-page-init : goal.loop-page-init

@@ -1,10 +1,7 @@
-use Rattle.std.proofs.Common.{◌≡◌, ℕ, ◌^◌, ◌<◌, get_or, rules, sym, ◌∙◌, arith}
-use Rattle.std.proofs.lemmas.Grind.{common_steps}
+use Rattle.std.proofs.{Common.{◌≡◌, ℕ, ◌^◌, ◌<◌, get_or, rules, sym, ◌∙◌, arith}, lemmas.Grind.common_steps}
 use Rattle.shm_words.specs.Layout.{GeometryFits}
-use Rattle.shm_audit.specs.Images.{image_of, geometry_in, words_in, numbers}
-use Rattle.shm_audit.specs.Verdicts.{IsCleanVerdict}
-use Rattle.shm_migrate.specs.Migrations.{verdict_in}
-use Rattle.shm_migrate.specs.Widened.{wide_of, widened}
+use Rattle.shm_audit.specs.{Images.{image_of, geometry_in, words_in, numbers}, Verdicts.IsCleanVerdict}
+use Rattle.shm_migrate.specs.{Migrations.verdict_in, Widened.{wide_of, widened}}
 use Rattle.shm_migrate.proofs.Migrated.{image_clean, migrated_faultless, migrated_verdict}
 use Rattle.shm_migrate.proofs.migrating.migrate.Goals as goal
 

@@ -1,9 +1,7 @@
 use Rattle.std.proofs.Common.{◌+◌, sym, ap, ◌∙◌, arith}
-use Rattle.shm_words.specs.Headers.{header_of}
-use Rattle.shm_words.specs.Tags.{tag_of}
+use Rattle.shm_words.specs.{Headers.header_of, Tags.tag_of}
 use Rattle.shm_words.proofs.Placing.{total_small}
-use Rattle.shm_graph.specs.declared.spot.Spot.TheVariants.{Tag}
-use Rattle.shm_graph.specs.Spots.{classes_in}
+use Rattle.shm_graph.specs.{declared.spot.Spot.TheVariants.Tag, Spots.classes_in}
 use Rattle.shm_graph.proofs.Spots.Spotting.{is_below}
 use Rattle.shm_audit.specs.Images.{numbers}
 use Rattle.shm_migrate.proofs.WordReading.{tag_of_live, tag_of_dead, read_fits}

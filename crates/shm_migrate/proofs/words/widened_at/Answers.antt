@@ -1,7 +1,6 @@
 use Rattle.std.proofs.Common.{◌≡◌, true, false, arith, sym, ap, ◌∙◌, inl, inr}
 use Rattle.shm_graph.specs.Spots.{see, classes_in, is_in_body}
-use Rattle.shm_graph.proofs.Spots.Spotting.{spot_before_bodies}
-use Rattle.shm_graph.proofs.Spots.Seeing.{see_at}
+use Rattle.shm_graph.proofs.Spots.{Spotting.spot_before_bodies, Seeing.see_at}
 use Rattle.shm_audit.specs.Images.{numbers}
 use Rattle.shm_migrate.specs.Widened.{moved, widened_at}
 use Rattle.shm_migrate.proofs.WordReading.{is_name, name_moves, name_live, word_stays}

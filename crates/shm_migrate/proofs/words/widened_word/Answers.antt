@@ -3,9 +3,7 @@ use Rattle.shm_words.specs.Layout.{more, more_of, total_of}
 use Rattle.shm_graph.specs.Spots.{see}
 use Rattle.shm_audit.specs.Images.{numbers}
 use Rattle.shm_migrate.specs.Widened.{widened_word}
-use Rattle.shm_migrate.proofs.Places.{front}
-use Rattle.shm_migrate.proofs.Formats.{further_word}
-use Rattle.shm_migrate.proofs.WordReading.{spare_word, status_word, redo_word}
+use Rattle.shm_migrate.proofs.{Places.front, Formats.further_word, WordReading.{spare_word, status_word, redo_word}}
 use Rattle.shm_migrate.proofs.words.widened_word.Goals as goal
 
 pub returns-then-at-eq0 : goal.returns-then-at-eq0

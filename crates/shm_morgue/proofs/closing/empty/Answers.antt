@@ -1,8 +1,6 @@
 use Rattle.std.proofs.Common.{◌≡◌, ℕ, ◌+◌, ◌<◌, ◌≤◌, List, [], ◌∷◌, ◌++◌, length, vec_capacity, sym, ap, ◌∙◌, subst, arith, length-append}
 use Rattle.crossbeam_queue.specs.Passes.{view}
-use Rattle.shm_morgue.specs.declared.rule.Hands.{Hands}
-use Rattle.shm_morgue.specs.declared.rule.Taken.{Taken}
-use Rattle.shm_morgue.specs.Entries.{Which}
+use Rattle.shm_morgue.specs.{declared.rule.{Hands.Hands, Taken.Taken}, Entries.Which}
 use Rattle.shm_morgue.proofs.Emptying.{Emptying, IsAll, empties, empties_more, empties_on, emptied, is_all, takes_any}
 use Rattle.shm_morgue.proofs.Moves.{knows}
 use Rattle.shm_morgue.proofs.closing.empty.Goals as goal

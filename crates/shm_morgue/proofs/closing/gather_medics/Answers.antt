@@ -1,12 +1,8 @@
 use Rattle.std.proofs.Common.{◌≡◌, List, [], ◌∷◌, ◌++◌, sym, ap, ◌∙◌, subst}
 use Rattle.std.specs.List.{AllByRecursion}
 use Rattle.crossbeam_queue.specs.Passes.{view}
-use Rattle.shm_morgue.specs.declared.rule.Hands.{Hands}
-use Rattle.shm_morgue.specs.Closing.{lists_of}
-use Rattle.shm_morgue.specs.Entries.{Takes, Which}
-use Rattle.shm_morgue.specs.Hands.{hands}
-use Rattle.shm_morgue.proofs.Gathering.{First, by_front, by_last, first_in, medic_in}
-use Rattle.shm_morgue.proofs.Moves.{gathers}
+use Rattle.shm_morgue.specs.{declared.rule.Hands.Hands, Closing.lists_of, Entries.{Takes, Which}, Hands.hands}
+use Rattle.shm_morgue.proofs.{Gathering.{First, by_front, by_last, first_in, medic_in}, Moves.gathers}
 use Rattle.shm_morgue.proofs.closing.gather_medics.Goals as goal
 
 pub loop-medic-init : goal.loop-medic-init

@@ -1,9 +1,7 @@
 use Rattle.std.proofs.Common.{◌≡◌, ◌++◌, [], vec_len}
 use Rattle.std.specs.List.{AllByRecursion}
 use Rattle.crossbeam_queue.specs.Passes.{view}
-use Rattle.shm_morgue.specs.Closing.{IsPlaceOf, lists_of}
-use Rattle.shm_morgue.specs.Entries.{Takes}
-use Rattle.shm_morgue.specs.Hands.{hands}
+use Rattle.shm_morgue.specs.{Closing.{IsPlaceOf, lists_of}, Entries.Takes, Hands.hands}
 use Rattle.shm_morgue.proofs.closing.gather_medics.Given as goal
 
 abbrev pub invariant-loop-medic : goal.invariant-loop-medic

@@ -1,12 +1,8 @@
 use Rattle.std.proofs.Common.{◌≡◌, List, [], ◌∷◌, ◌++◌, length, sym, ap, ◌∙◌, subst}
 use Rattle.std.specs.List.{AllByRecursion}
 use Rattle.crossbeam_queue.specs.Passes.{view}
-use Rattle.shm_morgue.specs.declared.rule.Hands.{Hands}
-use Rattle.shm_morgue.specs.Closing.{desks_of}
-use Rattle.shm_morgue.specs.Entries.{Puts, Which}
-use Rattle.shm_morgue.specs.Hands.{desk, hands}
-use Rattle.shm_morgue.proofs.Gathering.{all_in, by_front, by_last, none_in, porter_in}
-use Rattle.shm_morgue.proofs.Moves.{gathers}
+use Rattle.shm_morgue.specs.{declared.rule.Hands.Hands, Closing.desks_of, Entries.{Puts, Which}, Hands.{desk, hands}}
+use Rattle.shm_morgue.proofs.{Gathering.{all_in, by_front, by_last, none_in, porter_in}, Moves.gathers}
 use Rattle.shm_morgue.proofs.closing.gather_porters.Goals as goal
 
 pub absorb-requires-clause-queue : goal.absorb-requires-clause-queue

@@ -1,9 +1,7 @@
 use Rattle.std.proofs.Common.{◌≡◌, ◌++◌, vec_len}
 use Rattle.std.specs.List.{AllByRecursion}
 use Rattle.crossbeam_queue.specs.Passes.{view}
-use Rattle.shm_morgue.specs.Closing.{IsPlaceOf, desks_of}
-use Rattle.shm_morgue.specs.Entries.{Puts}
-use Rattle.shm_morgue.specs.Hands.{hands}
+use Rattle.shm_morgue.specs.{Closing.{IsPlaceOf, desks_of}, Entries.Puts, Hands.hands}
 use Rattle.shm_morgue.proofs.closing.gather_porters.Given as goal
 
 abbrev pub invariant-loop-porter : goal.invariant-loop-porter

@@ -1,9 +1,7 @@
 use Rattle.std.proofs.Common.{◌≡◌, ℕ, ◌+◌, ◌-◌, List, [], ◌∷◌, ◌++◌, drop, take, sym, ap, ◌∙◌}
 use Rattle.crossbeam_queue.specs.Passes.{view}
-use Rattle.shm_morgue.specs.declared.rule.Taken.{Taken}
-use Rattle.shm_morgue.specs.Hands.{blank_lists, first_list, hands, takes_of, which}
-use Rattle.shm_morgue.proofs.Cutting.{lists_cut, more_medics, new_medic}
-use Rattle.shm_morgue.proofs.Moves.{cuts_medic_one}
+use Rattle.shm_morgue.specs.{declared.rule.Taken.Taken, Hands.{blank_lists, first_list, hands, takes_of, which}}
+use Rattle.shm_morgue.proofs.{Cutting.{lists_cut, more_medics, new_medic}, Moves.cuts_medic_one}
 use Rattle.shm_morgue.proofs.making.cut_medics.Goals as goal
 
 pub another-place-requires-clause-queue : goal.another-place-requires-clause-queue

@@ -1,7 +1,6 @@
 use Rattle.std.proofs.Common.{◌≡◌, ◌-◌, []}
 use Rattle.crossbeam_queue.specs.Passes.{IsPassOf, view}
-use Rattle.shm_morgue.specs.Entries.{first_medics}
-use Rattle.shm_morgue.specs.Hands.{blank_lists, hands, which}
+use Rattle.shm_morgue.specs.{Entries.first_medics, Hands.{blank_lists, hands, which}}
 use Rattle.shm_morgue.proofs.making.cut_medics.Given as goal
 
 abbrev pub invariant-loop-medic : goal.invariant-loop-medic

@@ -2,8 +2,7 @@ use Rattle.std.proofs.Common.{◌≡◌, ℕ, ◌+◌, ◌-◌, List, [], ◌∷
 use Rattle.crossbeam_queue.specs.Passes.{view}
 use Rattle.shm_morgue.specs.declared.rule.Desk.{Desk}
 use Rattle.shm_morgue.specs.Hands.{blank_desks, blank_lists, desk, first_entries, hands, puts_of, which}
-use Rattle.shm_morgue.proofs.Cutting.{blank_cut, blank_end, more_porters, new_porter}
-use Rattle.shm_morgue.proofs.Moves.{cuts_porter_one}
+use Rattle.shm_morgue.proofs.{Cutting.{blank_cut, blank_end, more_porters, new_porter}, Moves.cuts_porter_one}
 use Rattle.shm_morgue.proofs.making.cut_porters.Goals as goal
 
 pub another-place-requires-clause-queue : goal.another-place-requires-clause-queue

@@ -1,7 +1,6 @@
 use Rattle.std.proofs.Common.{◌≡◌, ◌-◌}
 use Rattle.crossbeam_queue.specs.Passes.{IsPassOf, view}
-use Rattle.shm_morgue.specs.Entries.{first_porters}
-use Rattle.shm_morgue.specs.Hands.{blank_desks, blank_lists, hands, which}
+use Rattle.shm_morgue.specs.{Entries.first_porters, Hands.{blank_desks, blank_lists, hands, which}}
 use Rattle.shm_morgue.proofs.making.cut_porters.Given as goal
 
 abbrev pub invariant-loop-client : goal.invariant-loop-client

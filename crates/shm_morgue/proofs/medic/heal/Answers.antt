@@ -1,10 +1,8 @@
 use Rattle.std.proofs.Common.{List, length, sym, ap, ◌∙◌, subst}
 use Rattle.std.specs.List.{Contains}
 use Rattle.shm_pool.specs.Tokens.{Its}
-use Rattle.shm_morgue.specs.declared.rule.Taken.{Taken}
-use Rattle.shm_morgue.specs.Slots.{AreRescued}
-use Rattle.shm_morgue.proofs.Loops.{take_front}
-use Rattle.shm_morgue.proofs.Slotting.{single}
+use Rattle.shm_morgue.specs.{declared.rule.Taken.Taken, Slots.AreRescued}
+use Rattle.shm_morgue.proofs.{Loops.take_front, Slotting.single}
 use Rattle.shm_morgue.proofs.medic.heal.Goals as goal
 
 pub rescue_into-requires-clause-of : goal.rescue_into-requires-clause-of

@@ -1,14 +1,10 @@
 use Rattle.std.proofs.Common.{◌≡◌, ◌+◌, false, sym, ap, ◌∙◌, subst, arith}
 use Rattle.std.specs.Prelude.{Ok}
-use Rattle.shm_graph.specs.declared.ask.Turn.{Turn}
-use Rattle.shm_graph.specs.declared.ask.Turn.TheVariants.{More, Done}
-use Rattle.shm_graph.specs.declared.run.Account.{Account}
+use Rattle.shm_graph.specs.declared.{ask.Turn.{Turn, TheVariants.{More, Done}}, run.Account.Account}
 use Rattle.shm_graph.specs.Laws.{is_died, is_done}
 use Rattle.shm_recover.specs.Machines.Recovering.{recover}
-use Rattle.shm_pool.specs.Endings.{Answer}
-use Rattle.shm_pool.specs.Tokens.{me_of}
-use Rattle.shm_team.specs.declared.left.Left.{Left}
-use Rattle.shm_team.specs.Lefts.{token_in}
+use Rattle.shm_pool.specs.{Endings.Answer, Tokens.me_of}
+use Rattle.shm_team.specs.{declared.left.Left.Left, Lefts.token_in}
 use Rattle.shm_morgue.specs.Dead.{IsNext, left_by}
 use Rattle.shm_morgue.proofs.Mending.{works_first}
 use Rattle.shm_morgue.proofs.Recovered.{left_of, next_dead, next_gone, not_true, some_left, works_on}

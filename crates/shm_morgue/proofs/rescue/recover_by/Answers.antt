@@ -1,9 +1,7 @@
-use Rattle.std.proofs.Common.{◌≡◌, ◌<◌, ◌≤◌, ℕ, List, length, sym, ap, ◌∙◌, arith}
+use Rattle.std.proofs.{Common.{◌≡◌, ◌<◌, ◌≤◌, ℕ, List, length, sym, ap, ◌∙◌, arith}, lemmas.List.take_all}
 use Rattle.std.specs.Prelude.{Some, slice_get, slice_index}
-use Rattle.std.proofs.lemmas.List.{take_all}
 use Rattle.shm_agents.specs.Turns.{lives_of}
-use Rattle.shm_morgue.proofs.Lives.{index_get}
-use Rattle.shm_morgue.proofs.Recovered.{dead_finish}
+use Rattle.shm_morgue.proofs.{Lives.index_get, Recovered.dead_finish}
 use Rattle.shm_morgue.proofs.rescue.recover_by.Goals as goal
 
 -- a number of the life line that was read

@@ -1,6 +1,5 @@
 use Rattle.std.proofs.Common.{◌≡◌}
-use Rattle.shm_script.specs.Logged.{Logged}
-use Rattle.shm_script.specs.Values.{Scripted}
+use Rattle.shm_script.specs.{Logged.Logged, Values.Scripted}
 use Rattle.shm_morgue.specs.Dead.{AreDead}
 use Rattle.shm_morgue.proofs.rescue.recover_by.Given as goal
 

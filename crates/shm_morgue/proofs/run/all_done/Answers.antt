@@ -1,13 +1,10 @@
 use Rattle.std.proofs.Common.{◌≡◌, ◌+◌, ◌<◌, ℕ, suc, List, ◌∷◌, ◌++◌, length, sym, ap, ◌∙◌, subst, arith}
-use Rattle.std.specs.Prelude.{None, slice_index_or, slice_set}
-use Rattle.std.specs.Vec.Iter.{into_iter_items}
 use Rattle.std.proofs.lemmas.List.{get_or_default, length-set}
+use Rattle.std.specs.{Prelude.{None, slice_index_or, slice_set}, Vec.Iter.into_iter_items}
 use Rattle.shm_team.specs.Dones.{AreDones, IsDone}
 use Rattle.shm_team.proofs.Gathering.{all_yielded}
-use Rattle.shm_morgue.specs.declared.worker.Outcome.{Outcome}
-use Rattle.shm_morgue.specs.Slots.{AreEnough, IsEnough}
-use Rattle.shm_morgue.proofs.Loops.{one_more, pushed, seam_inside, seam_next}
-use Rattle.shm_morgue.proofs.Slotting.{dones_more, enough_past}
+use Rattle.shm_morgue.specs.{declared.worker.Outcome.Outcome, Slots.{AreEnough, IsEnough}}
+use Rattle.shm_morgue.proofs.{Loops.{one_more, pushed, seam_inside, seam_next}, Slotting.{dones_more, enough_past}}
 use Rattle.shm_morgue.proofs.run.all_done.Goals as goal
 
 pub loop-outcome-init : goal.loop-outcome-init

@@ -1,15 +1,10 @@
 use Rattle.std.proofs.Common.{◌≡◌, List, [], ◌∷◌, ◌++◌, length, sym, ap, ◌∙◌, subst, arith}
-use Rattle.std.specs.List.{All, AllByRecursion}
-use Rattle.std.specs.Vec.Iter.{into_iter_items}
 use Rattle.std.proofs.lemmas.List.Elements.{All-nil, All-push}
+use Rattle.std.specs.{List.{All, AllByRecursion}, Vec.Iter.into_iter_items}
 use Rattle.shm_team.proofs.Gathering.{all_yielded}
 use Rattle.shm_script.specs.Values.{Traced}
-use Rattle.shm_morgue.specs.Crew.{IsRound}
-use Rattle.shm_morgue.specs.declared.rule.Taken.{Taken}
-use Rattle.shm_morgue.specs.Entries.{Takes}
-use Rattle.shm_morgue.specs.Slots.{AreRescued}
-use Rattle.shm_morgue.proofs.Loops.{one_more, pushed, seam_next}
-use Rattle.shm_morgue.proofs.Slotting.{none_rescued}
+use Rattle.shm_morgue.specs.{Crew.IsRound, declared.rule.Taken.Taken, Entries.Takes, Slots.AreRescued}
+use Rattle.shm_morgue.proofs.{Loops.{one_more, pushed, seam_next}, Slotting.none_rescued}
 use Rattle.shm_morgue.proofs.run.all_rounds.Goals as goal
 
 pub loop-medic-init : goal.loop-medic-init

@@ -1,8 +1,6 @@
 use Rattle.std.proofs.Common.{◌≡◌, ◌++◌, [], length}
-use Rattle.std.specs.List.{All, AllByRecursion}
-use Rattle.std.specs.Vec.Iter.{into_iter_items, into_iter_len}
-use Rattle.shm_morgue.specs.Crew.{IsRound}
-use Rattle.shm_morgue.specs.Entries.{Takes}
+use Rattle.std.specs.{List.{All, AllByRecursion}, Vec.Iter.{into_iter_items, into_iter_len}}
+use Rattle.shm_morgue.specs.{Crew.IsRound, Entries.Takes}
 use Rattle.shm_morgue.proofs.run.all_rounds.Given as goal
 
 abbrev pub invariant-loop-medic : goal.invariant-loop-medic

@@ -1,9 +1,7 @@
 use Rattle.std.proofs.Common.{◌≡◌, ℕ, suc, List, [], ◌∷◌, ◌++◌, length, sym, ap, ◌∙◌, subst, arith}
 use Rattle.std.specs.Vec.Iter.{into_iter_items}
-use Rattle.shm_team.specs.declared.jobs.Job.{Job}
-use Rattle.shm_team.specs.Jobs.{AreJobs, IsJob}
-use Rattle.shm_morgue.specs.Crew.{IsTask}
-use Rattle.shm_morgue.specs.Entries.{first_porters}
+use Rattle.shm_team.specs.{declared.jobs.Job.Job, Jobs.{AreJobs, IsJob}}
+use Rattle.shm_morgue.specs.{Crew.IsTask, Entries.first_porters}
 use Rattle.shm_morgue.proofs.Loops.{each_more, first_next, one_more, pushed, seam_next}
 use Rattle.shm_morgue.proofs.run.all_tasks.Goals as goal
 
@@ -37,9 +35,9 @@ loop-job-preserved g c =
     let y = c.in-Some-next.porter in
     let rest = into_iter_items c.next.new.self in
     let steps : into_iter_items at.job-iterator ≡ x ∷ rest = c.in-Some.ensures.steps.0 in
-    let whole = subst (λ (zs : List Job). at.yielded ++ zs ≡ c.args.jobs.items) steps i.items in
+    let whole = subst (λ (zs : List (Job _)). at.yielded ++ zs ≡ c.args.jobs.items) steps i.items in
     let jobs : AreJobs t p n (x ∷ rest) = subst (AreJobs t p n) steps i.jobs in
-    let porter = first_next w n (length rest) y (into_iter_items c.next-in-loop-job.new.self) (into_iter_items at.rest) c.in-Some-next.ensures.items (i.porters ∙ ap (λ (zs : List Job). first_porters w n (length zs)) steps) in
+    let porter = first_next w n (length rest) y (into_iter_items c.next-in-loop-job.new.self) (into_iter_items at.rest) c.in-Some-next.ensures.items (i.porters ∙ ap (λ (zs : List (Job _)). first_porters w n (length zs)) steps) in
     let task : IsTask t p w x y = (subst (λ (k : ℕ). IsJob t p k x) (sym jobs.0) jobs.1, porter.0 ∙ ap (λ (k : ℕ). record { of = w; client = k; entries = [] }) (sym jobs.0)) in
     let longer = pushed at.tasks.items c.push.new.self.items (record { job = x; porter = y; shift = c.of.result }) c.in_ok-push.ensures.items in
     let next : suc n ≡ length c.push.new.self.items = omega arith in

@@ -1,9 +1,7 @@
 use Rattle.std.proofs.Common.{◌≡◌, ◌++◌, ℕ, ◌<◌, length}
-use Rattle.std.specs.Prelude.{slice_index_or}
-use Rattle.std.specs.Vec.Iter.{into_iter_items, into_iter_len}
+use Rattle.std.specs.{Prelude.slice_index_or, Vec.Iter.{into_iter_items, into_iter_len}}
 use Rattle.shm_team.specs.Jobs.{AreJobs}
-use Rattle.shm_morgue.specs.Crew.{IsTask}
-use Rattle.shm_morgue.specs.Entries.{first_porters}
+use Rattle.shm_morgue.specs.{Crew.IsTask, Entries.first_porters}
 use Rattle.shm_morgue.proofs.run.all_tasks.Given as goal
 
 abbrev pub invariant-loop-job : goal.invariant-loop-job

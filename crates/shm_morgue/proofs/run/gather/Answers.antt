@@ -1,12 +1,8 @@
 use Rattle.std.proofs.Common.{◌≡◌, ℕ, List, [], ◌∷◌, ◌++◌, length, sym, ap, ◌∙◌, subst, arith}
-use Rattle.std.specs.Prelude.{None, drop, slice_index_or}
-use Rattle.std.specs.List.{AllByRecursion}
-use Rattle.std.specs.Vec.Iter.{into_iter_items}
+use Rattle.std.specs.{Prelude.{None, drop, slice_index_or}, List.AllByRecursion, Vec.Iter.into_iter_items}
 use Rattle.shm_team.proofs.Gathering.{all_yielded}
 use Rattle.shm_script.specs.Values.{Traced}
-use Rattle.shm_morgue.specs.Crew.{IsRound}
-use Rattle.shm_morgue.specs.declared.rule.Taken.{Taken}
-use Rattle.shm_morgue.specs.Entries.{Takes, all_taken}
+use Rattle.shm_morgue.specs.{Crew.IsRound, declared.rule.Taken.Taken, Entries.{Takes, all_taken}}
 use Rattle.shm_morgue.specs.Slots.{AreRescued, either}
 use Rattle.shm_morgue.proofs.Loops.{of_more, one_more, seam_at, seam_inside, seam_next, take_front, taken_more}
 use Rattle.shm_morgue.proofs.Slotting.{none_rescued, rescued_both}

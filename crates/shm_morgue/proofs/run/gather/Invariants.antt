@@ -1,8 +1,6 @@
 use Rattle.std.proofs.Common.{◌≡◌, ◌++◌, length}
-use Rattle.std.specs.List.{AllByRecursion}
-use Rattle.std.specs.Vec.Iter.{into_iter_items, into_iter_len}
-use Rattle.shm_morgue.specs.Entries.{Takes, all_taken}
-use Rattle.shm_morgue.specs.Slots.{AreRescued}
+use Rattle.std.specs.{List.AllByRecursion, Vec.Iter.{into_iter_items, into_iter_len}}
+use Rattle.shm_morgue.specs.{Entries.{Takes, all_taken}, Slots.AreRescued}
 use Rattle.shm_morgue.proofs.run.gather.Given as goal
 
 abbrev pub invariant-loop-round : goal.invariant-loop-round

@@ -1,11 +1,8 @@
 use Rattle.std.proofs.Common.{◌≡◌, ◌+◌, ℕ, List, [], ◌∷◌, ◌++◌, length, sym, ap, ◌∙◌, subst, arith}
 use Rattle.std.specs.Vec.Iter.{into_iter_items}
 use Rattle.shm_team.proofs.Gathering.{all_yielded}
-use Rattle.shm_morgue.specs.declared.worker.Outcome.{Outcome}
-use Rattle.shm_morgue.specs.Crew.{HasWorked, HaveWorked}
-use Rattle.shm_morgue.specs.Entries.{Puts}
-use Rattle.shm_morgue.proofs.Loops.{one_more, seam_at, seam_inside, seam_next}
-use Rattle.shm_morgue.proofs.Slotting.{worked_more}
+use Rattle.shm_morgue.specs.{declared.worker.Outcome.Outcome, Crew.{HasWorked, HaveWorked}, Entries.Puts}
+use Rattle.shm_morgue.proofs.{Loops.{one_more, seam_at, seam_inside, seam_next}, Slotting.worked_more}
 use Rattle.shm_morgue.proofs.run.parts.Goals as goal
 
 pub loop-worked-init : goal.loop-worked-init

@@ -1,8 +1,7 @@
 use Rattle.std.proofs.Common.{◌≡◌, List, [], ◌∷◌, ◌++◌, append-nil, append_assoc, length, sym, ap, ◌∙◌, subst, arith}
 use Rattle.std.specs.Vec.Iter.{into_iter_items}
 use Rattle.shm_team.proofs.Gathering.{all_yielded}
-use Rattle.shm_morgue.specs.declared.rule.Taken.{Taken}
-use Rattle.shm_morgue.specs.Slots.{AreRescued}
+use Rattle.shm_morgue.specs.{declared.rule.Taken.Taken, Slots.AreRescued}
 use Rattle.shm_morgue.proofs.Loops.{seam_at, seam_inside, seam_next}
 use Rattle.shm_morgue.proofs.run.rescue_all.Goals as goal
 

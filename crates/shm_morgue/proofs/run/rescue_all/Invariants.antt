@@ -1,7 +1,6 @@
 use Rattle.std.proofs.Common.{◌≡◌, List, ◌++◌, length}
 use Rattle.std.specs.Vec.Iter.{into_iter_items, into_iter_len}
-use Rattle.shm_morgue.specs.declared.rule.Taken.{Taken}
-use Rattle.shm_morgue.specs.Slots.{AreRescued}
+use Rattle.shm_morgue.specs.{declared.rule.Taken.Taken, Slots.AreRescued}
 use Rattle.shm_morgue.proofs.run.rescue_all.Given as goal
 
 abbrev pub invariant-loop-taken : goal.invariant-loop-taken

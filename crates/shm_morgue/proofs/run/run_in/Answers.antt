@@ -1,15 +1,13 @@
 use Rattle.std.proofs.Common.{◌≡◌, List, [], length, sym, ap, ◌∙◌, subst, arith}
-use Rattle.std.specs.Prelude.{slice_index_or}
-use Rattle.std.specs.List.{AllByRecursion, Contains}
+use Rattle.std.specs.{Prelude.slice_index_or, List.{AllByRecursion, Contains}}
 use Rattle.shm_graph.specs.declared.run.Start.{Start}
 use Rattle.shm_pool.specs.Tokens.{Its}
 use Rattle.shm_script.specs.Values.{Traced}
-use Rattle.shm_morgue.specs.Entries.{Takes, all_taken}
-use Rattle.shm_morgue.specs.Slots.{AreEnough, AreRescued}
-use Rattle.shm_team.proofs.Settled.{ok_then}
+use Rattle.shm_morgue.specs.{Entries.{Takes, all_taken}, Slots.{AreEnough, AreRescued}}
 use Rattle.shm_morgue.proofs.Loops.{medics_first, medics_long, take_front}
 use Rattle.shm_morgue.proofs.Slotting.{enough, single, worked_long, worked_of}
 use Rattle.shm_morgue.proofs.run.run_in.Goals as goal
+use Rattle.shm_team.proofs.Settled.{ok_then}
 
 pub all_rounds-requires-clause-medics : goal.all_rounds-requires-clause-medics
 all_rounds-requires-clause-medics g c =

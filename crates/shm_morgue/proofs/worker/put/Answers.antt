@@ -1,9 +1,7 @@
 use Rattle.std.proofs.Common.{◌∷◌, ◌++◌, [], List, length, ap, sym, ◌∙◌, subst, arith}
 use Rattle.std.specs.List.{Contains}
 use Rattle.shm_pool.specs.Tokens.{Token}
-use Rattle.shm_morgue.specs.declared.rule.Taken.{Taken}
-use Rattle.shm_morgue.specs.Dead.{IsRescue}
-use Rattle.shm_morgue.specs.Entries.{Puts, entry}
+use Rattle.shm_morgue.specs.{declared.rule.Taken.Taken, Dead.IsRescue, Entries.{Puts, entry}}
 use Rattle.shm_morgue.proofs.worker.put.Goals as goal
 
 pub put-requires-clause-few : goal.put-requires-clause-few

@@ -1,21 +1,14 @@
 use Rattle.std.proofs.Common.{◌≡◌, sym, ap, ◌∙◌, subst, rules}
 use Rattle.std.specs.Prelude.{Some}
-use Rattle.shm_graph.specs.declared.ask.Me.{Me}
-use Rattle.shm_graph.specs.declared.run.Account.{Account}
-use Rattle.shm_agents.specs.Agents.{Stands}
-use Rattle.shm_pool.specs.Posts.{IsPosted}
-use Rattle.shm_pool.specs.Tokens.{Its, Token}
+use Rattle.shm_graph.specs.declared.{ask.Me.Me, run.Account.Account}
+use Rattle.shm_agents.specs.{Agents.{Stands, logged}, declared.agents.Standing.TheVariants.AtWork}
+use Rattle.shm_pool.specs.{Posts.IsPosted, Tokens.{Its, Token}}
 use Rattle.shm_replay.proofs.Gathering.{same_some}
-use Rattle.shm_script.specs.Values.{Scripted}
-use Rattle.shm_agents.specs.declared.agents.Standing.TheVariants.{AtWork}
-use Rattle.shm_agents.specs.Agents.{logged}
-use Rattle.shm_script.specs.Logged.{Logged}
+use Rattle.shm_script.specs.{Values.Scripted, Logged.Logged}
 use Rattle.shm_team.specs.Dones.{IsFinished}
 use Rattle.shm_morgue.specs.Dead.{AreDead}
 use Rattle.shm_morgue.proofs.Leaving.{begins_client, left_dead, left_done, posted_now, stands_now}
-use Rattle.shm_morgue.proofs.Parting.{dead_client, died_by}
-use Rattle.shm_morgue.proofs.worker.serve.Given.{Over}
-use Rattle.shm_morgue.proofs.worker.serve.Goals.{Then-eq}
+use Rattle.shm_morgue.proofs.{Parting.{dead_client, died_by}, worker.serve.{Given.Over, Goals.Then-eq}}
 use Rattle.shm_morgue.proofs.worker.serve.Goals as goal
 
 -- where the test says so, none of them has left and none comes next

@@ -1,12 +1,11 @@
 use Rattle.std.proofs.Common.{◌≡◌, ℕ, zero, suc, ◌<◌, ◌⊎◌, Bool, true, false, inl, inr, refl, sym, ◌∙◌, subst, arith}
 use Rattle.shm_graph.specs.declared.ask.Me.{Me}
 use Rattle.shm_agents.specs.Agents.{Stands, is_client}
-use Rattle.shm_pool.specs.Posts.{IsPosted}
-use Rattle.shm_pool.specs.Tokens.{Its}
+use Rattle.shm_pool.specs.{Posts.IsPosted, Tokens.Its}
 use Rattle.shm_morgue.specs.Dead.{HasParted}
-use Rattle.shm_replay.proofs.Seating.{client_here}
 use Rattle.shm_morgue.proofs.Parting.{parts_on}
 use Rattle.shm_morgue.proofs.worker.work.Goals as goal
+use Rattle.shm_replay.proofs.Seating.{client_here}
 
 by_life : (n : ℕ) (P : Type 0) → (0 < n → (k : ℕ) × P) → (n ≡ 0 → P) → P
 by_life zero P some none = none refl

@@ -1,7 +1,6 @@
 use Rattle.std.proofs.Common.{◌≡◌, ◌⊎◌, true}
 use Rattle.std.specs.Prelude.{Some}
-use Rattle.shm_agents.specs.Agents.{is_client}
-use Rattle.shm_agents.specs.TurnsLeft.{turns_by}
+use Rattle.shm_agents.specs.{Agents.is_client, TurnsLeft.turns_by}
 use Rattle.shm_team.specs.Working.{AreAtWork}
 use Rattle.shm_morgue.specs.Dead.{HasParted}
 use Rattle.shm_morgue.proofs.worker.work.Given as goal

@@ -7,8 +7,7 @@ use Rattle.shm_script.specs.Values.{Scripted, Traced}
 use Rattle.shm_team.specs.Jobs.{AreAgentsOf}
 use Rattle.shm_team.proofs.Gathering.{agents_in, none_in}
 use Rattle.shm_morgue.specs.Entries.{Puts}
-use Rattle.shm_morgue.proofs.worker.work_at.Given.{Over}
-use Rattle.shm_morgue.proofs.worker.work_at.Goals.{After-index}
+use Rattle.shm_morgue.proofs.worker.work_at.{Given.Over, Goals.After-index}
 use Rattle.shm_morgue.proofs.worker.work_at.Goals as goal
 
 pub returns-in-None : goal.returns-in-None

@@ -1,10 +1,7 @@
 use Rattle.std.proofs.Common.{ℕ, ◌+◌, ◌<◌, ◌≤◌}
-use Rattle.shm_graph.specs.declared.spot.Spot.TheVariants.{Era}
-use Rattle.shm_graph.specs.Agents.{steps_made}
-use Rattle.shm_graph.specs.Views.{own_word}
+use Rattle.shm_graph.specs.{declared.spot.Spot.TheVariants.Era, Agents.steps_made, Views.own_word}
 use Rattle.shm_graph.proofs.Runs.EraRises.{first_was_held, memo_bounds}
-use Rattle.shm_plain.specs.Calls.{state_of}
-use Rattle.shm_plain.specs.Pools.{Pool, IsRun, memo_of}
+use Rattle.shm_plain.specs.{Calls.state_of, Pools.{Pool, IsRun, memo_of}}
 use Rattle.shm_plain.proofs.laws.own_eras_of_runs.Goals as goal
 
 bounds : (p : Pool) → IsRun p → (c : ℕ) → c < p.start.geometry.clients → let n = own_word (memo_of p c).own (Era c c) in (p.start.first_era ≤ n) × (n ≤ p.start.first_era + steps_made (memo_of p c))

@@ -1,11 +1,7 @@
 use Rattle.std.proofs.Common.{◌≡◌, ℕ, Bool, true, false, cond, refl, ap}
-use Rattle.shm_graph.specs.declared.memo.Memo.{Memo}
-use Rattle.shm_graph.specs.declared.run.Account.{Account}
-use Rattle.shm_graph.specs.Agents.{acts, steps_made}
+use Rattle.shm_graph.specs.{declared.{memo.Memo.Memo, run.Account.Account}, Agents.{acts, steps_made}}
 use Rattle.shm_graph.specs.Runs.{account_at, account_died, changed, memos_of}
-use Rattle.shm_graph.proofs.Memos.MemoSteps.{steps_died}
-use Rattle.shm_graph.proofs.Runs.Lists.{account_part}
-use Rattle.shm_graph.proofs.States.FirstHeld.{memos_start}
+use Rattle.shm_graph.proofs.{Memos.MemoSteps.steps_died, Runs.Lists.account_part, States.FirstHeld.memos_start}
 use Rattle.shm_plain.specs.Pools.{Pool, memo_of}
 use Rattle.shm_plain.proofs.laws.steps_of_pools.Goals as goal
 

@@ -1,8 +1,5 @@
 use Rattle.std.proofs.Common.{subst}
-use Rattle.shm_graph.specs.declared.spot.Spot.TheVariants.{Home}
-use Rattle.shm_graph.specs.Held.{PartTie}
-use Rattle.shm_graph.specs.References.{references}
-use Rattle.shm_graph.specs.Spots.{see}
+use Rattle.shm_graph.specs.{declared.spot.Spot.TheVariants.Home, Held.PartTie, References.references, Spots.see}
 use Rattle.shm_graph.specs.Tables.{contents_of}
 use Rattle.shm_plain.proofs.StillTable.{still_part}
 use Rattle.shm_plain.proofs.laws.table_of_closed.Goals as goal

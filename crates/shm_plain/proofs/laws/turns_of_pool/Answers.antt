@@ -1,11 +1,8 @@
 use Rattle.std.proofs.Common.{◌≡◌, List, ◌∷◌, ◌++◌, subst}
-use Rattle.shm_graph.specs.declared.run.Move.{Move}
-use Rattle.shm_graph.specs.declared.run.Move.TheVariants.{Word}
+use Rattle.shm_graph.specs.declared.run.Move.{Move, TheVariants.Word}
 use Rattle.shm_graph.specs.Runs.{IsMove, Leads, State, Turned, first_state, moved}
-use Rattle.shm_graph.proofs.States.HeldSound.{held_state_sound}
-use Rattle.shm_graph.proofs.Runs.Running.{Leads-split}
-use Rattle.shm_plain.specs.Calls.{state_of}
-use Rattle.shm_plain.specs.Pools.{Pool, IsRun}
+use Rattle.shm_graph.proofs.{States.HeldSound.held_state_sound, Runs.Running.Leads-split}
+use Rattle.shm_plain.specs.{Calls.state_of, Pools.{Pool, IsRun}}
 use Rattle.shm_plain.proofs.laws.turns_of_pool.Goals as goal
 
 -- where a turn was taken

@@ -1,5 +1,4 @@
-use Rattle.shm_plain.specs.Pools.{next_of}
-use Rattle.shm_plain.specs.Tracks.{noted}
+use Rattle.shm_plain.specs.{Pools.next_of, Tracks.noted}
 use Rattle.shm_plain.proofs.track.note.Given as goal
 
 abbrev pub ghosts-note_as : goal.ghosts-note_as

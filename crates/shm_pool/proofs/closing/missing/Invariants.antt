@@ -1,6 +1,5 @@
 use Rattle.std.proofs.Common.{ℕ, ◌<◌, ◌≤◌}
-use Rattle.shm_pool.specs.Rules.{count_in}
-use Rattle.shm_pool.specs.Tokens.{accounts_of}
+use Rattle.shm_pool.specs.{Rules.count_in, Tokens.accounts_of}
 use Rattle.shm_pool.proofs.closing.missing.Given as goal
 
 abbrev pub invariant-loop-client : goal.invariant-loop-client

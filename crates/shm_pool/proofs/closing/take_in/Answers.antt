@@ -1,10 +1,8 @@
 use Rattle.std.proofs.Common.{◌≡◌, List, rules, [], ◌∷◌, ◌++◌, append_assoc, refl, ap, sym, ◌∙◌, subst}
 use Rattle.atomic_table.specs.Table.{Me as Mine}
 use Rattle.shm_graph.specs.declared.run.Account.{Account}
-use Rattle.shm_pool.specs.Rules.{alone}
-use Rattle.shm_pool.specs.Tokens.{Its, its, Token, token_of, AllOf, AllStill, accounts_of}
-use Rattle.shm_pool.proofs.Opening.{enters, glue_as}
-use Rattle.shm_pool.proofs.Ends.{accounts_append, of_front, of_last}
+use Rattle.shm_pool.specs.{Rules.alone, Tokens.{Its, its, Token, token_of, AllOf, AllStill, accounts_of}}
+use Rattle.shm_pool.proofs.{Opening.{enters, glue_as}, Ends.{accounts_append, of_front, of_last}}
 use Rattle.shm_pool.proofs.closing.take_in.Goals as goal
 
 pub load_new_seat-requires : goal.load_new_seat-requires

@@ -1,21 +1,11 @@
 use Rattle.std.proofs.Common.{◌≡◌, false, refl, ap, sym, ◌∙◌, subst, inr}
 use Rattle.std.specs.Prelude.{Ok}
 use Rattle.atomic_table.specs.Seated.{TableId}
-use Rattle.shm_graph.specs.declared.memo.Memo.{Memo}
-use Rattle.shm_graph.specs.declared.memo.Status.TheVariants.{Gone}
-use Rattle.shm_graph.specs.declared.run.Start.{Start}
-use Rattle.shm_graph.specs.Agents.{acts}
-use Rattle.shm_graph.specs.Runs.{Stood}
-use Rattle.shm_graph.specs.Whole.{gives_now}
-use Rattle.shm_pool.specs.declared.token.Cause.{Cause}
-use Rattle.shm_pool.specs.declared.reply.Reply.TheVariants.{Done}
-use Rattle.shm_pool.specs.Rules.{alone}
-use Rattle.shm_pool.specs.Tokens.{Its, Token, its, token_of}
-use Rattle.shm_pool.specs.Endings.{Answer, HasStopped}
-use Rattle.shm_pool.proofs.Calling.{acts_leave}
-use Rattle.shm_pool.proofs.Driving.{asked}
-use Rattle.shm_pool.proofs.Seating.{seated_on}
-use Rattle.shm_pool.proofs.ending.end_by.Given.{Over}
+use Rattle.shm_graph.specs.{declared.{memo.{Memo.Memo, Status.TheVariants.Gone}, run.Start.Start}, Agents.acts}
+use Rattle.shm_graph.specs.{Runs.Stood, Whole.gives_now}
+use Rattle.shm_pool.specs.{declared.{token.Cause.Cause, reply.Reply.TheVariants.Done}, Rules.alone}
+use Rattle.shm_pool.specs.{Tokens.{Its, Token, its, token_of}, Endings.{Answer, HasStopped}}
+use Rattle.shm_pool.proofs.{Calling.acts_leave, Driving.asked, Seating.seated_on, ending.end_by.Given.Over}
 use Rattle.shm_pool.proofs.ending.end_by.Goals.{In-Some-Ok}
 use Rattle.shm_pool.proofs.ending.end_by.Goals as goal
 

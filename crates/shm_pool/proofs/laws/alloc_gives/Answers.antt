@@ -1,12 +1,10 @@
 use Rattle.std.proofs.Common.{◌≡◌, ◌<◌, ℕ, sym, ap, ◌∙◌, subst, arith}
 use Rattle.shm_graph.specs.declared.ask.Me.{Me}
-use Rattle.shm_count.specs.Roots.{root_word}
-use Rattle.shm_count.specs.Step.Control.{IsInside}
+use Rattle.shm_count.specs.{Roots.root_word, Step.Control.IsInside}
 use Rattle.shm_count.proofs.RootSpots.{roots_reached}
 use Rattle.shm_recover.specs.Leave.{MayLeave}
 use Rattle.shm_pool.specs.Tokens.{me_of}
-use Rattle.shm_pool.proofs.Keeping.{alloc_may_leave}
-use Rattle.shm_pool.proofs.Replied.{ready}
+use Rattle.shm_pool.proofs.{Keeping.alloc_may_leave, Replied.ready}
 use Rattle.shm_pool.proofs.laws.alloc_gives.Goals as goal
 
 pub returns-clause-made : goal.returns-clause-made

@@ -1,12 +1,8 @@
 use Rattle.std.proofs.Common.{◌≡◌, Bool, true, false, cond, sym, ap, ◌∙◌, subst}
-use Rattle.shm_graph.specs.declared.memo.Kind.TheVariants.{Client}
-use Rattle.shm_graph.specs.declared.memo.Memo.{Memo}
-use Rattle.shm_graph.specs.declared.run.Account.{Account}
-use Rattle.shm_graph.specs.Agents.{acts}
+use Rattle.shm_graph.specs.{declared.{memo.{Kind.TheVariants.Client, Memo.Memo}, run.Account.Account}, Agents.acts}
 use Rattle.shm_graph.specs.Runs.{account_entered}
 use Rattle.shm_graph.proofs.Memos.MemoSteps.{acts-entered}
-use Rattle.shm_pool.specs.Rules.{alone}
-use Rattle.shm_pool.specs.Tokens.{IsFallen, IsStill, begun_account}
+use Rattle.shm_pool.specs.{Rules.alone, Tokens.{IsFallen, IsStill, begun_account}}
 use Rattle.shm_pool.proofs.recovery.note_begun.Goals as goal
 
 fallen_false : (b : Bool) (m : Memo) → b ≡ false → IsFallen b m → IsStill m

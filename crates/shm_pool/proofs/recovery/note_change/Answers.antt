@@ -1,7 +1,5 @@
 use Rattle.std.proofs.Common.{ℕ, ◌<◌, sym, ap, ◌∙◌, subst}
-use Rattle.shm_graph.specs.declared.memo.Kind.TheVariants.{Recoverer}
-use Rattle.shm_graph.specs.declared.run.Account.{Account}
-use Rattle.shm_graph.specs.Agents.{acts, last_agent}
+use Rattle.shm_graph.specs.{declared.{memo.Kind.TheVariants.Recoverer, run.Account.Account}, Agents.{acts, last_agent}}
 use Rattle.shm_graph.specs.Runs.{account_died, account_entered, fell_by}
 use Rattle.shm_graph.proofs.Memos.MemoSteps.{acts-died, fell-died, acts-entered}
 use Rattle.shm_pool.specs.Rules.{alone}

@@ -1,6 +1,5 @@
 use Rattle.std.proofs.Common.{Bool, sym, ap, ◌∙◌}
-use Rattle.shm_pool.specs.Rules.{alone}
-use Rattle.shm_pool.specs.Rescues.{account_of}
+use Rattle.shm_pool.specs.{Rules.alone, Rescues.account_of}
 use Rattle.shm_pool.proofs.rescuer.note_start.Goals as goal
 
 pub returns-then-begun-clause-account : goal.returns-then-begun-clause-account

@@ -1,18 +1,11 @@
 use Rattle.std.proofs.Common.{◌≡◌, ℕ, List, [], ◌∷◌, ◌<◌, refl, sym, ap, ◌∙◌, subst}
 use Rattle.atomic_table.specs.Table.{Me as Mine}
-use Rattle.shm_words.specs.declared.geometry.Geometry.{Geometry}
-use Rattle.shm_words.specs.Layout.{total_of}
-use Rattle.shm_graph.specs.declared.ask.Me.{Me}
-use Rattle.shm_graph.specs.declared.ask.Ask.{Ask}
-use Rattle.shm_graph.specs.declared.run.Account.{Account}
-use Rattle.shm_graph.specs.Asks.{at_of, seen_of}
-use Rattle.shm_graph.specs.Laws.{step_of}
+use Rattle.shm_words.specs.{declared.geometry.Geometry.Geometry, Layout.total_of}
+use Rattle.shm_graph.specs.{declared.{ask.{Me.Me, Ask.Ask}, run.Account.Account}, Asks.{at_of, seen_of}, Laws.step_of}
 use Rattle.shm_graph.specs.Whole.{fits_now, gives_now}
 use Rattle.shm_graph.proofs.Machines.Wholes.{whole_keeps, whole_inside}
-use Rattle.shm_pool.specs.Rules.{Told, alone, head_account}
-use Rattle.shm_pool.specs.Sites.{told_of, last_word}
-use Rattle.shm_pool.proofs.Sites.{given_after, told_seen}
-use Rattle.shm_pool.proofs.Stepping.{allowed}
+use Rattle.shm_pool.specs.{Rules.{Told, alone, head_account}, Sites.{told_of, last_word}}
+use Rattle.shm_pool.proofs.{Sites.{given_after, told_seen}, Stepping.allowed}
 use Rattle.shm_pool.proofs.steps.act_place.Goals as goal
 
 pub act_as-requires-clause-may : goal.act_as-requires-clause-may

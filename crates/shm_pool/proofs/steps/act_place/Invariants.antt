@@ -1,6 +1,5 @@
 use Rattle.std.specs.Prelude.{◌≡◌, [], ◌∷◌}
-use Rattle.shm_graph.specs.Asks.{seen_of}
-use Rattle.shm_graph.specs.Whole.{fits_now, gives_now}
+use Rattle.shm_graph.specs.{Asks.seen_of, Whole.{fits_now, gives_now}}
 use Rattle.shm_pool.specs.Rules.{Told, head_account}
 use Rattle.shm_pool.proofs.steps.act_place.Given as goal
 

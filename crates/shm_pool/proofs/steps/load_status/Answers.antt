@@ -1,8 +1,6 @@
-use Rattle.std.proofs.Common.{◌≡◌, ℕ, ◌<◌, true, [], ◌∷◌, sym, ap, ◌∙◌, subst}
-use Rattle.std.proofs.lemmas.Bool.{lt-ltb}
-use Rattle.shm_words.specs.declared.geometry.Geometry.{Geometry}
+use Rattle.std.proofs.{Common.{◌≡◌, ℕ, ◌<◌, true, [], ◌∷◌, sym, ap, ◌∙◌, subst}, lemmas.Bool.lt-ltb}
+use Rattle.shm_words.specs.{declared.geometry.Geometry.Geometry, Layout.{is_in, total_of}}
 use Rattle.shm_words.specs.declared.place.Place.TheVariants as place
-use Rattle.shm_words.specs.Layout.{is_in, total_of}
 use Rattle.shm_words.proofs.Placing.{address_below}
 use Rattle.shm_graph.specs.declared.run.Account.{Account}
 use Rattle.shm_pool.specs.Rules.{alone, head_account}

@@ -1,11 +1,8 @@
 use Rattle.std.proofs.Common.{◌≡◌, ℕ, ◌<◌, List, map, sym, ap, ◌∙◌, subst, arith}
 use Rattle.atomic_table.specs.Table.{Me as Mine}
-use Rattle.shm_graph.specs.declared.memo.Kind.TheVariants.{Client}
-use Rattle.shm_graph.specs.declared.run.Account.{Account}
-use Rattle.shm_graph.specs.Runs.{account_entered, Stood}
+use Rattle.shm_graph.specs.{declared.{memo.Kind.TheVariants.Client, run.Account.Account}, Runs.{account_entered, Stood}}
 use Rattle.shm_pool.specs.Rules.{alone, head_account}
-use Rattle.shm_pool.proofs.Stepping.{noted_as, begins, stood_begins}
-use Rattle.shm_pool.proofs.steps.note_client.Goals.{After-load}
+use Rattle.shm_pool.proofs.{Stepping.{noted_as, begins, stood_begins}, steps.note_client.Goals.After-load}
 use Rattle.shm_pool.proofs.steps.note_client.Goals as goal
 
 -- the account afterwards

@@ -1,10 +1,8 @@
 use Rattle.std.proofs.Common.{◌≡◌, ℕ, ◌<◌, List, map, sym, ap, ◌∙◌, subst, arith}
 use Rattle.atomic_table.specs.Table.{Me as Mine}
-use Rattle.shm_graph.specs.declared.run.Account.{Account}
-use Rattle.shm_graph.specs.Runs.{account_died, Stood}
+use Rattle.shm_graph.specs.{declared.run.Account.Account, Runs.{account_died, Stood}}
 use Rattle.shm_pool.specs.Rules.{alone, head_account}
-use Rattle.shm_pool.proofs.Stepping.{noted_as, dies, stood_dies}
-use Rattle.shm_pool.proofs.steps.note_death.Goals.{After-load}
+use Rattle.shm_pool.proofs.{Stepping.{noted_as, dies, stood_dies}, steps.note_death.Goals.After-load}
 use Rattle.shm_pool.proofs.steps.note_death.Goals as goal
 
 -- the account afterwards

@@ -1,20 +1,11 @@
 use Rattle.std.proofs.Common.{◌≡◌, ◌≢◌, ◌<◌, ℕ, Bool, true, false, cond, [], refl, sym, ap, ◌∙◌, subst, arith}
 use Rattle.std.proofs.lemmas.Bool.{true≢false}
-use Rattle.shm_graph.specs.declared.ask.Life.{Life}
-use Rattle.shm_graph.specs.declared.ask.Me.{Me}
-use Rattle.shm_graph.specs.declared.memo.Memo.{Memo}
-use Rattle.shm_graph.specs.declared.run.Account.{Account}
-use Rattle.shm_graph.specs.Agents.{acts}
+use Rattle.shm_graph.specs.{declared.{ask.{Life.Life, Me.Me}, memo.Memo.Memo, run.Account.Account}, Agents.acts}
 use Rattle.shm_graph.specs.Whole.{fits_now, gives_now}
 use Rattle.shm_graph.proofs.Machines.Composing.{none_of, some_of}
-use Rattle.shm_pool.specs.Rules.{alone}
-use Rattle.shm_pool.specs.Calls.{Drives, shown}
-use Rattle.shm_pool.specs.Calls.{StillFits}
-use Rattle.shm_pool.specs.Tokens.{has_left}
+use Rattle.shm_pool.specs.{Rules.alone, Calls.{Drives, shown, StillFits}, Tokens.has_left}
 use Rattle.shm_pool.proofs.Calling.{still_of, goes_on, is_over, still_here, tells}
-use Rattle.shm_pool.proofs.Driving.{cut, driven_none, more, whole}
-use Rattle.shm_pool.proofs.steps.run_place.Given.{Over}
-use Rattle.shm_pool.proofs.steps.run_place.Goals.{In-Done}
+use Rattle.shm_pool.proofs.{Driving.{cut, driven_none, more, whole}, steps.run_place.{Given.Over, Goals.In-Done}}
 use Rattle.shm_pool.proofs.steps.run_place.Goals as goal
 
 pub step_place-requires-clause-fits : goal.step_place-requires-clause-fits

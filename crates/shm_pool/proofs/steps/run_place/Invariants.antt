@@ -1,12 +1,7 @@
 use Rattle.std.proofs.Common.{◌≡◌, false}
-use Rattle.shm_graph.specs.declared.memo.Memo.{Memo}
-use Rattle.shm_graph.specs.Agents.{recovers}
-use Rattle.shm_graph.specs.Whole.{fits_now, gives_now}
-use Rattle.shm_pool.specs.Rules.{IsOf, IsAlone, alone}
-use Rattle.shm_pool.specs.Calls.{IsDriven, Ongoing, shown}
-use Rattle.shm_pool.specs.Tokens.{has_left}
+use Rattle.shm_graph.specs.{declared.memo.Memo.Memo, Agents.recovers, Whole.{fits_now, gives_now}, Runs.Stood}
+use Rattle.shm_pool.specs.{Rules.{IsOf, IsAlone, alone}, Calls.{IsDriven, Ongoing, shown}, Tokens.has_left}
 use Rattle.shm_pool.proofs.steps.run_place.Given as goal
-use Rattle.shm_graph.specs.Runs.{Stood}
 
 abbrev pub invariant-steps : goal.invariant-steps
 invariant-steps g l = record {

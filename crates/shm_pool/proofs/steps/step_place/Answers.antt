@@ -1,14 +1,8 @@
-use Rattle.shm_graph.specs.Agents.{acts, recovers}
-use Rattle.shm_graph.specs.declared.run.Account.{Account}
-use Rattle.std.proofs.Common.{◌≡◌, false, true, cond, sym, ap, ◌∙◌, subst, arith, true≢false}
-use Rattle.shm_graph.specs.Laws.{is_died, step_of}
+use Rattle.shm_graph.specs.{Agents.{acts, recovers}, declared.run.Account.Account, Laws.{is_died, step_of}}
 use Rattle.shm_graph.specs.Whole.{fits_now, gives_now}
-use Rattle.shm_pool.specs.Rules.{alone}
-use Rattle.shm_pool.specs.Calls.{ClientStepped}
-use Rattle.shm_pool.specs.Sites.{last_word}
-use Rattle.shm_pool.specs.Tokens.{has_left}
-use Rattle.shm_pool.proofs.Calling.{acts_stepped, kind_same, never_died, serves_on}
-use Rattle.shm_pool.proofs.steps.step_place.Given.{Over}
+use Rattle.std.proofs.Common.{◌≡◌, false, true, cond, sym, ap, ◌∙◌, subst, arith, true≢false}
+use Rattle.shm_pool.specs.{Rules.alone, Calls.ClientStepped, Sites.last_word, Tokens.has_left}
+use Rattle.shm_pool.proofs.{Calling.{acts_stepped, kind_same, never_died, serves_on}, steps.step_place.Given.Over}
 use Rattle.shm_pool.proofs.steps.step_place.Goals.{After-act_place}
 use Rattle.shm_pool.proofs.steps.step_place.Goals as goal
 

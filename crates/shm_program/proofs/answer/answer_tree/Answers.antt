@@ -1,7 +1,6 @@
 use Rattle.std.proofs.lemmas.Result.{IfOk-weaker}
 use Rattle.shm_tree.specs.ScriptTexts.{Spells}
-use Rattle.shm_program.proofs.JobAnswers.{tree_told}
-use Rattle.shm_program.proofs.SpelledScripts.{read_spelled}
+use Rattle.shm_program.proofs.{JobAnswers.tree_told, SpelledScripts.read_spelled}
 use Rattle.shm_program.proofs.answer.answer_tree.Goals as goal
 
 pub tell_tree-requires : goal.tell_tree-requires

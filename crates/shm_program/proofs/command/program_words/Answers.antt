@@ -1,6 +1,4 @@
-use Rattle.std.proofs.Common.{◌∙◌, refl}
-use Rattle.std.proofs.lemmas.Result.{IfOk-weaker}
-use Rattle.std.proofs.lemmas.Iterator.{items_from_collect}
+use Rattle.std.proofs.{Common.{◌∙◌, refl}, lemmas.{Result.IfOk-weaker, Iterator.items_from_collect}}
 use Rattle.std.proofs.lemmas.Iterator.Adapters.{YieldsList-from_vec}
 use Rattle.shm_program.proofs.ProgramWords.{left_behind}
 use Rattle.shm_program.proofs.command.program_words.Goals as goal

@@ -1,7 +1,5 @@
 use Rattle.std.proofs.Common.{drop, inr, map, sym}
-use Rattle.std.specs.IoError.{error_kind}
-use Rattle.std.specs.String.{string_bytes}
-use Rattle.std.specs.Vec.Iter.{into_iter_items}
+use Rattle.std.specs.{IoError.error_kind, String.string_bytes, Vec.Iter.into_iter_items}
 use Rattle.shm_program.proofs.CallEnds.{read_ends, unread_ends}
 use Rattle.shm_program.proofs.command.run.Goals as goal
 

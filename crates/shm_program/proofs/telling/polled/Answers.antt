@@ -1,6 +1,5 @@
 use Rattle.std.proofs.Common.{refl}
-use Rattle.shm_program.specs.Replays.{polled_pool}
-use Rattle.shm_program.specs.declared.words.Form.TheVariants.{Report}
+use Rattle.shm_program.specs.{Replays.polled_pool, declared.words.Form.TheVariants.Report}
 use Rattle.shm_program.proofs.Tellings.{text_told}
 use Rattle.shm_program.proofs.telling.polled.Goals as goal
 

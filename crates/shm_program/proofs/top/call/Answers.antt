@@ -1,6 +1,5 @@
 use Rattle.std.proofs.Common.{◌∙◌, ◌≡◌, map, refl, sym}
-use Rattle.std.specs.Prelude.{Some}
-use Rattle.std.specs.String.{string_bytes}
+use Rattle.std.specs.{Prelude.Some, String.string_bytes}
 use Rattle.shm_program.specs.Words.{job_of}
 use Rattle.shm_program.proofs.CallEnds.{replying, unreading}
 use Rattle.shm_program.proofs.top.call.Goals as goal

@@ -1,10 +1,8 @@
 use Rattle.std.proofs.Common.{◌≡◌, ℕ, List, Option, Result, IfOk, map, refl, sym, subst}
 use Rattle.std.specs.String.{string_bytes}
 use Rattle.clap.specs.Words.{App}
-use Rattle.shm_program.specs.Words.{asked, job_by, only}
-use Rattle.shm_program.specs.declared.words.Job.{Job}
+use Rattle.shm_program.specs.{Words.{asked, job_by, only}, declared.words.{Job.Job, Name.Name}}
 use Rattle.shm_program.specs.declared.words.Job.TheVariants as job
-use Rattle.shm_program.specs.declared.words.Name.{Name}
 use Rattle.shm_program.specs.declared.words.Name.TheVariants as name
 use Rattle.shm_program.proofs.words.job_by.Goals as goal
 

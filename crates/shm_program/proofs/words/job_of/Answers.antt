@@ -1,6 +1,5 @@
 use Rattle.std.proofs.Common.{◌<◌, length, sym, ap, ◌∙◌, arith, ◌≡◌, map, get_or, Global, Some}
-use Rattle.std.specs.String.{string_bytes}
-use Rattle.std.specs.declared.string.String.{String}
+use Rattle.std.specs.{String.string_bytes, declared.string.String.String}
 use Rattle.shm_program.specs.Words.{NamesCommand, name_of}
 use Rattle.shm_program.proofs.Commands.{at_each_err, names_command}
 use Rattle.shm_program.proofs.words.job_of.Goals as goal

@@ -1,6 +1,5 @@
 use Rattle.std.proofs.Common.{◌≡◌, ◌∙◌, ap, ap₂, map, ℕ, Bool, Option, codes}
-use Rattle.std.specs.Prelude.{option_and_then}
-use Rattle.std.specs.String.{string_bytes}
+use Rattle.std.specs.{Prelude.option_and_then, String.string_bytes}
 use Rattle.clap.specs.Words.{app_of, first_of, found_of, is_simple_and_free}
 use Rattle.clap.proofs.WalkLemmas.{first_value-rows}
 use Rattle.shm_program.specs.Words.{is_true, make_command, make_in, make_of, number_in, rows_in}

@@ -1,7 +1,6 @@
 use Rattle.std.proofs.Common.{◌≡◌, rules, inl, inr, map}
 use Rattle.std.specs.String.{string_bytes}
-use Rattle.clap.specs.Words.{app_of, kind_of}
-use Rattle.clap.specs.declared.error.kind.ErrorKind.TheVariants.{OutOfMemory}
+use Rattle.clap.specs.{Words.{app_of, kind_of}, declared.error.kind.ErrorKind.TheVariants.OutOfMemory}
 use Rattle.shm_program.specs.Words.{rows_in}
 use Rattle.shm_program.proofs.Commands.{read_when, refused_when, simple_too}
 use Rattle.shm_program.proofs.words.read.Goals as goal

@@ -1,7 +1,5 @@
 use Rattle.std.proofs.Common.{◌≡◌, ◌∙◌, ap, ap₂, map, Bool, codes}
-use Rattle.std.specs.Prelude.{option_and_then}
-use Rattle.std.specs.Option.{is_some}
-use Rattle.std.specs.String.{string_bytes}
+use Rattle.std.specs.{Prelude.option_and_then, Option.is_some, String.string_bytes}
 use Rattle.clap.specs.Words.{app_of, first_of, found_of, is_simple_and_free}
 use Rattle.clap.proofs.WalkLemmas.{first_value-rows}
 use Rattle.shm_program.specs.Words.{is_true, number_in, run_command, run_in, run_of, rows_in}

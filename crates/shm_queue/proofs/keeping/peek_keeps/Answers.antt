@@ -1,17 +1,13 @@
 use Rattle.std.proofs.Common.{ℕ, zero, ◌%◌, refl, sym, ap, ◌∙◌, subst, arith, List}
-use Rattle.std.specs.List.{Contains}
-use Rattle.std.specs.Prelude.{Ok, Err}
 use Rattle.std.proofs.lemmas.Bool.{cond-false, cond-true}
-use Rattle.shm_graph.specs.declared.memo.Memo.{Memo}
-use Rattle.shm_graph.specs.declared.memo.Stored.{Stored}
-use Rattle.shm_graph.specs.declared.spot.Spot.TheVariants.{QueueHead, Root, Slot}
+use Rattle.std.specs.{List.Contains, Prelude.{Ok, Err}}
+use Rattle.shm_graph.specs.declared.{memo.{Memo.Memo, Stored.Stored}, spot.Spot.TheVariants.{QueueHead, Root, Slot}}
 use Rattle.shm_graph.specs.Views.{own_word}
 use Rattle.shm_graph.proofs.Spots.Spotting.{same_spot_self}
 use Rattle.shm_count.specs.Tear.Memos.{Knows}
 use Rattle.shm_count.proofs.RootSpots.{roots_reached}
 use Rattle.shm_queue.specs.declared.answer.PeekFault.TheVariants.{CountFull, Empty, EraSpent, RootsFull}
-use Rattle.shm_queue.specs.QueueTasks.{peek_rests}
-use Rattle.shm_queue.specs.Peek.Control.{peeking}
+use Rattle.shm_queue.specs.{QueueTasks.peek_rests, Peek.Control.peeking}
 use Rattle.shm_queue.proofs.Queues.{other_root, peek_queues}
 use Rattle.shm_queue.proofs.keeping.peek_keeps.Goals as goal
 

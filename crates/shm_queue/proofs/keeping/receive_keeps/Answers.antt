@@ -1,13 +1,9 @@
-use Rattle.std.proofs.Common.{refl, ap, ◌∙◌}
+use Rattle.std.proofs.{Common.{refl, ap, ◌∙◌}, lemmas.Bool.{cond-false, cond-true}}
 use Rattle.std.specs.Prelude.{Ok, Err}
-use Rattle.std.proofs.lemmas.Bool.{cond-false, cond-true}
-use Rattle.shm_graph.specs.declared.memo.Memo.{Memo}
-use Rattle.shm_graph.specs.declared.spot.Spot.TheVariants.{Root}
-use Rattle.shm_graph.specs.MemoAfterStore.{lane_with}
+use Rattle.shm_graph.specs.{declared.{memo.Memo.Memo, spot.Spot.TheVariants.Root}, MemoAfterStore.lane_with}
 use Rattle.shm_graph.proofs.Spots.Spotting.{same_spot_self}
 use Rattle.shm_count.proofs.RootSpots.{roots_reached}
-use Rattle.shm_queue.specs.QueueTasks.{receive_rests}
-use Rattle.shm_queue.specs.Receive.Control.{receiving}
+use Rattle.shm_queue.specs.{QueueTasks.receive_rests, Receive.Control.receiving}
 use Rattle.shm_queue.proofs.Queues.{other_root, receive_queues}
 use Rattle.shm_queue.proofs.keeping.receive_keeps.Goals as goal
 

@@ -1,12 +1,9 @@
 use Rattle.std.proofs.Common.{refl, ap}
 use Rattle.std.specs.Prelude.{Ok, Err}
-use Rattle.shm_graph.specs.declared.memo.Memo.{Memo}
-use Rattle.shm_graph.specs.declared.spot.Spot.TheVariants.{Root}
-use Rattle.shm_graph.specs.Views.{own_word}
+use Rattle.shm_graph.specs.{declared.{memo.Memo.Memo, spot.Spot.TheVariants.Root}, Views.own_word}
 use Rattle.shm_count.proofs.RootSpots.{roots_reached}
 use Rattle.shm_queue.specs.declared.answer.SendFault.TheVariants.{CountFull, EraSpent, QueueFull}
-use Rattle.shm_queue.specs.QueueTasks.{send_rests}
-use Rattle.shm_queue.specs.Send.Control.{sending}
+use Rattle.shm_queue.specs.{QueueTasks.send_rests, Send.Control.sending}
 use Rattle.shm_queue.proofs.Queues.{send_queues}
 use Rattle.shm_queue.proofs.keeping.send_keeps.Goals as goal
 

@@ -1,17 +1,10 @@
 use Rattle.std.proofs.Common.{ℕ, ◌<◌, ap, subst, List, inl, inr}
 use Rattle.std.specs.List.{Contains}
-use Rattle.shm_graph.specs.declared.ask.Me.{Me}
-use Rattle.shm_graph.specs.declared.memo.Fact.TheVariants.{Counter}
-use Rattle.shm_graph.specs.declared.memo.Memo.{Memo}
-use Rattle.shm_graph.specs.declared.spot.Spot.TheVariants.{QueueHead, Tail}
-use Rattle.shm_graph.specs.Asks.{Trail}
-use Rattle.shm_graph.specs.Events.{Event}
-use Rattle.shm_graph.specs.Views.{own_word}
+use Rattle.shm_graph.specs.declared.{ask.Me.Me, memo.{Fact.TheVariants.Counter, Memo.Memo}}
+use Rattle.shm_graph.specs.{declared.spot.Spot.TheVariants.{QueueHead, Tail}, Asks.Trail, Events.Event, Views.own_word}
 use Rattle.shm_count.specs.Slots.{Untouched}
 use Rattle.shm_queue.specs.declared.answer.PeekFault.TheVariants.{CountFull, Empty, EraSpent, RootsFull}
-use Rattle.shm_queue.specs.Peek.Control.{peeking}
-use Rattle.shm_queue.specs.Peek.{NotPeeked}
-use Rattle.shm_queue.specs.Take.{slot_memo}
+use Rattle.shm_queue.specs.{Peek.{Control.peeking, NotPeeked}, Take.slot_memo}
 use Rattle.shm_queue.proofs.Causes.{peek_reads}
 use Rattle.shm_queue.proofs.refusals.peek_refusals.Goals as goal
 

@@ -1,6 +1,5 @@
 use Rattle.shm_queue.specs.Receive.Control.{receiving}
-use Rattle.shm_queue.proofs.Causes.{receive_reads}
-use Rattle.shm_queue.proofs.RefusedTakes.{refused_only, refused_peek, refused_rooted}
+use Rattle.shm_queue.proofs.{Causes.receive_reads, RefusedTakes.{refused_only, refused_peek, refused_rooted}}
 use Rattle.shm_queue.proofs.refusals.receive_refusals.Goals as goal
 
 pub returns-clause-peeked : goal.returns-clause-peeked

@@ -1,6 +1,5 @@
 use Rattle.std.proofs.Common.{sym, subst, arith}
-use Rattle.shm_graph.specs.Bounds.{join_steps}
-use Rattle.shm_graph.specs.Asks.{IsWithin}
+use Rattle.shm_graph.specs.{Bounds.join_steps, Asks.IsWithin}
 use Rattle.shm_recover.proofs.join.join_bound.Goals as goal
 
 pub returns : goal.returns

@@ -1,16 +1,9 @@
 use Rattle.std.proofs.Common.{◌≡◌, ℕ, Bool, true, false, cond, eqb, ◌&&◌, is_ok, List, Result}
-use Rattle.std.specs.Prelude.{Ok, Err, IfOk}
-use Rattle.std.specs.List.{Contains}
-use Rattle.shm_graph.specs.declared.ask.Me.{Me}
-use Rattle.shm_graph.specs.declared.memo.Memo.{Memo}
-use Rattle.shm_graph.specs.declared.spot.Spot.TheVariants.{Root}
-use Rattle.shm_graph.specs.Asks.{Trail}
-use Rattle.shm_graph.specs.Events.{Event}
-use Rattle.shm_count.specs.declared.answer.EraSpent.{EraSpent}
-use Rattle.shm_count.specs.declared.answer.UpFault.TheVariants as fault
-use Rattle.shm_count.specs.declared.point.Aim.TheVariants.{Down}
-use Rattle.shm_count.specs.Roots.{root_word}
+use Rattle.std.specs.{Prelude.{Ok, Err, IfOk}, List.Contains}
+use Rattle.shm_graph.specs.{declared.{ask.Me.Me, memo.Memo.Memo, spot.Spot.TheVariants.Root}, Asks.Trail, Events.Event}
+use Rattle.shm_count.specs.{declared.{answer.EraSpent.EraSpent, point.Aim.TheVariants.Down}, Roots.root_word}
 use Rattle.shm_count.specs.Step.Machines.{down_told}
+use Rattle.shm_count.specs.declared.answer.UpFault.TheVariants as fault
 use Rattle.shm_ref.specs.RootSteps.{LowerLeaves, lowering}
 use Rattle.shm_ref.proofs.RootStepKeeps.{err_same, lost_dies, ok_others, ok_root, queues_after, reached_after, root_after}
 use Rattle.shm_ref.proofs.keeping.lower_root_keeps.Goals as goal

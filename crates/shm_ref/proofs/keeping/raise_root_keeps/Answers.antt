@@ -1,12 +1,7 @@
 use Rattle.std.proofs.Common.{◌≡◌, ℕ, cond, eqb, ◌&&◌, is_ok, false, List, Result}
 use Rattle.std.specs.Prelude.{Ok, Err}
-use Rattle.shm_graph.specs.declared.ask.Me.{Me}
-use Rattle.shm_graph.specs.declared.memo.Memo.{Memo}
-use Rattle.shm_graph.specs.Asks.{Trail}
-use Rattle.shm_graph.specs.Events.{Event}
-use Rattle.shm_count.specs.declared.answer.UpFault.{UpFault}
-use Rattle.shm_count.specs.declared.point.Aim.TheVariants.{Up}
-use Rattle.shm_count.specs.Roots.{root_word}
+use Rattle.shm_graph.specs.{declared.{ask.Me.Me, memo.Memo.Memo}, Asks.Trail, Events.Event}
+use Rattle.shm_count.specs.{declared.{answer.UpFault.UpFault, point.Aim.TheVariants.Up}, Roots.root_word}
 use Rattle.shm_count.specs.Step.Machines.{up_told}
 use Rattle.shm_ref.specs.RootSteps.{RaiseLeaves, raising}
 use Rattle.shm_ref.proofs.RootStepKeeps.{err_same, ok_others, ok_root, queues_after, reached_after, root_after}

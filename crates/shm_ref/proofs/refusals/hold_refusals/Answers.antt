@@ -1,15 +1,9 @@
-use Rattle.std.proofs.Common.{refl, sym, ap, ◌∙◌, subst, arith, ◌+◌, List}
+use Rattle.std.proofs.{Common.{refl, sym, ap, ◌∙◌, subst, arith, ◌+◌, List}, lemmas.Bool.{cond-false, cond-true}}
 use Rattle.std.specs.List.{Contains}
-use Rattle.std.proofs.lemmas.Bool.{cond-false, cond-true}
-use Rattle.shm_words.specs.declared.place.Place.TheVariants as place
 use Rattle.shm_words.specs.Layout.{address}
-use Rattle.shm_graph.specs.declared.ask.Ask.TheVariants.{Exchange}
-use Rattle.shm_graph.specs.declared.memo.Memo.{Memo}
-use Rattle.shm_graph.specs.declared.memo.Stored.{Stored}
-use Rattle.shm_graph.specs.declared.spot.Spot.TheVariants.{Hold}
-use Rattle.shm_graph.specs.Asks.{Trail, pair}
-use Rattle.shm_graph.specs.Core.{core}
-use Rattle.shm_graph.specs.Views.{own_word}
+use Rattle.shm_words.specs.declared.place.Place.TheVariants as place
+use Rattle.shm_graph.specs.declared.{ask.Ask.TheVariants.Exchange, memo.{Memo.Memo, Stored.Stored}}
+use Rattle.shm_graph.specs.{declared.spot.Spot.TheVariants.Hold, Asks.{Trail, pair}, Core.core, Views.own_word}
 use Rattle.shm_graph.proofs.Spots.Spotting.{same_spot_self}
 use Rattle.shm_ref.proofs.refusals.hold_refusals.Goals as goal
 

@@ -1,9 +1,8 @@
 use Rattle.std.proofs.Common.{refl, sym, subst, arith, ◌+◌}
 use Rattle.std.specs.List.{Contains}
-use Rattle.shm_words.specs.declared.place.Place.TheVariants as place
 use Rattle.shm_words.specs.Layout.{address}
-use Rattle.shm_graph.specs.declared.ask.Ask.TheVariants.{Load, Store}
-use Rattle.shm_graph.specs.Asks.{Trail, pair}
+use Rattle.shm_words.specs.declared.place.Place.TheVariants as place
+use Rattle.shm_graph.specs.{declared.ask.Ask.TheVariants.{Load, Store}, Asks.{Trail, pair}}
 use Rattle.shm_ref.proofs.refusals.latch_needed.Goals as goal
 
 pub returns-clause-home : goal.returns-clause-home

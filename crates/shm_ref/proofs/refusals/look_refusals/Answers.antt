@@ -1,7 +1,6 @@
 use Rattle.std.proofs.Common.{refl, sym, subst, arith, ◌+◌}
 use Rattle.std.specs.List.{Contains}
-use Rattle.shm_graph.specs.declared.ask.Ask.TheVariants.{Load}
-use Rattle.shm_graph.specs.Asks.{Trail, pair}
+use Rattle.shm_graph.specs.{declared.ask.Ask.TheVariants.Load, Asks.{Trail, pair}}
 use Rattle.shm_ref.proofs.refusals.look_refusals.Goals as goal
 
 pub returns-clause-none : goal.returns-clause-none

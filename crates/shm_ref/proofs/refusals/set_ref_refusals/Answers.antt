@@ -1,17 +1,9 @@
 use Rattle.std.proofs.Common.{◌≡◌, ◌≢◌, ℕ, zero, suc, ◌^◌, ◌<◌, ◌-◌, false, List, [], ◌++◌}
-use Rattle.shm_graph.specs.declared.ask.Me.{Me}
-use Rattle.shm_graph.specs.declared.memo.Memo.{Memo}
-use Rattle.shm_graph.specs.declared.spot.Spot.{Spot}
-use Rattle.shm_graph.specs.declared.spot.Spot.TheVariants.{Body, Era}
-use Rattle.shm_graph.specs.Events.{Event}
-use Rattle.shm_graph.specs.Views.{own_word}
-use Rattle.shm_count.specs.Lowering.{StoppedAt}
-use Rattle.shm_count.specs.Slots.{Took, Untouched}
-use Rattle.shm_count.specs.Step.Control.{last_era}
+use Rattle.shm_graph.specs.declared.{ask.Me.Me, memo.Memo.Memo, spot.Spot.{Spot, TheVariants.{Body, Era}}}
+use Rattle.shm_graph.specs.{Events.Event, Views.own_word}
+use Rattle.shm_count.specs.{Lowering.StoppedAt, Slots.{Took, Untouched}, Step.Control.last_era}
 use Rattle.shm_count.specs.Tear.Events.{Visit, Walks}
-use Rattle.shm_ref.specs.SetRef.Control.{setting}
-use Rattle.shm_ref.specs.SetRef.Memos.{word_seen}
-use Rattle.shm_ref.specs.SetRef.{IsRead, SetSpent, aim_of, taken_events}
+use Rattle.shm_ref.specs.SetRef.{Control.setting, Memos.word_seen, IsRead, SetSpent, aim_of, taken_events}
 use Rattle.shm_ref.specs.SetRef.SetSpent.{AtStep, AtTear}
 use Rattle.shm_ref.proofs.FullCounts.{set_reads_count}
 use Rattle.shm_ref.proofs.refusals.set_ref_refusals.Goals as goal

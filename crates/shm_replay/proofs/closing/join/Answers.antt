@@ -1,19 +1,13 @@
 use Rattle.std.proofs.Common.{◌≡◌, ◌+◌, ◌^◌, ◌≤◌, Bool, true, cond, Option, refl, sym, ap, ◌∙◌, subst}
-use Rattle.std.specs.Prelude.{IfSome, IsSome}
-use Rattle.std.specs.Option.{is_some}
-use Rattle.shm_graph.specs.declared.memo.Kind.TheVariants.{Recoverer, Client}
-use Rattle.shm_graph.specs.declared.memo.Memo.{Memo}
-use Rattle.shm_graph.specs.declared.memo.Status.TheVariants.{Gone, Live}
-use Rattle.shm_graph.specs.Asks.{call_before}
-use Rattle.shm_graph.specs.Runs.{MayBegin}
+use Rattle.std.specs.{Prelude.{IfSome, IsSome}, Option.is_some}
+use Rattle.shm_graph.specs.declared.memo.{Kind.TheVariants.{Recoverer, Client}, Memo.Memo}
+use Rattle.shm_graph.specs.{declared.memo.Status.TheVariants.{Gone, Live}, Asks.call_before, Runs.MayBegin}
 use Rattle.shm_count.specs.Roots.{member}
 use Rattle.shm_recover.specs.declared.join.JoinState.{JoinState}
 use Rattle.shm_recover.specs.Join.{JoinFits, JoinGives, is_start, join_control, join_fresh}
-use Rattle.shm_plain.specs.Calls.{Ran, Took}
-use Rattle.shm_plain.specs.Pools.{IsOf, MayStep, memo_of, readied}
+use Rattle.shm_plain.specs.{Calls.{Ran, Took}, Pools.{IsOf, MayStep, memo_of, readied}}
 use Rattle.shm_alone.proofs.Lasting.{Lasts}
-use Rattle.shm_replay.proofs.Enough.{answers_in_time, join_lasts}
-use Rattle.shm_replay.proofs.SomeSteps.{some_steps}
+use Rattle.shm_replay.proofs.{Enough.{answers_in_time, join_lasts}, SomeSteps.some_steps}
 use Rattle.shm_replay.proofs.Visiting.{join_fits, join_in, join_part}
 use Rattle.shm_replay.proofs.closing.join.Goals.{After-new, After-call, After-unwrap}
 use Rattle.shm_replay.proofs.closing.join.Goals as goal

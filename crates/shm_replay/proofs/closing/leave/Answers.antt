@@ -1,42 +1,34 @@
 use Rattle.std.proofs.Common.{◌≡◌, ◌^◌, ◌≤◌, Result, refl, sym, ap, ◌∙◌, subst, arith, ◌+◌, Bool, true, Option}
-use Rattle.std.specs.Prelude.{Ok, IfSome, IsSome}
-use Rattle.std.specs.Option.{is_some}
-use Rattle.shm_graph.specs.declared.memo.Memo.{Memo}
-use Rattle.shm_graph.specs.Agents.{steps_made}
-use Rattle.shm_graph.specs.Whole.{fits_now}
-use Rattle.shm_calls.specs.declared.calls.Calls.{Calls}
-use Rattle.shm_calls.specs.CallsControl.{calls_control, calls_of}
+use Rattle.std.specs.{Prelude.{Ok, IfSome, IsSome}, Option.is_some}
+use Rattle.shm_graph.specs.{declared.memo.Memo.Memo, Agents.steps_made, Whole.fits_now}
+use Rattle.shm_calls.specs.{declared.calls.Calls.Calls, CallsControl.{calls_control, calls_of}}
 use Rattle.shm_calls.specs.CallsFit.{CallsFits, CallsGives}
-use Rattle.shm_count.specs.declared.answer.EraSpent.{EraSpent}
-use Rattle.shm_count.specs.Roots.{member}
+use Rattle.shm_count.specs.{declared.answer.EraSpent.EraSpent, Roots.member}
 use Rattle.shm_recover.specs.declared.leave.LeaveState.{LeaveState}
-use Rattle.shm_recover.specs.Leave.Control.{LeaveAnswer, LeaveCall, leave_parts, leaving}
-use Rattle.shm_recover.specs.Leave.{leave_plan}
-use Rattle.shm_plain.specs.Calls.{Ran, Took}
-use Rattle.shm_plain.specs.Pools.{IsOf, memo_of, readied}
-use Rattle.shm_alone.proofs.Lasting.{Lasts}
+use Rattle.shm_recover.specs.Leave.{Control.{LeaveAnswer, LeaveCall, leave_parts, leaving, leave_steered}, leave_plan}
+use Rattle.shm_plain.specs.{Calls.{Ran, Took}, Pools.{IsOf, memo_of, readied}}
 use Rattle.shm_plain.proofs.Calling.{fits_acting, may_acting}
+use Rattle.shm_alone.proofs.Lasting.{Lasts}
 use Rattle.shm_replay.proofs.Visiting.{leave_fits, leave_ok}
 use Rattle.shm_replay.proofs.closing.leave.Goals.{After-new-2, After-call, After-unwrap, After-unwrap-2}
-use Rattle.shm_replay.proofs.Enough.{answers_in_time, leave_lasts}
-use Rattle.shm_replay.proofs.SomeSteps.{some_steps}
+use Rattle.shm_replay.proofs.{Enough.{answers_in_time, leave_lasts}, SomeSteps.some_steps}
 use Rattle.shm_replay.proofs.closing.leave.Goals as goal
 
 abbrev Machine : Type 0
 Machine = Calls LeaveState LeaveCall (Result (Unit {0}) EraSpent) LeaveAnswer
 
 abbrev machine : (c : After-new-2) → Machine
-machine c = calls_of leave_plan (leaving (member c.args.pool.now.start.geometry c.args.me.who))
+machine c = calls_of leave_steered (leaving (member c.args.pool.now.start.geometry c.args.me.who))
 
 state : (c : After-new-2) → c.new-2.result ≡ machine c
-state c = c.new-2.ensures ∙ ap (λ x. calls_of leave_plan x) (c.new.ensures ∙ ap leaving (λ i. record { geometry = c.requires.geometry i; who = c.args.me.who }))
+state c = c.new-2.ensures ∙ ap (λ x. calls_of leave_steered x) (c.new.ensures ∙ ap leaving (λ i. record { geometry = c.requires.geometry i; who = c.args.me.who }))
 
-fit : (c : After-new-2) → let r : Memo = memo_of c.args.pool.now c.args.me.who in fits_now (calls_control leave_parts leave_plan) (CallsFits leave_parts leave_plan) c.new-2.result r (memo_of (readied c.args.pool.now c.args.me.who) c.args.me.who)
+fit : (c : After-new-2) → let r : Memo = memo_of c.args.pool.now c.args.me.who in fits_now (calls_control leave_parts leave_steered) (CallsFits leave_parts leave_plan) c.new-2.result r (memo_of (readied c.args.pool.now c.args.me.who) c.args.me.who)
 fit c =
     let p = c.args.pool.now in
     let r : Memo = memo_of p c.args.me.who in
-    subst (λ (x : Machine). fits_now (calls_control leave_parts leave_plan) (CallsFits leave_parts leave_plan) x r (memo_of (readied p c.args.me.who) c.args.me.who)) (sym (state c))
-    (fits_acting (calls_control leave_parts leave_plan) (CallsFits leave_parts leave_plan) (CallsGives leave_parts leave_plan) c.args.me.who p (machine c) c.requires.here.acts refl (leave_fits p c.args.me.who c.geometry.ensures.run c.requires.who c.requires.here))
+    subst (λ (x : Machine). fits_now (calls_control leave_parts leave_steered) (CallsFits leave_parts leave_plan) x r (memo_of (readied p c.args.me.who) c.args.me.who)) (sym (state c))
+    (fits_acting (calls_control leave_parts leave_steered) (CallsFits leave_parts leave_plan) (CallsGives leave_parts leave_plan) c.args.me.who p (machine c) c.requires.here.acts refl (leave_fits p c.args.me.who c.geometry.ensures.run c.requires.who c.requires.here))
 
 pub call-requires-clause-fits : goal.call-requires-clause-fits
 call-requires-clause-fits c = (memo_of c.args.pool.now c.args.me.who, fit (goal.at.call-requires-clause-fits c).After-new-2)
@@ -47,18 +39,18 @@ enough c =
     let at = (goal.at.After-call c).After-new-2 in
     let p = c.args.pool.now in
     let who = c.args.me.who in
-    answers_in_time (calls_control leave_parts leave_plan) (CallsFits leave_parts leave_plan) c.new-2.result
-    (subst (λ (x : Machine). Lasts (calls_control leave_parts leave_plan) (CallsFits leave_parts leave_plan) x) (sym (state at)) (leave_lasts (member p.start.geometry who)))
+    answers_in_time (calls_control leave_parts leave_steered) (CallsFits leave_parts leave_plan) c.new-2.result
+    (subst (λ (x : Machine). Lasts (calls_control leave_parts leave_steered) (CallsFits leave_parts leave_plan) x) (sym (state at)) (leave_lasts (member p.start.geometry who)))
     who p c.call.new.self (memo_of p who) (is_some c.call.result) c.args.life.now.left c.call.new.life.left c.geometry.ensures.run (may_acting p who c.requires.here.acts)
-    (subst (λ (x : Machine). IsOf p who (calls_control leave_parts leave_plan) x) (sym (state at)) (refl, c.requires.who, refl))
-    (fit at) (ap (λ (x : Machine). (calls_control leave_parts leave_plan).fresh x) (state at)) c.call.ensures.ran c.call.ensures.took c.call.ensures.spent c.requires.enough
+    (subst (λ (x : Machine). IsOf p who (calls_control leave_parts leave_steered) x) (sym (state at)) (refl, c.requires.who, refl))
+    (fit at) (ap (λ (x : Machine). (calls_control leave_parts leave_steered).fresh x) (state at)) c.call.ensures.ran c.call.ensures.took c.call.ensures.spent c.requires.enough
 
 -- its clauses, where it has answered
 ran : (c : After-call) → Ran c.args.me.who true true c.args.pool.now c.call.new.self c.args.life.now.left c.call.new.life.left
 ran c =
     let at = (goal.at.After-call c).After-new-2 in
-    subst (λ (b : Bool). Ran c.args.me.who b true c.args.pool.now c.call.new.self c.args.life.now.left c.call.new.life.left) (ap (λ (x : Machine). (calls_control leave_parts leave_plan).fresh x) (state at))
-    (subst (λ (b : Bool). Ran c.args.me.who ((calls_control leave_parts leave_plan).fresh c.new-2.result) b c.args.pool.now c.call.new.self c.args.life.now.left c.call.new.life.left) (enough c).0 c.call.ensures.ran)
+    subst (λ (b : Bool). Ran c.args.me.who b true c.args.pool.now c.call.new.self c.args.life.now.left c.call.new.life.left) (ap (λ (x : Machine). (calls_control leave_parts leave_steered).fresh x) (state at))
+    (subst (λ (b : Bool). Ran c.args.me.who ((calls_control leave_parts leave_steered).fresh c.new-2.result) b c.args.pool.now c.call.new.self c.args.life.now.left c.call.new.life.left) (enough c).0 c.call.ensures.ran)
 
 -- where the machine was made
 abbrev new : (c : After-unwrap) → After-new-2
@@ -97,11 +89,11 @@ pub returns-clause-whole : goal.returns-clause-whole
 returns-clause-whole c =
     let call = called (goal.at.returns-clause-whole c).After-unwrap-2 in
     let r = ran call in
-    let took : Took (calls_control leave_parts leave_plan) c.args.me.who c.args.pool.now (machine (goal.at.After-call call).After-new-2) c.call.new.self = subst (λ (x : Machine). Took (calls_control leave_parts leave_plan) c.args.me.who c.args.pool.now x c.call.new.self) (state (goal.at.After-call call).After-new-2) (c.call.ensures.took (r.some refl)) in
+    let took : Took (calls_control leave_parts leave_steered) c.args.me.who c.args.pool.now (machine (goal.at.After-call call).After-new-2) c.call.new.self = subst (λ (x : Machine). Took (calls_control leave_parts leave_steered) c.args.me.who c.args.pool.now x c.call.new.self) (state (goal.at.After-call call).After-new-2) (c.call.ensures.took (r.some refl)) in
     record {
       start = r.start;
       took = took;
-      some = some_steps (calls_control leave_parts leave_plan) c.args.me.who c.args.pool.now _ c.call.new.self c.args.life.now.left c.call.new.life.left refl r took;
+      some = some_steps (calls_control leave_parts leave_steered) c.args.me.who c.args.pool.now _ c.call.new.self c.args.life.now.left c.call.new.life.left refl r took;
       over = r.over refl;
       run = r.run;
     }

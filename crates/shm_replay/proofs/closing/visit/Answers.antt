@@ -1,7 +1,6 @@
 use Rattle.std.proofs.Common.{◌∙◌}
 use Rattle.shm_plain.specs.Pools.{memo_of}
-use Rattle.shm_replay.proofs.Aside.{ran_aside}
-use Rattle.shm_replay.proofs.Visited.{table_part, visit_of, visit_told}
+use Rattle.shm_replay.proofs.{Aside.ran_aside, Visited.{table_part, visit_of, visit_told}}
 use Rattle.shm_replay.proofs.closing.visit.Goals as goal
 
 pub returns-clause-others : goal.returns-clause-others

@@ -1,20 +1,32 @@
-use Rattle.std.proofs.Common.{◌≡◌, ◌≢◌, ℕ, ◌<◌, true, sym, ap, ◌∙◌, subst, arith, inl, inr, add-one, zero-add, length, refl}
+use Rattle.std.proofs.Common.{◌≡◌, ◌≢◌, ℕ, ◌<◌, Bool, true, sym, ap, ◌∙◌, subst, arith, inl, inr, add-one, zero-add, length, refl}
+use Rattle.std.proofs.lemmas.{Bool.cases_eq, Option.{get_or_from_slice_get, slice_get_read}}
 use Rattle.std.specs.Prelude.{Some, None, slice_get, slice_index_or}
-use Rattle.std.proofs.lemmas.Bool.{cases_eq}
-use Rattle.std.proofs.lemmas.Option.{get_or_from_slice_get, slice_get_read}
-use Rattle.shm_graph.specs.declared.memo.Status.TheVariants.{Gone}
-use Rattle.shm_graph.specs.declared.run.Account.{Account}
-use Rattle.shm_graph.specs.Held.{is_loose}
+use Rattle.shm_graph.specs.{declared.{memo.Status.TheVariants.Gone, run.Account.Account}, Held.is_loose}
 use Rattle.shm_graph.specs.Runs.{account_at}
 use Rattle.shm_steps.specs.Reparting.{map_in}
 use Rattle.shm_plain.specs.Pools.{memo_of}
-use Rattle.shm_replay.specs.Closings.{AreVisits, HasTold, IsVisit, SameTable, is_dead}
-use Rattle.shm_replay.proofs.Visited.{table_then}
-use Rattle.shm_replay.proofs.Visiting.{visits_more}
+use Rattle.shm_replay.specs.Closings.{AreVisits, HasTold, IsVisit, MayVisit, SameTable, is_dead}
+use Rattle.shm_replay.proofs.{Visited.table_then, Visiting.visits_more}
 use Rattle.shm_replay.proofs.closing.visit_all.Goals as goal
 
+pub visit-requires-clause-may : goal.visit-requires-clause-may
+visit-requires-clause-may g c =
+    let l = c.loop-client in
+    let h = l.invariant in
+    let p = c.args.pool.now in
+    let xs = c.args.agents.now in
+    let x = c.index-agents-client.result in
+    let me : c.new.result.who ≡ l.client = c.new.ensures.who in
+    let within : l.client < length xs = (let t = c.loop-client-test.true in let n = c.requires.many in let k = h.clients in omega arith) in
+    let few : l.client < p.start.geometry.clients = (let t = c.loop-client-test.true in let k = h.clients in omega arith) in
+    let at : slice_get xs l.client ≡ Some x = slice_get_read xs (length xs) l.client x refl within c.index-agents-client.is in
+    let dead : is_dead (slice_index_or xs l.client None) ≡ c.is_dead-dead.result = ap is_dead (get_or_from_slice_get xs l.client x None at) ∙ sym c.is_dead-dead.ensures in
+    let there : MayVisit c.is_dead-dead.result (memo_of p l.client) = subst (λ (b : Bool). MayVisit b (memo_of p l.client)) dead (c.requires.may l.client few) in
+    let here : MayVisit c.is_dead-dead.result (memo_of l.pool l.client) = subst (λ (a : Account). MayVisit c.is_dead-dead.result a.memo) (sym (h.later l.client (omega arith))) there in
+    subst (λ (n : ℕ). MayVisit c.is_dead-dead.result (memo_of l.pool n)) (sym me) here
+
 pub loop-client-preserved : goal.loop-client-preserved
-loop-client-preserved c =
+loop-client-preserved g c =
     let l = c.loop-client in
     let h = l.invariant in
     let v = c.visit.ensures in
@@ -52,4 +64,4 @@ loop-client-preserved c =
     }
 
 pub returns-clause-table : goal.returns-clause-table
-returns-clause-table c k l = c.loop-client.invariant.table k
+returns-clause-table g c k l = c.loop-client.invariant.table k

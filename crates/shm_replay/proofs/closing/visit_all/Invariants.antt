@@ -1,13 +1,12 @@
 use Rattle.std.proofs.Common.{◌≡◌, ℕ, ◌<◌, ◌≤◌, true}
 use Rattle.std.specs.Prelude.{None, slice_index_or}
-use Rattle.shm_graph.specs.declared.memo.Status.TheVariants.{Gone}
-use Rattle.shm_graph.specs.Runs.{account_at}
+use Rattle.shm_graph.specs.{declared.memo.Status.TheVariants.Gone, Runs.account_at}
 use Rattle.shm_plain.specs.Pools.{IsRun, memo_of}
 use Rattle.shm_replay.specs.Closings.{AreVisits, HasTold, SameTable, is_dead}
 use Rattle.shm_replay.proofs.closing.visit_all.Given as goal
 
 abbrev pub invariant-loop-client : goal.invariant-loop-client
-invariant-loop-client l = record {
+invariant-loop-client g l = record {
   geometry : l.geometry ≡ l.fn.pool.start.geometry;
   clients : l.client-end ≡ l.fn.pool.start.geometry.clients;
   start : l.pool.start ≡ l.fn.pool.start;

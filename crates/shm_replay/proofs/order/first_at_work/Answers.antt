@@ -1,16 +1,14 @@
-use Rattle.std.proofs.Common.{◌≡◌, ℕ, false, sym, ap, ◌∙◌, subst, arith, inl, inr}
+use Rattle.std.proofs.{Common.{◌≡◌, ℕ, false, sym, ap, ◌∙◌, subst, arith, inl, inr}, lemmas.Bool.{cases_eq, cases_lt}}
 use Rattle.std.specs.Prelude.{None, slice_index_or}
-use Rattle.std.proofs.lemmas.Bool.{cases_eq, cases_lt}
 use Rattle.shm_replay.specs.AtWork.{has_work}
-use Rattle.shm_replay.proofs.Lone.{beyond}
-use Rattle.shm_replay.proofs.Seating.{any_or}
+use Rattle.shm_replay.proofs.{Lone.beyond, Seating.any_or}
 use Rattle.shm_replay.proofs.order.first_at_work.Goals as goal
 
 pub loop-who-init : goal.loop-who-init
-loop-who-init c = record { before = λ k a b. absurd (omega arith) }
+loop-who-init g c = record { before = λ k a b. absurd (omega arith) }
 
 pub loop-who-preserved : goal.loop-who-preserved
-loop-who-preserved c = record {
+loop-who-preserved g c = record {
   before = λ k a b.
       let xs = c.args.agents.now in
       let i = c.loop-who.who in
@@ -23,7 +21,7 @@ loop-who-preserved c = record {
 }
 
 pub returns : goal.returns
-returns c k a =
+returns g c k a =
     let xs = c.args.agents.now in
     elim (cases_lt k c.loop-who.who) [
       | inl few ↦ c.loop-who.invariant.before k a few

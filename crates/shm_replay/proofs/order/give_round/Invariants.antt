@@ -1,11 +1,9 @@
 use Rattle.std.proofs.Common.{◌≡◌, ℕ, ◌<◌, ◌≤◌, true, false}
-use Rattle.shm_replay.specs.Orders.{from_on}
-use Rattle.shm_replay.specs.Seats.{AreSeated, turns_left}
-use Rattle.shm_replay.specs.Turns.{given, is_busy}
+use Rattle.shm_replay.specs.{Orders.from_on, Seats.{AreSeated, turns_left}, Turns.{given, is_busy}}
 use Rattle.shm_replay.proofs.order.give_round.Given as goal
 
 abbrev pub invariant-loop-who : goal.invariant-loop-who
-invariant-loop-who l = record {
+invariant-loop-who g l = record {
   seated : AreSeated l.trace l.pool l.agents;
   turns : l.pool ≡ given l.trace l.fn.pool (from_on 0 l.who);
   life : l.some ≡ true → turns_left l.trace.scripts l.agents < turns_left l.trace.scripts l.fn.agents;

@@ -1,11 +1,10 @@
 use Rattle.std.proofs.Common.{◌≡◌, ◌≢◌, ℕ}
 use Rattle.shm_graph.specs.Runs.{account_at}
-use Rattle.shm_replay.specs.Seats.{IsSeat}
-use Rattle.shm_replay.specs.Turns.{in_a_row}
+use Rattle.shm_replay.specs.{Seats.IsSeat, Turns.in_a_row}
 use Rattle.shm_replay.proofs.order.give_row.Given as goal
 
 abbrev pub invariant-loop-turn : goal.invariant-loop-turn
-invariant-loop-turn l = record {
+invariant-loop-turn g l = record {
   me : l.agents.me ≡ l.fn.agents.me;
   seat : IsSeat l.trace l.pool l.fn.agents.me.who l.agents;
   given : l.pool ≡ in_a_row l.trace l.fn.pool l.fn.agents.me.who l._turn;

@@ -1,14 +1,13 @@
 use Rattle.std.proofs.Common.{◌≡◌, ℕ, ◌+◌, ◌≤◌, false, true, length, refl, sym, ap, ◌∙◌, subst, arith, inl, inr, rules}
 use Rattle.shm_graph.specs.declared.ask.Me.{Me}
 use Rattle.shm_agents.specs.Agents.{is_client}
-use Rattle.shm_replay.specs.Seats.{IsSeat}
-use Rattle.shm_replay.specs.Turns.{answered, in_a_row}
+use Rattle.shm_replay.specs.{Seats.IsSeat, Turns.{answered, in_a_row}}
 use Rattle.shm_replay.proofs.Giving.{row_more}
 use Rattle.shm_replay.proofs.Seating.{Goes, goes_more, seat_answered, until_left, until_many, until_more}
 use Rattle.shm_replay.proofs.order.give_until_answered.Goals as goal
 
 pub loop-turn-init : goal.loop-turn-init
-loop-turn-init c =
+loop-turn-init g c =
     record {
       me = refl;
       seat = c.requires.seat;
@@ -21,39 +20,39 @@ loop-turn-init c =
     }
 
 pub give_turn-requires : goal.give_turn-requires
-give_turn-requires c =
+give_turn-requires g c =
     let h = c.loop-turn.invariant in
     record { seat = subst (λ (n : ℕ). IsSeat c.args.trace.now c.loop-turn.pool n c.loop-turn.agents) (sym (ap (λ (m : Me). m.who) h.me)) h.seat }
 
 pub loop-turn-preserved : goal.loop-turn-preserved
-loop-turn-preserved c =
+loop-turn-preserved g c =
     let l = c.loop-turn in
     let h = l.invariant in
     let t = c.args.trace.now in
     let e : l.agents.me.who ≡ c.args.agents.now.me.who = ap (λ (m : Me). m.who) h.me in
-    let g = c.give_turn.ensures in
+    let got = c.give_turn.ensures in
     let here : is_client l.agents ≡ true = sym c.is_client.ensures ∙ (let yes : c.is_client.result ≡ true = search rules in yes) in
     let same : length l.agents.entries ≡ c.answered-answered.result = sym c.answered-now.ensures ∙ c.if-now-answered.false in
     record {
-      me = g.me ∙ h.me;
-      seat = subst (λ (n : ℕ). IsSeat t c.give_turn.new.pool n c.give_turn.new.agents) e g.seat;
-      given = row_more t c.args.pool.now l.pool c.give_turn.new.pool c.args.agents.now.me.who l._turn h.given (subst (λ (n : ℕ). c.give_turn.new.pool ≡ in_a_row t l.pool n 1) e g.given);
-      others = λ d o. g.others d (λ f. o (f ∙ e)) ∙ h.others d o;
-      start = g.start ∙ h.start;
+      me = got.me ∙ h.me;
+      seat = subst (λ (n : ℕ). IsSeat t c.give_turn.new.pool n c.give_turn.new.agents) e got.seat;
+      given = row_more t c.args.pool.now l.pool c.give_turn.new.pool c.args.agents.now.me.who l._turn h.given (subst (λ (n : ℕ). c.give_turn.new.pool ≡ in_a_row t l.pool n 1) e got.given);
+      others = λ d o. got.others d (λ f. o (f ∙ e)) ∙ h.others d o;
+      start = got.start ∙ h.start;
       before = λ then. h.before here;
-      near = λ then. elim (g.grows here then) [ inl f ↦ inl (f ∙ same) | inr f ↦ inr (f ∙ ap (λ (n : ℕ). n + 1) same) ];
+      near = λ then. elim (got.grows here then) [ inl f ↦ inl (f ∙ same) | inr f ↦ inr (f ∙ ap (λ (n : ℕ). n + 1) same) ];
       going = goes_more t c.args.pool.now c.args.agents.now.me.who l._turn l.pool l.agents h.going h.given h.seat here (same ∙ h.before here);
     }
 
 pub returns-then-not-is_client-clause-given : goal.returns-then-not-is_client-clause-given
-returns-then-not-is_client-clause-given c =
+returns-then-not-is_client-clause-given g c =
     let l = c.loop-turn in
     let h = l.invariant in
     let few : l._turn ≤ 100000 = omega arith in
     (l._turn, until_left c.args.trace.now c.args.pool.now c.args.agents.now.me.who l._turn l.pool l.agents few h.going h.given h.seat (sym c.is_client.ensures ∙ (let no : c.is_client.result ≡ false = search rules in no)), h.given)
 
 pub returns-then-now-answered-clause-given : goal.returns-then-now-answered-clause-given
-returns-then-now-answered-clause-given c =
+returns-then-now-answered-clause-given g c =
     let l = c.loop-turn in
     let h = l.invariant in
     let few : l._turn ≤ 100000 = omega arith in
@@ -62,7 +61,7 @@ returns-then-now-answered-clause-given c =
     (l._turn, until_more c.args.trace.now c.args.pool.now c.args.agents.now.me.who l._turn l.pool l.agents few h.going h.given h.seat here more, h.given)
 
 pub returns-clause-given : goal.returns-clause-given
-returns-clause-given c =
+returns-clause-given g c =
     let l = c.loop-turn in
     let h = l.invariant in
     let t = c.args.trace.now in

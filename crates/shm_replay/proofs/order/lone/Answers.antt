@@ -1,9 +1,8 @@
-use Rattle.std.proofs.Common.{arith, inl, inr}
-use Rattle.std.proofs.lemmas.Bool.{cases_lt}
+use Rattle.std.proofs.{Common.{arith, inl, inr}, lemmas.Bool.cases_lt}
 use Rattle.shm_replay.proofs.order.lone.Goals as goal
 
 pub returns-in-None : goal.returns-in-None
-returns-in-None c =
+returns-in-None g c =
     let first = c.in_ok-who.ensures in (
       first.0,
       λ k o. elim (cases_lt k c.in_ok-who.who) [

@@ -1,7 +1,6 @@
-use Rattle.std.proofs.Common.{◌≡◌, length, refl, sym, ap, ◌∙◌, arith, inl, inr}
-use Rattle.std.specs.Prelude.{Some, slice_get}
-use Rattle.std.proofs.lemmas.Bool.{cases_eq}
+use Rattle.std.proofs.{Common.{◌≡◌, length, refl, sym, ap, ◌∙◌, arith, inl, inr}, lemmas.Bool.cases_eq}
 use Rattle.std.proofs.lemmas.Option.{slice_get_read, slice_get_within}
+use Rattle.std.specs.Prelude.{Some, slice_get}
 use Rattle.shm_script.specs.Values.{Scripted}
 use Rattle.shm_replay.proofs.Gathering.{same_some, script_first, script_none}
 use Rattle.shm_replay.proofs.replaying.script_of.Goals as goal

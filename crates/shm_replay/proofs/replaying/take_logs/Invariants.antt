@@ -5,7 +5,7 @@ use Rattle.shm_replay.specs.Gathered.{logs_by}
 use Rattle.shm_replay.proofs.replaying.take_logs.Given as goal
 
 abbrev pub invariant-loop-script : goal.invariant-loop-script
-invariant-loop-script l = record {
+invariant-loop-script g l = record {
   many : length l.agents ≡ length l.fn.agents;
   logs : l.logs.items ≡ logs_by (take l.script-index l.trace.scripts) l.fn.agents;
   few : vec_len l.logs ≤ l.script-index;

@@ -1,10 +1,7 @@
-use Rattle.std.proofs.Common.{sym, ap, ◌∙◌, arith}
-use Rattle.std.proofs.lemmas.Bool.{not-true, not-false}
-use Rattle.shm_words.specs.Headers.{header_of}
-use Rattle.shm_words.specs.Tags.{tag_of}
+use Rattle.std.proofs.{Common.{sym, ap, ◌∙◌, arith}, lemmas.Bool.{not-true, not-false}}
+use Rattle.shm_words.specs.{Headers.header_of, Tags.tag_of}
 use Rattle.shm_words.proofs.Placing.{total_most_wide}
-use Rattle.shm_graph.proofs.Spots.Spotting.{block_within}
-use Rattle.shm_graph.proofs.Spots.WordsAt.{refs_dead}
+use Rattle.shm_graph.proofs.Spots.{Spotting.block_within, WordsAt.refs_dead}
 use Rattle.shm_report.proofs.PoolReading.{refs_live, block_tag, has_tag}
 use Rattle.shm_report.proofs.pool_words.block_refs.Goals as goal
 

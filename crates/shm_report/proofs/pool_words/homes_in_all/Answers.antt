@@ -1,12 +1,9 @@
-use Rattle.std.proofs.Common.{◌≡◌, ◌<◌, ◌==◌, cond, sym, ap, ◌∙◌, arith}
-use Rattle.std.proofs.Common.{get_or}
-use Rattle.shm_graph.specs.declared.spot.Spot.TheVariants.{Home}
-use Rattle.shm_graph.specs.Spots.{see}
-use Rattle.shm_graph.specs.References.{sum_below, homes_in_all}
+use Rattle.std.proofs.Common.{◌≡◌, ◌<◌, ◌==◌, cond, sym, ap, ◌∙◌, arith, get_or}
+use Rattle.shm_graph.specs.{declared.spot.Spot.TheVariants.Home, Spots.see, References.{sum_below, homes_in_all}}
 use Rattle.shm_graph.proofs.Spots.Summing.{sum_up, sum_same}
 use Rattle.shm_report.proofs.PoolReading.{counts_one, counts_none, home_word}
-use Rattle.shm_report.proofs.pool_words.homes_in_all.Goals as goal
 use Rattle.shm_report.proofs.pool_words.homes_in_all.Goals.{then-word-ne0, else-word-ne0}
+use Rattle.shm_report.proofs.pool_words.homes_in_all.Goals as goal
 
 pub loop-c-preserved : goal.loop-c-preserved
 loop-c-preserved c =

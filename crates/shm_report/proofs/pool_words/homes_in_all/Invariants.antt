@@ -1,7 +1,5 @@
 use Rattle.std.proofs.Common.{◌≡◌, ◌≤◌, ◌==◌, cond}
-use Rattle.shm_graph.specs.declared.spot.Spot.TheVariants.{Home}
-use Rattle.shm_graph.specs.Spots.{see}
-use Rattle.shm_graph.specs.References.{sum_below}
+use Rattle.shm_graph.specs.{declared.spot.Spot.TheVariants.Home, Spots.see, References.sum_below}
 use Rattle.shm_report.proofs.pool_words.homes_in_all.Given as goal
 
 abbrev pub invariant-loop-c : goal.invariant-loop-c

@@ -1,11 +1,8 @@
 use Rattle.std.proofs.Common.{refl, sym, ap, ◌∙◌, inl, inr, arith}
-use Rattle.shm_graph.specs.declared.spot.Spot.TheVariants.{Body}
-use Rattle.shm_graph.specs.Spots.{see, classes_in}
+use Rattle.shm_graph.specs.{declared.spot.Spot.TheVariants.Body, Spots.{see, classes_in}}
 use Rattle.shm_graph.specs.References.{words_of, references}
-use Rattle.shm_graph.proofs.Spots.Seeing.{see_at}
-use Rattle.shm_graph.proofs.Spots.WordsAt.{other_reference}
-use Rattle.shm_report.proofs.Counting.{not_body}
-use Rattle.shm_report.proofs.PoolReading.{zero_word}
+use Rattle.shm_graph.proofs.Spots.{Seeing.see_at, WordsAt.other_reference}
+use Rattle.shm_report.proofs.{Counting.not_body, PoolReading.zero_word}
 use Rattle.shm_report.proofs.pool_words.reference_at.Goals as goal
 
 pub returns-then-word-eq0 : goal.returns-then-word-eq0

@@ -1,8 +1,6 @@
 use Rattle.std.proofs.Common.{◌≡◌, ◌<◌}
-use Rattle.shm_graph.specs.declared.spot.Spot.TheVariants.{Home}
-use Rattle.shm_graph.specs.Spots.{see}
-use Rattle.shm_report.specs.Report.{add_entries, entries_below}
-use Rattle.shm_report.specs.TableRows.{EachTable}
+use Rattle.shm_graph.specs.{declared.spot.Spot.TheVariants.Home, Spots.see}
+use Rattle.shm_report.specs.{Report.{add_entries, entries_below}, TableRows.EachTable}
 use Rattle.shm_report.proofs.table_rows.add_buckets.Given as goal
 
 abbrev pub invariant-loop-bucket : goal.invariant-loop-bucket

@@ -1,7 +1,6 @@
 use Rattle.std.proofs.Common.{List}
 use Rattle.shm_graph.specs.declared.table.Entry.{Entry}
-use Rattle.shm_report.specs.PoolWords.{IsCleanPool}
-use Rattle.shm_report.specs.TableRows.{IsChainAt}
+use Rattle.shm_report.specs.{PoolWords.IsCleanPool, TableRows.IsChainAt}
 use Rattle.shm_report.proofs.ChainReading.{Walks}
 use Rattle.shm_report.proofs.table_rows.add_chain.Given as goal
 

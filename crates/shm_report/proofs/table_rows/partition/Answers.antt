@@ -1,8 +1,8 @@
 use Rattle.std.proofs.Common.{◌<◌, ap, ◌∙◌, arith}
 use Rattle.shm_report.specs.Report.{add_entries, entries_below}
 use Rattle.shm_report.proofs.TableReading.{home_read, no_entries}
-use Rattle.shm_report.proofs.table_rows.partition.Goals as goal
 use Rattle.shm_report.proofs.table_rows.partition.Goals.{then-home-ne0+in_ok-add_buckets, else-home-ne0}
+use Rattle.shm_report.proofs.table_rows.partition.Goals as goal
 
 pub returns : goal.returns
 returns c = λ pool table holds.

@@ -1,7 +1,5 @@
-use Rattle.std.proofs.Common.{◌++◌, map, ap, ◌∙◌, sym}
-use Rattle.std.proofs.lemmas.List.{append-nil}
-use Rattle.shm_report.specs.Report.{row_of}
-use Rattle.shm_report.specs.TableRows.{rows_seen}
+use Rattle.std.proofs.{Common.{◌++◌, map, ap, ◌∙◌, sym}, lemmas.List.append-nil}
+use Rattle.shm_report.specs.{Report.row_of, TableRows.rows_seen}
 use Rattle.shm_report.proofs.table_rows.push_rows.Goals as goal
 
 pub returns : goal.returns

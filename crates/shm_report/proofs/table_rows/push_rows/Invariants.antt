@@ -1,6 +1,5 @@
 use Rattle.std.proofs.Common.{◌≡◌, ◌++◌, map}
-use Rattle.shm_report.specs.Report.{in_order, row_of}
-use Rattle.shm_report.specs.TableRows.{EachTable, rows_seen}
+use Rattle.shm_report.specs.{Report.{in_order, row_of}, TableRows.{EachTable, rows_seen}}
 use Rattle.shm_report.proofs.table_rows.push_rows.Given as goal
 
 abbrev pub invariant-loop-key : goal.invariant-loop-key

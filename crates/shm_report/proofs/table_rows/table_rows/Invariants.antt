@@ -1,6 +1,5 @@
 use Rattle.std.proofs.Common.{◌≡◌}
-use Rattle.shm_report.specs.Report.{rows_below}
-use Rattle.shm_report.specs.TableRows.{EachTable, rows_seen}
+use Rattle.shm_report.specs.{Report.rows_below, TableRows.{EachTable, rows_seen}}
 use Rattle.shm_report.proofs.table_rows.table_rows.Given as goal
 
 abbrev pub invariant-loop-c : goal.invariant-loop-c

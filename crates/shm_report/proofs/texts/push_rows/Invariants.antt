@@ -1,7 +1,6 @@
 use Rattle.std.proofs.Common.{◌≡◌, ◌++◌, take}
 use Rattle.std.specs.List.{flat_map}
-use Rattle.shm_report.specs.Report.{row_line}
-use Rattle.shm_report.specs.TableRows.{rows_seen}
+use Rattle.shm_report.specs.{Report.row_line, TableRows.rows_seen}
 use Rattle.shm_report.proofs.texts.push_rows.Given as goal
 
 abbrev pub invariant-loop-row : goal.invariant-loop-row

@@ -1,8 +1,6 @@
-use Rattle.std.proofs.Common.{◌<◌, [], eqb, length, get_or, sym, ap, ◌∙◌, arith}
+use Rattle.std.proofs.{Common.{◌<◌, [], eqb, length, get_or, sym, ap, ◌∙◌, arith}, lemmas.List.{get_or-map, length-map}}
 use Rattle.std.specs.List.{list_any}
-use Rattle.std.proofs.lemmas.List.{get_or-map, length-map}
-use Rattle.shm_report.specs.Report.{named_from}
-use Rattle.shm_report.specs.TableRows.{row_seen, rows_seen}
+use Rattle.shm_report.specs.{Report.named_from, TableRows.{row_seen, rows_seen}}
 use Rattle.shm_report.proofs.ValueNaming.{named_at}
 use Rattle.shm_report.proofs.texts.push_table.Goals as goal
 

@@ -1,6 +1,5 @@
 use Rattle.std.proofs.Common.{◌≡◌, ◌++◌, ◌+◌, drop}
-use Rattle.shm_graph.specs.Spots.{see}
-use Rattle.shm_graph.specs.Blocks.{headers}
+use Rattle.shm_graph.specs.{Spots.see, Blocks.headers}
 use Rattle.shm_report.specs.Report.{value_lines}
 use Rattle.shm_report.proofs.texts.push_values.Given as goal
 

@@ -1,6 +1,5 @@
 use Rattle.std.proofs.Common.{◌≡◌, false, List, [], ap}
-use Rattle.shm_script.specs.Values.{Scripted, Traced}
-use Rattle.shm_script.specs.Drawing.{drawn_scripts, first}
+use Rattle.shm_script.specs.{Values.{Scripted, Traced}, Drawing.{drawn_scripts, first}}
 use Rattle.shm_script.proofs.Drawn.{script_goes_on, scripts_done, trace_fits}
 use Rattle.shm_script.proofs.draw.generate.Goals as goal
 

@@ -1,5 +1,4 @@
-use Rattle.shm_script.specs.Pieces.{pieces_left}
-use Rattle.shm_script.specs.Shapes.{items_of}
+use Rattle.shm_script.specs.{Pieces.pieces_left, Shapes.items_of}
 use Rattle.shm_script.proofs.ManyWords.{items_go_on, items_fail, items_end}
 use Rattle.shm_script.proofs.line_shape.items.Goals as goal
 

@@ -1,6 +1,5 @@
 use Rattle.std.proofs.Common.{◌≡◌}
-use Rattle.shm_script.specs.Pieces.{pieces_left, room_left}
-use Rattle.shm_script.specs.Shapes.{items_of}
+use Rattle.shm_script.specs.{Pieces.{pieces_left, room_left}, Shapes.items_of}
 use Rattle.shm_script.proofs.ManyWords.{with_front}
 use Rattle.shm_script.proofs.line_shape.items.Given as goal
 

@@ -1,5 +1,4 @@
-use Rattle.shm_script.specs.Pieces.{pieces_left}
-use Rattle.shm_script.specs.Shapes.{numbers_of}
+use Rattle.shm_script.specs.{Pieces.pieces_left, Shapes.numbers_of}
 use Rattle.shm_script.proofs.ManyWords.{numbers_go_on, numbers_fail, numbers_end}
 use Rattle.shm_script.proofs.line_shape.numbers.Goals as goal
 

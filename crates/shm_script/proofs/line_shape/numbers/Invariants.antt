@@ -1,6 +1,5 @@
 use Rattle.std.proofs.Common.{◌≡◌}
-use Rattle.shm_script.specs.Pieces.{pieces_left, room_left}
-use Rattle.shm_script.specs.Shapes.{numbers_of}
+use Rattle.shm_script.specs.{Pieces.{pieces_left, room_left}, Shapes.numbers_of}
 use Rattle.shm_script.proofs.ManyWords.{with_front}
 use Rattle.shm_script.proofs.line_shape.numbers.Given as goal
 

@@ -1,5 +1,4 @@
-use Rattle.shm_script.proofs.ReadLoop.{read_found, read_fault}
-use Rattle.shm_script.proofs.Complete.{read_only}
+use Rattle.shm_script.proofs.{ReadLoop.{read_found, read_fault}, Complete.read_only}
 use Rattle.shm_script.proofs.parsing.parse.Goals as goal
 
 pub returns-clause-found : goal.returns-clause-found

@@ -1,10 +1,7 @@
-use Rattle.std.proofs.Common.{◌∙◌, sym, arith, Ok, ap}
-use Rattle.std.specs.Prelude.{◌==◌}
-use Rattle.std.specs.List.{slice_split}
-use Rattle.std.proofs.lemmas.Result.{err_from_is_err_and}
+use Rattle.std.proofs.{Common.{◌∙◌, sym, arith, Ok, ap}, lemmas.Result.err_from_is_err_and}
+use Rattle.std.specs.{Prelude.◌==◌, List.slice_split}
 use Rattle.shm_script.specs.Drafts.{draft_none, reading, trace_of, traced}
-use Rattle.shm_script.proofs.Whole.{trace_sound}
-use Rattle.shm_script.proofs.ReadLoop.{take_stops, take_goes, end_stops, end_goes, short_trace}
+use Rattle.shm_script.proofs.{Whole.trace_sound, ReadLoop.{take_stops, take_goes, end_stops, end_goes, short_trace}}
 use Rattle.shm_script.proofs.parsing.read.Goals as goal
 
 pub returns-in_err-take : goal.returns-in_err-take

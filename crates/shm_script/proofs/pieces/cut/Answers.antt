@@ -1,6 +1,6 @@
 use Rattle.std.proofs.Common.{◌≡◌, ◌+◌, ◌-◌, List, ℕ, Some, None, length, take, drop, arith, ◌∙◌}
-use Rattle.std.specs.Prelude.{◌==◌}
 use Rattle.std.proofs.lemmas.List.{take_all, length-drop, drop-drop}
+use Rattle.std.specs.Prelude.{◌==◌}
 use Rattle.shm_script.proofs.Cuts.{cut_is}
 use Rattle.shm_script.proofs.pieces.cut.Goals as goal
 

@@ -1,6 +1,4 @@
-use Rattle.shm_steps.proofs.RaiseBlock.{block_raised}
-use Rattle.shm_steps.proofs.LowerBlock.{block_lowered}
-use Rattle.shm_steps.proofs.ChangeRaised.{change_raised}
+use Rattle.shm_steps.proofs.{RaiseBlock.block_raised, LowerBlock.block_lowered, ChangeRaised.change_raised}
 use Rattle.shm_steps.proofs.ChangeLowered.{change_lowered}
 use Rattle.shm_steps.proofs.exchanging.header_exchanges.Goals as goal
 

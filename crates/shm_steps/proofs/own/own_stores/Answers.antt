@@ -1,7 +1,5 @@
-use Rattle.shm_steps.proofs.OwnStores.{row_stored, hold_stored}
-use Rattle.shm_steps.proofs.OwnStoresEra.{era_closed}
-use Rattle.shm_steps.proofs.OwnStoresLanes.{tail_stored, head_stored}
-use Rattle.shm_steps.proofs.OwnStoresRedo.{more_stored, redo_stored}
+use Rattle.shm_steps.proofs.{OwnStores.{row_stored, hold_stored}, OwnStoresEra.era_closed}
+use Rattle.shm_steps.proofs.{OwnStoresLanes.{tail_stored, head_stored}, OwnStoresRedo.{more_stored, redo_stored}}
 use Rattle.shm_steps.proofs.own.own_stores.Goals as goal
 
 pub returns : goal.returns

@@ -1,8 +1,6 @@
 use Rattle.std.specs.Prelude.{false}
 use Rattle.std.proofs.Common.{refl}
-use Rattle.shm_steps.proofs.Words.Blocks.{reference_load}
-use Rattle.shm_steps.proofs.Words.Own.{root_load}
-use Rattle.shm_steps.proofs.Words.Queues.{head_slot_load, tail_store}
+use Rattle.shm_steps.proofs.Words.{Blocks.reference_load, Own.root_load, Queues.{head_slot_load, tail_store}}
 use Rattle.shm_steps.proofs.Words.Shared.{latch_give, latch_take}
 use Rattle.shm_steps.proofs.parts.word_parts.Goals as goal
 

@@ -1,7 +1,5 @@
-use Rattle.shm_steps.proofs.PageSteps.{claimed, given_up, class_stored, latched}
-use Rattle.shm_steps.proofs.DyingSteps.{frees, links}
-use Rattle.shm_steps.proofs.Allocated.{allocates}
-use Rattle.shm_steps.proofs.Prepared.{tag_prepares, body_prepares}
+use Rattle.shm_steps.proofs.{PageSteps.{claimed, given_up, class_stored, latched}, DyingSteps.{frees, links}}
+use Rattle.shm_steps.proofs.{Allocated.allocates, Prepared.{tag_prepares, body_prepares}}
 use Rattle.shm_steps.proofs.preparing.preparing_steps.Goals as goal
 
 pub returns-clause-claim : goal.returns-clause-claim

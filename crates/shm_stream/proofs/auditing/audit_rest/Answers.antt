@@ -2,9 +2,8 @@ use Rattle.std.proofs.Common.{◌≡◌, ◌≢◌, ◌+◌, ◌-◌, ◌*◌, �
 use Rattle.std.specs.Prelude.{Err}
 use Rattle.shm_words.specs.Layout.{address, bodies}
 use Rattle.shm_words.proofs.Placing.{total_most_wide}
+use Rattle.shm_audit.specs.{Faults.image_len, Images.{numbers, numbers_in}}
 use Rattle.shm_audit.specs.declared.fault.ImageFault.TheVariants as fault
-use Rattle.shm_audit.specs.Faults.{image_len}
-use Rattle.shm_audit.specs.Images.{numbers, numbers_in}
 use Rattle.shm_io.specs.Reading.{TakesFront}
 use Rattle.shm_io.proofs.ReadSteps.{LosesFront-then, TakesFront-short, TakesFront-then}
 use Rattle.shm_stream.specs.Audits.{JudgesRest}

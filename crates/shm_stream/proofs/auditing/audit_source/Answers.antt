@@ -1,8 +1,7 @@
 use Rattle.std.proofs.Common.{◌≡◌, ◌<◌, ◌++◌, List, ℕ, length, ap, subst, ◌∙◌, arith}
 use Rattle.std.specs.Prelude.{Some}
+use Rattle.shm_audit.specs.{Faults.frame_fault_of, Frames.Announces}
 use Rattle.shm_audit.specs.declared.fault.ImageFault.TheVariants as fault
-use Rattle.shm_audit.specs.Faults.{frame_fault_of}
-use Rattle.shm_audit.specs.Frames.{Announces}
 use Rattle.shm_io.proofs.ReadSteps.{LosesFront-then, TakesFront-short}
 use Rattle.shm_stream.proofs.Pieces.{if_ok_more, judged_short, on_err, on_err_more, whole_faulty, whole_judged}
 use Rattle.shm_stream.proofs.auditing.audit_source.Goals as goal

@@ -1,8 +1,7 @@
 use Rattle.std.proofs.Common.{◌≡◌, ◌+◌, ◌*◌, ◌++◌, List, ℕ, [], length, length-append, take, refl, sym, ap, subst, ◌∙◌, arith}
 use Rattle.std.proofs.lemmas.List.{length-replicate, length-take-le, take_all}
 use Rattle.shm_words.specs.Layout.{bodies}
-use Rattle.shm_audit.specs.Images.{numbers, numbers_in}
-use Rattle.shm_audit.specs.Tallies.{AreFrom}
+use Rattle.shm_audit.specs.{Images.{numbers, numbers_in}, Tallies.AreFrom}
 use Rattle.shm_io.specs.Reading.{TakesFront}
 use Rattle.shm_io.proofs.ReadSteps.{TakesFront-none, TakesFront-short, TakesFront-then}
 use Rattle.shm_stream.proofs.Pieces.{fed_more, fed_none}

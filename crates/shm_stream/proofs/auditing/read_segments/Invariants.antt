@@ -1,8 +1,6 @@
 use Rattle.std.proofs.Common.{◌≡◌, ◌+◌, ◌*◌, ℕ, List, length}
 use Rattle.shm_words.specs.Layout.{bodies}
-use Rattle.shm_audit.specs.Images.{numbers, numbers_in}
-use Rattle.shm_audit.specs.Streams.{Seen}
-use Rattle.shm_audit.specs.Tallies.{AreFrom}
+use Rattle.shm_audit.specs.{Images.{numbers, numbers_in}, Streams.Seen, Tallies.AreFrom}
 use Rattle.shm_io.specs.Reading.{TakesFront}
 use Rattle.shm_stream.proofs.auditing.read_segments.Given as goal
 

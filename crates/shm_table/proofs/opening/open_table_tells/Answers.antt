@@ -1,14 +1,9 @@
 use Rattle.std.proofs.Common.{◌≡◌, ℕ}
-use Rattle.shm_graph.specs.declared.ask.Me.{Me}
-use Rattle.shm_graph.specs.declared.memo.Memo.{Memo}
-use Rattle.shm_graph.specs.Events.{Event}
 use Rattle.std.specs.Prelude.{List}
+use Rattle.shm_graph.specs.{declared.{ask.Me.Me, memo.Memo.Memo}, Events.Event}
 use Rattle.shm_count.specs.Tear.Events.{Visit}
-use Rattle.shm_alloc.specs.declared.alloc.AllocFault.{AllocFault}
-use Rattle.shm_alloc.specs.declared.alloc.AllocFault.TheVariants.{EraSpent, RootsFull, Full}
-use Rattle.shm_table.specs.declared.answer.PutFault.TheVariants.{CountFull}
-use Rattle.shm_table.specs.Answers.{made_fault}
-use Rattle.shm_table.specs.OpenTable.{OpenLeft}
+use Rattle.shm_alloc.specs.declared.alloc.AllocFault.{AllocFault, TheVariants.{EraSpent, RootsFull, Full}}
+use Rattle.shm_table.specs.{declared.answer.PutFault.TheVariants.CountFull, Answers.made_fault, OpenTable.OpenLeft}
 use Rattle.shm_table.specs.OpenTable.OpenLeft.{Undropped, Unmade, Unnamed}
 use Rattle.shm_table.proofs.opening.open_table_tells.Goals as goal
 

@@ -1,19 +1,12 @@
 use Rattle.std.proofs.Common.{◌≡◌, ◌≢◌, ℕ, zero, suc, ◌-◌, ◌^◌, ◌<◌, refl, arith, true, List, [], None}
 use Rattle.std.proofs.lemmas.Bool.{false≢true}
-use Rattle.shm_graph.specs.declared.memo.Memo.{Memo}
-use Rattle.shm_graph.specs.declared.spot.Spot.TheVariants.{Era}
-use Rattle.shm_graph.specs.Asks.{Trail}
-use Rattle.shm_graph.specs.Events.{Event}
+use Rattle.shm_graph.specs.{declared.{memo.Memo.Memo, spot.Spot.TheVariants.Era}, Asks.Trail, Events.Event}
 use Rattle.shm_graph.specs.Views.{own_word}
 use Rattle.shm_steps.specs.Reparting.{map_in}
-use Rattle.shm_count.specs.declared.answer.UpFault.TheVariants.{EraSpent, CountFull}
-use Rattle.shm_count.specs.Slots.{StepCause}
+use Rattle.shm_count.specs.{declared.answer.UpFault.TheVariants.{EraSpent, CountFull}, Slots.StepCause}
 use Rattle.shm_script.specs.declared.log.Answer.{Answer}
 use Rattle.shm_script.specs.declared.log.Answer.TheVariants as answer
-use Rattle.shm_table.specs.declared.del.DelState.{DelState}
-use Rattle.shm_table.specs.Del.{DelLeaves}
-use Rattle.shm_table.specs.Refusals.{is_refusal}
-use Rattle.shm_table.specs.Unlink.{link_aim}
+use Rattle.shm_table.specs.{declared.del.DelState.DelState, Del.DelLeaves, Refusals.is_refusal, Unlink.link_aim}
 use Rattle.shm_table.proofs.RefusedCommands.{some_not}
 use Rattle.shm_table.proofs.refusals.del_refusals.Goals as goal
 

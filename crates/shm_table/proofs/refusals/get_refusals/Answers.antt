@@ -1,15 +1,9 @@
-use Rattle.std.proofs.Common.{◌≡◌, ◌≢◌, refl, true, List, None}
-use Rattle.std.proofs.lemmas.Bool.{false≢true}
-use Rattle.shm_graph.specs.declared.memo.Memo.{Memo}
-use Rattle.shm_graph.specs.Asks.{Trail}
-use Rattle.shm_graph.specs.Events.{Event}
+use Rattle.std.proofs.{Common.{◌≡◌, ◌≢◌, refl, true, List, None}, lemmas.Bool.false≢true}
+use Rattle.shm_graph.specs.{declared.memo.Memo.Memo, Asks.Trail, Events.Event}
 use Rattle.shm_steps.specs.Reparting.{map_in}
 use Rattle.shm_script.specs.declared.log.Answer.{Answer}
 use Rattle.shm_script.specs.declared.log.Answer.TheVariants as answer
-use Rattle.shm_table.specs.declared.get.GetState.{GetState}
-use Rattle.shm_table.specs.Get.{GetLeaves}
-use Rattle.shm_table.specs.Refusals.{is_refusal}
-use Rattle.shm_table.specs.Unlatch.{unlatch_trail}
+use Rattle.shm_table.specs.{declared.get.GetState.GetState, Get.GetLeaves, Refusals.is_refusal, Unlatch.unlatch_trail}
 use Rattle.shm_table.proofs.RefusedCommands.{some_not}
 use Rattle.shm_table.proofs.refusals.get_refusals.Goals as goal
 

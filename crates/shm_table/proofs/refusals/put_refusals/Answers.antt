@@ -1,17 +1,10 @@
-use Rattle.std.proofs.Common.{◌≡◌, refl, true, List}
-use Rattle.std.proofs.lemmas.Bool.{false≢true}
-use Rattle.shm_graph.specs.declared.memo.Memo.{Memo}
-use Rattle.shm_graph.specs.Asks.{Trail}
-use Rattle.shm_graph.specs.Events.{Event}
+use Rattle.std.proofs.{Common.{◌≡◌, refl, true, List}, lemmas.Bool.false≢true}
+use Rattle.shm_graph.specs.{declared.memo.Memo.Memo, Asks.Trail, Events.Event}
 use Rattle.shm_script.specs.declared.log.Answer.{Answer}
 use Rattle.shm_script.specs.declared.log.Answer.TheVariants as answer
-use Rattle.shm_table.specs.declared.answer.PutFault.{PutFault}
+use Rattle.shm_table.specs.{declared.{answer.PutFault.PutFault, put.PutState.PutState}, Answers.fault_answer}
+use Rattle.shm_table.specs.{Commands.CommandCause, Put.PutLeaves, Refusals.is_refusal}
 use Rattle.shm_table.specs.declared.answer.PutFault.TheVariants as fault
-use Rattle.shm_table.specs.declared.put.PutState.{PutState}
-use Rattle.shm_table.specs.Answers.{fault_answer}
-use Rattle.shm_table.specs.Commands.{CommandCause}
-use Rattle.shm_table.specs.Put.{PutLeaves}
-use Rattle.shm_table.specs.Refusals.{is_refusal}
 use Rattle.shm_table.proofs.refusals.put_refusals.Goals as goal
 
 -- the answers of a refusal

@@ -1,22 +1,12 @@
-use Rattle.std.proofs.Common.{◌≡◌, ◌≢◌, ℕ, ◌<◌, refl, subst, true, List}
+use Rattle.std.proofs.{Common.{◌≡◌, ◌≢◌, ℕ, ◌<◌, refl, subst, true, List}, lemmas.Bool.false≢true}
 use Rattle.std.specs.List.{Contains}
-use Rattle.std.proofs.lemmas.Bool.{false≢true}
-use Rattle.shm_graph.specs.declared.memo.Fact.TheVariants.{Counter}
-use Rattle.shm_graph.specs.declared.memo.Memo.{Memo}
-use Rattle.shm_graph.specs.declared.spot.Spot.TheVariants.{QueueHead, Tail}
-use Rattle.shm_graph.specs.Asks.{Trail}
-use Rattle.shm_graph.specs.Events.{Event}
-use Rattle.shm_graph.specs.Views.{own_word}
+use Rattle.shm_graph.specs.declared.memo.{Fact.TheVariants.Counter, Memo.Memo}
+use Rattle.shm_graph.specs.{declared.spot.Spot.TheVariants.{QueueHead, Tail}, Asks.Trail, Events.Event, Views.own_word}
 use Rattle.shm_script.specs.declared.log.Answer.{Answer}
 use Rattle.shm_script.specs.declared.log.Answer.TheVariants as answer
-use Rattle.shm_table.specs.declared.answer.PutFault.{PutFault}
+use Rattle.shm_table.specs.{declared.{answer.PutFault.PutFault, recv.RecvState.RecvState}, Answers.fault_answer}
+use Rattle.shm_table.specs.{Commands.CommandCause, FetchHead.IsWaited, RecvKey.RecvLeaves, Refusals.is_refusal}
 use Rattle.shm_table.specs.declared.answer.PutFault.TheVariants as fault
-use Rattle.shm_table.specs.declared.recv.RecvState.{RecvState}
-use Rattle.shm_table.specs.Answers.{fault_answer}
-use Rattle.shm_table.specs.Commands.{CommandCause}
-use Rattle.shm_table.specs.FetchHead.{IsWaited}
-use Rattle.shm_table.specs.RecvKey.{RecvLeaves}
-use Rattle.shm_table.specs.Refusals.{is_refusal}
 use Rattle.shm_table.proofs.refusals.recv_refusals.Goals as goal
 
 -- the answers of a refusal

@@ -1,10 +1,7 @@
 use Rattle.std.proofs.Common.{refl}
 use Rattle.shm_alloc.proofs.AllocCounting.{alloc_counts}
-use Rattle.shm_table.specs.CopyKey.Control.{copying}
-use Rattle.shm_table.specs.Del.Control.{deleting}
-use Rattle.shm_table.specs.Put.Control.{putting}
-use Rattle.shm_table.specs.RecvKey.Control.{receiving_key}
-use Rattle.shm_table.specs.SendKey.Control.{sending_key}
+use Rattle.shm_table.specs.{CopyKey.Control.copying, Del.Control.deleting, Put.Control.putting}
+use Rattle.shm_table.specs.{RecvKey.Control.receiving_key, SendKey.Control.sending_key}
 use Rattle.shm_table.proofs.CauseTrails.Commands.{copy_shows, del_shows, put_shows, recv_shows, send_key_shows}
 use Rattle.shm_table.proofs.refusals.refusal_trails.Goals as goal
 

@@ -1,14 +1,9 @@
-use Rattle.std.proofs.Common.{◌≡◌, ◌≢◌, ap, ◌∙◌, sym, refl, true, List, [], Some, None}
-use Rattle.std.proofs.lemmas.Bool.{false≢true}
-use Rattle.shm_graph.specs.declared.memo.Memo.{Memo}
-use Rattle.shm_graph.specs.Asks.{Trail}
-use Rattle.shm_graph.specs.Events.{Event}
+use Rattle.std.proofs.{Common.{◌≡◌, ◌≢◌, ap, ◌∙◌, sym, refl, true, List, [], Some, None}, lemmas.Bool.false≢true}
+use Rattle.shm_graph.specs.{declared.memo.Memo.Memo, Asks.Trail, Events.Event}
 use Rattle.shm_steps.specs.Reparting.{map_in}
 use Rattle.shm_script.specs.declared.log.Answer.{Answer}
 use Rattle.shm_script.specs.declared.log.Answer.TheVariants as answer
-use Rattle.shm_table.specs.declared.send_key.SendKeyState.{SendKeyState}
-use Rattle.shm_table.specs.Refusals.{is_refusal}
-use Rattle.shm_table.specs.SendKey.{SendKeyLeaves}
+use Rattle.shm_table.specs.{declared.send_key.SendKeyState.SendKeyState, Refusals.is_refusal, SendKey.SendKeyLeaves}
 use Rattle.shm_table.proofs.RefusedCommands.{some_not}
 use Rattle.shm_table.proofs.refusals.send_key_refusals.Goals as goal
 

@@ -1,11 +1,7 @@
 use Rattle.std.proofs.Common.{refl, ap, inl}
-use Rattle.shm_graph.specs.declared.memo.Fate.TheVariants.{Acts}
-use Rattle.shm_graph.specs.declared.memo.Kind.TheVariants.{Client}
-use Rattle.shm_graph.specs.declared.memo.Memo.{Memo}
-use Rattle.shm_graph.specs.Agents.{is_gone}
+use Rattle.shm_graph.specs.{declared.memo.{Fate.TheVariants.Acts, Kind.TheVariants.Client, Memo.Memo}, Agents.is_gone}
 use Rattle.shm_recover.specs.Join.{join_control, join_fresh}
-use Rattle.shm_pool.specs.Calls.{shown}
-use Rattle.shm_pool.specs.Tokens.{me_of}
+use Rattle.shm_pool.specs.{Calls.shown, Tokens.me_of}
 use Rattle.shm_team.proofs.Visiting.{acts_still, run_first, same_part}
 use Rattle.shm_team.proofs.closing.join.Goals as goal
 

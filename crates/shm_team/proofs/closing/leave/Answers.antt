@@ -1,12 +1,8 @@
 use Rattle.std.proofs.Common.{refl, inl, inr}
-use Rattle.shm_graph.specs.declared.memo.Fate.TheVariants.{Ended}
-use Rattle.shm_graph.specs.declared.memo.Kind.TheVariants.{Client}
+use Rattle.shm_graph.specs.declared.memo.{Fate.TheVariants.Ended, Kind.TheVariants.Client}
 use Rattle.shm_calls.specs.CallsControl.{calls_of}
-use Rattle.shm_recover.specs.Leave.Control.{leaving}
-use Rattle.shm_recover.specs.Leave.{leave_plan}
-use Rattle.shm_recover.specs.Machines.{leave}
-use Rattle.shm_pool.specs.Calls.{shown}
-use Rattle.shm_pool.specs.Tokens.{me_of}
+use Rattle.shm_recover.specs.{Leave.Control.{leaving, leave_steered}, Machines.leave}
+use Rattle.shm_pool.specs.{Calls.shown, Tokens.me_of}
 use Rattle.shm_team.proofs.Visiting.{ends_gone, run_more, same_part}
 use Rattle.shm_team.proofs.closing.leave.Goals as goal
 
@@ -15,6 +11,6 @@ returns-in-Ok-clause-ran g c = λ e lines h.
     let before = c.args.client.account in
     let after = c.in-Ok.token.account in
     let x = c.in-Ok.ensures.left in
-    run_more Client lines (shown leave (calls_of leave_plan (leaving (me_of c.args.client.of before)))) e before after _ _ Ended (inr (inl refl)) h x.answered.call (x.answered.told refl)
+    run_more Client lines (shown leave (calls_of leave_steered (leaving (me_of c.args.client.of before)))) e before after _ _ Ended (inr (inl refl)) h x.answered.call (x.answered.told refl)
     (ends_gone after.memo.status x.gone)
     (same_part before.memo after.memo x.answered.gave.leaves.part)

@@ -1,8 +1,6 @@
 use Rattle.std.proofs.Common.{sym, subst}
 use Rattle.shm_graph.specs.Runs.{account_died}
-use Rattle.shm_team.specs.declared.left.Left.{Left}
-use Rattle.shm_team.specs.Lefts.{account_in, is_corpse}
-use Rattle.shm_team.specs.Visits.{IsVisited}
+use Rattle.shm_team.specs.{declared.left.Left.Left, Lefts.{account_in, is_corpse}, Visits.IsVisited}
 use Rattle.shm_team.proofs.Visiting.{visited_corpse, visited_vacant}
 use Rattle.shm_team.proofs.closing.visit.Goals as goal
 

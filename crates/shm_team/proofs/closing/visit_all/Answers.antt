@@ -1,12 +1,8 @@
 use Rattle.std.proofs.Common.{◌≡◌, List, [], ◌∷◌, ◌++◌, append_assoc, length, refl, sym, ap, ◌∙◌, subst, arith}
-use Rattle.std.specs.List.{AllByRecursion}
-use Rattle.std.specs.Prelude.{Option}
-use Rattle.std.specs.Vec.Iter.{into_iter_items}
+use Rattle.std.specs.{List.AllByRecursion, Prelude.Option, Vec.Iter.into_iter_items}
 use Rattle.shm_pool.specs.Tokens.{Its, Token}
 use Rattle.shm_script.specs.Logged.{Logged}
-use Rattle.shm_team.specs.declared.done.Done.{Done}
-use Rattle.shm_team.specs.Lefts.{IsGivenBack}
-use Rattle.shm_team.specs.Visits.{AreVisits}
+use Rattle.shm_team.specs.{declared.done.Done.Done, Lefts.IsGivenBack, Visits.AreVisits}
 use Rattle.shm_team.proofs.Gathering.{all_yielded, visits_more}
 use Rattle.shm_team.proofs.closing.visit_all.Goals as goal
 

@@ -1,9 +1,6 @@
 use Rattle.std.proofs.Common.{◌≡◌, ◌++◌, length}
-use Rattle.std.specs.List.{AllByRecursion}
-use Rattle.std.specs.Vec.Iter.{into_iter_items, into_iter_len}
-use Rattle.shm_team.specs.declared.done.Done.{Done}
-use Rattle.shm_team.specs.Lefts.{IsGivenBack}
-use Rattle.shm_team.specs.Visits.{AreVisits}
+use Rattle.std.specs.{List.AllByRecursion, Vec.Iter.{into_iter_items, into_iter_len}}
+use Rattle.shm_team.specs.{declared.done.Done.Done, Lefts.IsGivenBack, Visits.AreVisits}
 use Rattle.shm_team.proofs.closing.visit_all.Given as goal
 
 abbrev pub invariant-loop-done : goal.invariant-loop-done

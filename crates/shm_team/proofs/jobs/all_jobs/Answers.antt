@@ -1,13 +1,12 @@
 use Rattle.std.proofs.Common.{◌≡◌, ◌<◌, List, [], ◌∷◌, ◌++◌, append_assoc, length, refl, sym, ap, ◌∙◌, subst, arith}
-use Rattle.std.specs.List.{AllByRecursion}
-use Rattle.std.specs.Vec.Iter.{into_iter_items}
+use Rattle.std.specs.{List.AllByRecursion, Vec.Iter.into_iter_items}
 use Rattle.shm_pool.specs.Tokens.{Token}
 use Rattle.shm_team.specs.declared.jobs.Job.{Job}
 use Rattle.shm_team.proofs.Gathering.{JobsOf, all_yielded, jobs_first, jobs_long, jobs_more}
 use Rattle.shm_team.proofs.jobs.all_jobs.Goals as goal
 
 pub loop-token-init : goal.loop-token-init
-loop-token-init c =
+loop-token-init g c =
     let (items, len, small, runs) = c.into_iter-token-iterator.ensures.into_iter_gives in
     record {
       items = items;
@@ -17,20 +16,20 @@ loop-token-init c =
     }
 
 pub agents_of-requires-clause-who : goal.agents_of-requires-clause-who
-agents_of-requires-clause-who c =
+agents_of-requires-clause-who g c =
     let steps = c.in-Some.ensures.steps.0 in
     let few = (subst (AllByRecursion (λ (k : Token). k.account.who < c.args.trace.now.clients)) steps c.loop-token.invariant.who).0 in
     let is = c.client.ensures.is in
     omega arith
 
 pub loop-token-preserved : goal.loop-token-preserved
-loop-token-preserved c =
+loop-token-preserved g c =
     let at = c.loop-token in
     let i = at.invariant in
     let t = c.args.trace.now in
     let x = c.in-Some.token in
     let steps : into_iter_items at.token-iterator ≡ x ∷ into_iter_items c.next.new.self = c.in-Some.ensures.steps.0 in
-    let j : Job = record { agents = c.in_ok-agents.agents; token = x } in
+    let j : Job _ = record { agents = c.in_ok-agents.agents; token = x } in
     record {
       items = append_assoc at.yielded (x ∷ []) _ ∙ rw (← steps) i.items;
       len =
@@ -43,13 +42,13 @@ loop-token-preserved c =
     }
 
 pub returns-clause-many : goal.returns-clause-many
-returns-clause-many c =
+returns-clause-many g c =
     let at = c.loop-token in
     let all = all_yielded at.yielded _ _ _ at.invariant.items at.invariant.len c.in-None.ensures.steps.0 in
     jobs_long c.args.trace.now at.yielded at.jobs.items at.invariant.jobs ∙ ap length all
 
 pub returns-clause-jobs : goal.returns-clause-jobs
-returns-clause-jobs c = λ p are start.
+returns-clause-jobs g c = λ p are start.
     let t = c.args.trace.now in
     let at = c.loop-token in
     let all = all_yielded at.yielded _ _ _ at.invariant.items at.invariant.len c.in-None.ensures.steps.0 in

@@ -1,6 +1,5 @@
 use Rattle.std.proofs.Common.{List, ap, ◌∙◌}
-use Rattle.shm_graph.specs.declared.run.Account.{Account}
-use Rattle.shm_graph.specs.Runs.{account_at}
+use Rattle.shm_graph.specs.{declared.run.Account.Account, Runs.account_at}
 use Rattle.shm_team.proofs.Tokens.{account_in, all_of, none_missing}
 use Rattle.shm_team.proofs.settling.close.Goals as goal
 

@@ -1,10 +1,8 @@
 use Rattle.std.proofs.Common.{◌<◌, length, sym, ap, ◌∙◌, subst, arith}
+use Rattle.std.specs.Prelude.{slice_index_or}
 use Rattle.shm_graph.specs.declared.run.Account.{Account}
 use Rattle.shm_pool.specs.Tokens.{token_first}
-use Rattle.shm_team.specs.Dones.{logs_in}
-use Rattle.shm_team.specs.Lefts.{account_in, is_corpse}
-use Rattle.shm_team.specs.Visits.{IsVisited}
-use Rattle.std.specs.Prelude.{slice_index_or}
+use Rattle.shm_team.specs.{Dones.logs_in, Lefts.{account_in, is_corpse}, Visits.IsVisited}
 use Rattle.shm_team.proofs.Gathering.{as_many, back_all, tokens_of, visited_at, visits_logs}
 use Rattle.shm_team.proofs.settling.settle.Goals as goal
 

@@ -1,7 +1,6 @@
 use Rattle.std.proofs.Common.{◌≡◌, ◌≢◌, ◌+◌, ◌++◌, [], ◌∷◌, length, take, refl, sym, ap, ◌∙◌, arith}
+use Rattle.std.proofs.lemmas.{List.{get_or-set_other, length-set, take_more}, Option.slice_get_read}
 use Rattle.std.specs.Prelude.{Some, None, slice_get, slice_index_or}
-use Rattle.std.proofs.lemmas.List.{get_or-set_other, length-set, take_more}
-use Rattle.std.proofs.lemmas.Option.{slice_get_read}
 use Rattle.shm_script.specs.Values.{Scripted, Traced}
 use Rattle.shm_replay.proofs.WholeRun.{apart_at}
 use Rattle.shm_team.specs.Dones.{log_of, logs_in}

@@ -1,8 +1,7 @@
 use Rattle.std.proofs.Common.{◌≡◌, refl, sym, ap, ◌∙◌, subst}
 use Rattle.shm_graph.specs.declared.ask.Me.{Me}
 use Rattle.shm_agents.specs.Agents.{Stands}
-use Rattle.shm_pool.specs.Posts.{IsPosted}
-use Rattle.shm_pool.specs.Tokens.{Its, Token}
+use Rattle.shm_pool.specs.{Posts.IsPosted, Tokens.{Its, Token}}
 use Rattle.shm_team.specs.Dones.{IsFinished}
 use Rattle.shm_team.proofs.worker.work.Goals as goal
 

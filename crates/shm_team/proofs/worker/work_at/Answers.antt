@@ -1,16 +1,12 @@
-use Rattle.std.proofs.Common.{◌≡◌, List, sym, ap, ◌∙◌, subst}
+use Rattle.std.proofs.{Common.{◌≡◌, List, length, sym, ap, ◌∙◌, subst, arith}, lemmas.Option.slice_get_within}
 use Rattle.std.specs.Prelude.{Some, slice_get}
-use Rattle.shm_graph.specs.declared.ask.Me.{Me}
-use Rattle.shm_graph.specs.Runs.{first_account}
+use Rattle.shm_graph.specs.{declared.ask.Me.Me, Runs.first_account}
 use Rattle.shm_agents.specs.Agents.{Stands}
 use Rattle.shm_pool.specs.Tokens.{Its}
-use Rattle.shm_replay.proofs.Gathering.{same_some}
-use Rattle.shm_replay.proofs.Seating.{script_read}
+use Rattle.shm_replay.proofs.{Gathering.same_some, Seating.script_read}
 use Rattle.shm_script.specs.Values.{Scripted, Traced}
 use Rattle.shm_team.specs.Jobs.{AreAgentsOf}
-use Rattle.shm_team.proofs.Gathering.{agents_in, none_in, worked}
-use Rattle.shm_team.proofs.worker.work_at.Given.{Over}
-use Rattle.shm_team.proofs.worker.work_at.Goals.{After-index}
+use Rattle.shm_team.proofs.{Gathering.{agents_in, none_in, worked}, worker.work_at.{Given.Over, Goals.After-index}}
 use Rattle.shm_team.proofs.worker.work_at.Goals as goal
 
 pub returns-in-None : goal.returns-in-None
@@ -29,6 +25,15 @@ module _ (g : Over) (c : After-index g) where
       ap (λ (ss : List Scripted). slice_get ss k) scripts
       ∙ script_read c.trace.inside.scripts.items k c.script-at.result its.script c.index.result.now (sym (ap (λ (ss : List Scripted). slice_get ss k) scripts) ∙ its.at) c.script-at.ensures c.index.ensures in
       same_some c.index.result.now its.script (sym here ∙ its.at)
+
+pub index-requires : goal.index-requires
+index-requires g c =
+    let own = agents_in c.args.trace.now c.args.pool.now c.args.job c.in-Some.agents c.requires c.in-Some.is in
+    let low = slice_get_within c.args.trace.now.scripts c.in-Some.agents.script own.script own.at in
+    let is = c.script-at.ensures in
+    let same = ap (λ (t : Traced). length t.scripts) c.trace.view_is in
+    let whole = c.trace.inside.scripts.ok.0 in
+    omega arith
 
 pub work-log-requires-clause-first : goal.work-log-requires-clause-first
 work-log-requires-clause-first g c = λ κs within. c.requires.first ∙ ap (λ (p : Its). first_account p.start c.args.job.token.account.who) (sym c.requires.of)

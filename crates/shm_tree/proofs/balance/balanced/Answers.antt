@@ -1,18 +1,14 @@
 use Rattle.shm_tree.proofs.Resting.{rests_after, rests_link}
-use Rattle.shm_tree.specs.Sharing.{IsOver, IsFresh, WeighsFar, WeighsJoined}
 use Rattle.shm_tree.proofs.Sharings.{fresh_read, weighs_far, weighs_flat, weighs_near}
-use Rattle.std.proofs.Common.{◌≡◌, ◌∙◌, lit≤, refl, sym, ap, subst, arith}
-use Rattle.shm_count.specs.declared.answer.Made.{Made}
-use Rattle.shm_tree.specs.declared.node.Side.{Side}
-use Rattle.shm_tree.specs.Standing.{Stands}
-use Rattle.shm_tree.specs.Trees.{Tree, height}
-use Rattle.shm_tree.specs.Building.{rooms, IsBuilt, IsCheap, StandsOf, from_far, joined_by}
-use Rattle.shm_tree.specs.Keeping.{IsLinked, node_by}
 use Rattle.shm_tree.proofs.Building.{Looked, alive_any, alive_kept, alive_over, at_hand_still, born_built, builds_after, builds_died, builds_first, builds_from, builds_link, built_after, built_more, cheap_after, link_cheap, linked_some, looked, looked_then, ok_any, ok_kept, rooms_some, rooms_still}
 use Rattle.shm_tree.proofs.Rotations.{joined_far, joined_flat, joined_near, joined_stands, seen_back, tall_some}
-use Rattle.shm_tree.specs.Bounds.{link_steps, rotated_steps}
 use Rattle.shm_tree.proofs.balance.balanced.Goals.{In_ok-far}
 use Rattle.shm_tree.proofs.balance.balanced.Goals as goal
+use Rattle.shm_tree.specs.{Sharing.{IsOver, IsFresh, WeighsFar, WeighsJoined}, declared.node.Side.Side, Standing.Stands}
+use Rattle.shm_tree.specs.{Trees.{Tree, height}, Building.{rooms, IsBuilt, IsCheap, StandsOf, from_far, joined_by}}
+use Rattle.shm_tree.specs.{Keeping.{IsLinked, node_by}, Bounds.{link_steps, rotated_steps}}
+use Rattle.std.proofs.Common.{◌≡◌, ◌∙◌, lit≤, refl, sym, ap, subst, arith}
+use Rattle.shm_count.specs.declared.answer.Made.{Made}
 
 pub height-requires : goal.height-requires
 height-requires c = record { working = c.requires.working; tree = c.requires.near.0; reached = c.requires.near.1 }

@@ -1,18 +1,13 @@
-use Rattle.shm_tree.proofs.Resting.{rests_after}
-use Rattle.shm_tree.specs.Sharing.{WeighsCrowned, WeighsTurnedTwice}
-use Rattle.shm_tree.proofs.Sharings.{fresh_read, weighs_double}
-use Rattle.std.proofs.Common.{◌≡◌, ◌∙◌, lit≤, sym, ap, subst, arith}
-use Rattle.shm_count.specs.declared.answer.Made.{Made}
-use Rattle.shm_tree.specs.declared.node.Content.{Content}
-use Rattle.shm_tree.specs.Building.{rooms, StandsCrowned, StandsTurnedTwice}
-use Rattle.shm_tree.specs.Keeping.{node_by, other_side}
-use Rattle.shm_tree.specs.Standing.{Stands}
-use Rattle.shm_tree.specs.Trees.{Tree}
+use Rattle.shm_tree.proofs.{Resting.rests_after, Sharings.{fresh_read, weighs_double}}
 use Rattle.shm_tree.proofs.Building.{Looked, at_hand_still, builds_after, builds_died, builds_first, builds_from, built_after, looked, looked_then, ok_kept, rooms_still, tree_still, went_on}
 use Rattle.shm_tree.proofs.Rotations.{child_at, content_is, node_of, node_other, parts}
-use Rattle.shm_tree.specs.Bounds.{crowned_steps}
 use Rattle.shm_tree.proofs.balance.double.Goals.{In_ok-outer}
 use Rattle.shm_tree.proofs.balance.double.Goals as goal
+use Rattle.shm_tree.specs.{Sharing.{WeighsCrowned, WeighsTurnedTwice}, declared.node.Content.Content}
+use Rattle.shm_tree.specs.{Building.{rooms, StandsCrowned, StandsTurnedTwice}, Keeping.{node_by, other_side}}
+use Rattle.shm_tree.specs.{Standing.Stands, Trees.Tree, Bounds.crowned_steps}
+use Rattle.std.proofs.Common.{◌≡◌, ◌∙◌, lit≤, sym, ap, subst, arith}
+use Rattle.shm_count.specs.declared.answer.Made.{Made}
 
 pub content_of-requires : goal.content_of-requires
 content_of-requires c = record { working = c.requires.working; node = node_of c.args.pool.now c.args.grand.near c.requires.grand_some c.requires.grand_near.0; reached = c.requires.grand_near.1 }

@@ -1,14 +1,10 @@
 use Rattle.std.proofs.Common.{◌∙◌, lit≤, arith}
 use Rattle.shm_count.specs.declared.answer.Made.{Made}
-use Rattle.shm_tree.specs.declared.node.Side.{Side}
-use Rattle.shm_tree.specs.Bounds.{renewed_steps}
-use Rattle.shm_tree.specs.Building.{IsRebuilt, StandsOf, block_of, joined_by}
-use Rattle.shm_tree.specs.Keeping.{child_of, other_side}
-use Rattle.shm_tree.specs.Raising.{IsCheapAt, IsOverAt, StandsAgain, WeighsAgain}
-use Rattle.shm_tree.specs.Sharing.{IsOver, WeighsJoined}
+use Rattle.shm_tree.specs.{declared.node.Side.Side, Bounds.renewed_steps}
+use Rattle.shm_tree.specs.{Building.{IsRebuilt, StandsOf, block_of, joined_by}, Keeping.{child_of, other_side}}
+use Rattle.shm_tree.specs.{Raising.{IsCheapAt, IsOverAt, StandsAgain, WeighsAgain}, Sharing.{IsOver, WeighsJoined}}
 use Rattle.shm_tree.proofs.Building.{alive_kept, alive_over, at_hand_still, builds_after, builds_first, builds_from, looked, ok_kept, rooms_still}
-use Rattle.shm_tree.proofs.Resting.{rests_after}
-use Rattle.shm_tree.proofs.Sharings.{fresh_read}
+use Rattle.shm_tree.proofs.{Resting.rests_after, Sharings.fresh_read}
 use Rattle.shm_tree.proofs.Raising.{again_up, cheap_up, over_up, rebuilt_after, some_held, weighs_up}
 use Rattle.shm_tree.proofs.Rotations.{child_tree, node_of}
 use Rattle.shm_tree.proofs.balance.raise.Goals as goal

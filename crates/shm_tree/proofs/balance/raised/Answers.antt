@@ -1,16 +1,12 @@
 use Rattle.shm_tree.proofs.Resting.{rests_dropped, rests_linked, rests_then}
-use Rattle.shm_tree.specs.Keeping.{node_by}
-use Rattle.shm_tree.specs.Trees.{Tree}
 use Rattle.shm_tree.proofs.Weights.{fresh_under, weigh_link, weight_nodes, weight_root}
+use Rattle.shm_tree.proofs.Building.{apart, at_hand_linked, born_built, builds_cut, builds_drop, builds_from, builds_link, builds_on, builds_stuck, built_cut, built_over, cut_then, linked_at_hand, linked_some, looked_none, rooms_rooted, rooms_some, still_cut, top_stands}
+use Rattle.shm_tree.proofs.{Spendings.spent_call, balance.raised.Goals.{In_ok-lower, In_ok-made}}
+use Rattle.shm_tree.proofs.balance.raised.Goals as goal
+use Rattle.shm_tree.specs.{Keeping.node_by, Trees.Tree, Bounds.link_steps, Building.{Builds, IsBuilt}}
 use Rattle.std.proofs.Common.{◌+◌, ◌∙◌, lit≤, arith}
 use Rattle.std.specs.Prelude.{Ok}
 use Rattle.shm_count.specs.declared.answer.Made.{Made}
-use Rattle.shm_tree.proofs.Building.{apart, at_hand_linked, born_built, builds_cut, builds_drop, builds_from, builds_link, builds_on, builds_stuck, built_cut, built_over, cut_then, linked_at_hand, linked_some, looked_none, rooms_rooted, rooms_some, still_cut, top_stands}
-use Rattle.shm_tree.specs.Bounds.{link_steps}
-use Rattle.shm_tree.specs.Building.{Builds, IsBuilt}
-use Rattle.shm_tree.proofs.Spendings.{spent_call}
-use Rattle.shm_tree.proofs.balance.raised.Goals.{In_ok-lower, In_ok-made}
-use Rattle.shm_tree.proofs.balance.raised.Goals as goal
 
 pub link-requires-clause-room : goal.link-requires-clause-room
 link-requires-clause-room c = rooms_some c.requires.working (omega arith)

@@ -1,22 +1,15 @@
 use Rattle.shm_tree.proofs.Resting.{rests_dropped, rests_still, rests_then}
 use Rattle.shm_tree.proofs.Sharings.{over_after, renewed_top, renewed_weighs, weighs_after}
-use Rattle.std.proofs.Common.{◌+◌, ◌∙◌, lit≤, sym, ap, subst, arith}
-use Rattle.std.specs.Prelude.{Ok}
-use Rattle.shm_count.specs.declared.answer.Made.{Made}
-use Rattle.shm_tree.proofs.Building.{alive_over, alive_refused, at_hand_still, builds_after, builds_drop, builds_first, builds_from, builds_stuck, built_after, built_cut, cheap_after, cheap_then, looked, rebuilt_alone, rebuilt_over, rooms_still, tree_still, went_on}
-use Rattle.std.proofs.lemmas.Result.{err_from_is_err_and}
-use Rattle.shm_tree.proofs.Answering.{alive_map}
-use Rattle.shm_tree.specs.Bounds.{balanced_steps}
-use Rattle.shm_tree.specs.Building.{Builds}
-use Rattle.shm_tree.proofs.balance.renewed.Goals.{In_ok-made}
+use Rattle.shm_tree.proofs.Building.{alive_over, alive_refused, at_hand_still, builds_after, builds_drop, builds_first, builds_from, builds_stuck, built_after, built_cut, cheap_after, cheap_then, looked, rebuilt_alone, rebuilt_over, rooms_still, tree_still, went_on, held_at_hand, rebuilt_stands}
+use Rattle.shm_tree.proofs.{Answering.alive_map, balance.renewed.Goals.In_ok-made}
 use Rattle.shm_tree.proofs.balance.renewed.Goals as goal
-use Rattle.std.specs.Prelude.{IfSome}
-use Rattle.shm_tree.specs.Building.{IsAtHand, IsCheap, IsHeld, StandsOf, joined_by, IsRebuilt, block_of}
-use Rattle.shm_tree.specs.Keeping.{HasTree, IsStill, child_of, other_side}
-use Rattle.shm_tree.specs.Standing.{Stands}
-use Rattle.shm_tree.specs.declared.node.Pair.{Pair}
+use Rattle.shm_tree.specs.Bounds.{balanced_steps}
+use Rattle.shm_tree.specs.Building.{Builds, IsAtHand, IsCheap, IsHeld, StandsOf, joined_by, IsRebuilt, block_of}
+use Rattle.shm_tree.specs.{Keeping.{HasTree, IsStill, child_of, other_side}, Standing.Stands, declared.node.Pair.Pair}
 use Rattle.shm_tree.specs.declared.node.Side.{Side}
-use Rattle.shm_tree.proofs.Building.{held_at_hand, rebuilt_stands}
+use Rattle.std.proofs.{Common.{◌+◌, ◌∙◌, lit≤, sym, ap, subst, arith}, lemmas.Result.err_from_is_err_and}
+use Rattle.std.specs.Prelude.{Ok, IfSome}
+use Rattle.shm_count.specs.declared.answer.Made.{Made}
 
 pub balanced-requires : goal.balanced-requires
 balanced-requires c =

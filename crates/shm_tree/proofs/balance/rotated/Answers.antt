@@ -1,19 +1,14 @@
-use Rattle.shm_tree.proofs.Resting.{rests_after}
-use Rattle.shm_tree.specs.Sharing.{WeighsFar, WeighsTurned, WeighsTurnedTwice}
-use Rattle.shm_tree.proofs.Sharings.{fresh_read, weighs_once, weighs_twice}
-use Rattle.std.proofs.Common.{◌≡◌, ℕ, ◌≢◌, ◌∙◌, lit≤, sym, subst, arith}
-use Rattle.shm_count.specs.declared.answer.Made.{Made}
-use Rattle.shm_tree.specs.declared.node.Side.{Side}
-use Rattle.shm_tree.specs.Building.{IsAtHand, rooms, StandsOf, StandsTurned, StandsTurnedTwice, from_far}
-use Rattle.shm_tree.specs.Keeping.{HasTree, child_of, other_side}
-use Rattle.shm_tree.specs.Standing.{Stands}
-use Rattle.shm_tree.specs.Trees.{Tree, height}
-use Rattle.shm_tree.specs.Working.{IsReached}
+use Rattle.shm_tree.proofs.{Resting.rests_after, Sharings.{fresh_read, weighs_once, weighs_twice}}
 use Rattle.shm_tree.proofs.Building.{Looked, at_hand_still, builds_after, builds_died, builds_first, builds_from, built_after, built_more, looked, looked_then, ok_kept, rooms_still, tree_still, went_on}
 use Rattle.shm_tree.proofs.Rotations.{child_kept, child_tree, node_of, rotated_once, rotated_twice, tall_some}
-use Rattle.shm_tree.specs.Bounds.{turned_steps}
 use Rattle.shm_tree.proofs.balance.rotated.Goals.{In_ok-far}
 use Rattle.shm_tree.proofs.balance.rotated.Goals as goal
+use Rattle.shm_tree.specs.{Sharing.{WeighsFar, WeighsTurned, WeighsTurnedTwice}, declared.node.Side.Side}
+use Rattle.shm_tree.specs.Building.{IsAtHand, rooms, StandsOf, StandsTurned, StandsTurnedTwice, from_far}
+use Rattle.shm_tree.specs.{Keeping.{HasTree, child_of, other_side}, Standing.Stands, Trees.{Tree, height}}
+use Rattle.shm_tree.specs.{Working.IsReached, Bounds.turned_steps}
+use Rattle.std.proofs.Common.{◌≡◌, ℕ, ◌≢◌, ◌∙◌, lit≤, sym, subst, arith}
+use Rattle.shm_count.specs.declared.answer.Made.{Made}
 
 pub children-requires : goal.children-requires
 children-requires c = record { working = c.requires.working; latch = c.requires.latch; node = node_of c.args.pool.now c.args.trees.far c.requires.some c.requires.far.0; reached = c.requires.far.1 }

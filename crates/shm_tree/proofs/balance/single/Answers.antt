@@ -1,16 +1,11 @@
-use Rattle.shm_tree.proofs.Resting.{rests_after}
-use Rattle.shm_tree.specs.Sharing.{WeighsRaised, WeighsTurned}
-use Rattle.shm_tree.proofs.Sharings.{fresh_read, weighs_single}
-use Rattle.std.proofs.Common.{◌≡◌, ◌∙◌, lit≤, sym, subst, arith}
-use Rattle.shm_count.specs.declared.answer.Made.{Made}
-use Rattle.shm_tree.specs.declared.node.Content.{Content}
-use Rattle.shm_tree.specs.Building.{StandsRaised, StandsTurned}
-use Rattle.shm_tree.specs.Keeping.{node_by}
-use Rattle.shm_tree.specs.Standing.{Stands}
+use Rattle.shm_tree.proofs.{Resting.rests_after, Sharings.{fresh_read, weighs_single}}
 use Rattle.shm_tree.proofs.Building.{at_hand_still, builds_after, builds_first, builds_from, built_after, looked, ok_kept, rooms_still}
 use Rattle.shm_tree.proofs.Rotations.{content_is, node_of, parts}
-use Rattle.shm_tree.specs.Bounds.{raised_steps}
 use Rattle.shm_tree.proofs.balance.single.Goals as goal
+use Rattle.shm_tree.specs.{Sharing.{WeighsRaised, WeighsTurned}, declared.node.Content.Content}
+use Rattle.shm_tree.specs.{Building.{StandsRaised, StandsTurned}, Keeping.node_by, Standing.Stands, Bounds.raised_steps}
+use Rattle.std.proofs.Common.{◌≡◌, ◌∙◌, lit≤, sym, subst, arith}
+use Rattle.shm_count.specs.declared.answer.Made.{Made}
 
 pub content_of-requires : goal.content_of-requires
 content_of-requires c = record { working = c.requires.working; node = node_of c.args.pool.now c.args.trees.far c.requires.some c.requires.far.0; reached = c.requires.far.1 }

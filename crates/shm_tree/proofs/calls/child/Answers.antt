@@ -1,30 +1,21 @@
 use Rattle.std.proofs.Common.{◌≡◌, true, refl, ap, ◌∙◌, Bool, false}
 use Rattle.std.specs.Prelude.{Ok}
-use Rattle.shm_graph.specs.declared.ask.Me.{Me}
-use Rattle.shm_graph.specs.Reach.{is_reached}
-use Rattle.shm_plain.specs.Pools.{memo_of}
-use Rattle.shm_calls.specs.Words.{word_control}
+use Rattle.shm_graph.specs.{declared.ask.Me.Me, Reach.is_reached}
+use Rattle.shm_plain.specs.{Pools.memo_of, Calls.Ran}
+use Rattle.shm_calls.specs.{Words.word_control, CallsControl.{calls_control, calls_does, calls_of}}
 use Rattle.shm_count.specs.Roots.{member}
-use Rattle.shm_ref.specs.LatchTasks.{LookMay}
-use Rattle.shm_ref.specs.Look.{look_plan, looking}
-use Rattle.plain_calls.proofs.Reaching.{reached_small}
-use Rattle.plain_calls.proofs.Running.{plan_may}
-use Rattle.shm_tree.specs.Keeping.{side_word}
-use Rattle.shm_tree.proofs.Alive.{went_alive}
-use Rattle.shm_tree.proofs.Answering.{plan_answered}
-use Rattle.shm_tree.proofs.Counts.{taken_by}
+use Rattle.shm_ref.specs.{LatchTasks.LookMay, Look.{look_plan, looking, look_steered}}
+use Rattle.plain_calls.proofs.{Reaching.reached_small, Running.plan_may}
+use Rattle.shm_tree.specs.{Keeping.side_word, Falling.AreFalling}
+use Rattle.shm_tree.proofs.{Alive.went_alive, Answering.plan_answered, Counts.taken_by}
 use Rattle.shm_tree.proofs.Findings.{look_names, look_only, look_refused, look_still, look_works, read_reaches}
-use Rattle.shm_calls.specs.CallsControl.{calls_control, calls_does, calls_of}
-use Rattle.shm_plain.specs.Calls.{Ran}
-use Rattle.shm_tree.specs.Falling.{AreFalling}
-use Rattle.shm_tree.proofs.Anytime.{always_falls}
-use Rattle.shm_tree.proofs.CutOffs.{looks_dead}
+use Rattle.shm_tree.proofs.{Anytime.always_falls, CutOffs.looks_dead}
 use Rattle.shm_tree.proofs.calls.child.Goals.{After-me, After-new-looking, After-run}
 use Rattle.shm_tree.proofs.calls.child.Goals as goal
 
 -- references fall after it, whether it was answered or not
 falls : (c : After-run) (answered : Bool) → Ran 0 true answered c.args.pool.now c.run.new.self c.args.life.now.left c.run.new.life.left → AreFalling c.args.pool.now → AreFalling c.run.new.self
-falls c answered ran = always_falls (calls_control word_control look_plan) (calls_does word_control look_plan) (calls_of look_plan c.new-looking.result) answered c.args.pool.now c.run.new.self c.args.life.now.left c.run.new.life.left (λ r n s i. tt) c.requires.working ran c.run.ensures.told
+falls c answered ran = always_falls (calls_control word_control look_steered) (calls_does word_control look_plan) (calls_of look_steered c.new-looking.result) answered c.args.pool.now c.run.new.self c.args.life.now.left c.run.new.life.left (λ r n s i. tt) c.requires.working ran c.run.ensures.told
 
 reached : (c : After-me) → is_reached 0 (memo_of c.args.pool.now 0) c.args.node ≡ true
 reached c = c.requires.reached c.requires.node.3.some

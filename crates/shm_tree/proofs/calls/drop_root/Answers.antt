@@ -1,39 +1,27 @@
 use Rattle.std.proofs.Common.{◌≡◌, ◌≢◌, ℕ, ◌+◌, ◌≤◌, length, arith, refl, sym, ap, ◌∙◌, subst, inr, true, Bool, false}
-use Rattle.std.specs.Prelude.{Ok, Err}
 use Rattle.std.proofs.lemmas.Result.{err_from_is_err_and}
-use Rattle.shm_graph.specs.declared.ask.Me.{Me}
-use Rattle.shm_graph.specs.Asks.{IsWithin}
+use Rattle.std.specs.Prelude.{Ok, Err}
+use Rattle.shm_graph.specs.{declared.ask.Me.Me, Asks.IsWithin}
 use Rattle.shm_calls.specs.CallsControl.{calls_control, calls_of, calls_does}
-use Rattle.shm_plain.specs.Calls.{Ran, Took}
-use Rattle.shm_plain.specs.Pools.{Pool, memo_of}
-use Rattle.shm_count.specs.Roots.{member, root_word}
-use Rattle.shm_count.specs.Tear.Events.{frees}
-use Rattle.shm_ref.specs.declared.drop_root.DropState.{DropState}
-use Rattle.shm_ref.specs.DropRoot.Control.{drop_parts, dropping}
-use Rattle.shm_ref.specs.DropRoot.{DropLeaves, drop_plan}
-use Rattle.shm_ref.specs.RootTasks.{DropMay}
+use Rattle.shm_plain.specs.{Calls.{Ran, Took}, Pools.{Pool, memo_of}}
+use Rattle.shm_count.specs.{Roots.{member, root_word}, Tear.Events.frees}
+use Rattle.shm_ref.specs.{declared.drop_root.DropState.DropState, DropRoot.Control.{drop_parts, dropping, drop_steered}}
+use Rattle.shm_ref.specs.{DropRoot.{DropLeaves, drop_plan}, RootTasks.DropMay}
+use Rattle.shm_ref.proofs.RefusedDrops.{spent_some}
 use Rattle.plain_calls.proofs.Running.{plan_may}
-use Rattle.shm_tree.specs.Keeping.{IsStill}
-use Rattle.shm_tree.specs.Working.{IsSameLatch, IsSpent, IsWorking, Reaches}
+use Rattle.shm_tree.specs.{Keeping.IsStill, Working.{IsSameLatch, IsSpent, IsWorking, Reaches}, Falling.AreFalling}
 use Rattle.shm_tree.proofs.Alive.{went_alive, went_dead}
 use Rattle.shm_tree.proofs.Answering.{Answered, alive_died, cause_died, emptied_then, reaches_then, refused_died, within_before, plan_answered}
 use Rattle.shm_tree.proofs.Drops.{drop_done, drop_kept, drop_latch, drop_spent, drop_torn, drop_works, dropped_then, kept_within}
-use Rattle.shm_tree.proofs.Eras.{spent_stays, spent_went}
-use Rattle.shm_tree.proofs.Links.{still_then, went_then}
-use Rattle.shm_tree.proofs.Makes.{spent_over}
-use Rattle.shm_tree.proofs.SureCalls.{drop_most}
-use Rattle.shm_tree.proofs.Tearings.{done_torn, stopped_torn, torn_then}
-use Rattle.shm_ref.proofs.RefusedDrops.{spent_some}
-use Rattle.shm_tree.specs.Falling.{AreFalling}
-use Rattle.shm_tree.proofs.Anytime.{always_falls}
-use Rattle.shm_tree.proofs.Harmless.{drop_keeps}
-use Rattle.shm_tree.proofs.CutOffs.{begun_ran, died_ran, died_then, look_died}
+use Rattle.shm_tree.proofs.{Eras.{spent_stays, spent_went}, Links.{still_then, went_then}, Makes.spent_over}
+use Rattle.shm_tree.proofs.{SureCalls.drop_most, Tearings.{done_torn, stopped_torn, torn_then}, Anytime.always_falls}
+use Rattle.shm_tree.proofs.{Harmless.drop_keeps, CutOffs.{begun_ran, died_ran, died_then, look_died}}
 use Rattle.shm_tree.proofs.calls.drop_root.Goals.{After-new-dropping, In-Some-Ok, In-Some-Err, After-run}
 use Rattle.shm_tree.proofs.calls.drop_root.Goals as goal
 
 -- references fall after it, whether it was answered or not
 falls : (c : After-run) (answered : Bool) → Ran 0 true answered c.args.pool.now c.run.new.self c.args.life.now.left c.run.new.life.left → AreFalling c.args.pool.now → AreFalling c.run.new.self
-falls c answered ran = always_falls (calls_control drop_parts drop_plan) (calls_does drop_parts drop_plan) (calls_of drop_plan c.new-dropping.result) answered c.args.pool.now c.run.new.self c.args.life.now.left c.run.new.life.left drop_keeps c.requires.working ran c.run.ensures.told
+falls c answered ran = always_falls (calls_control drop_parts drop_steered) (calls_does drop_parts drop_plan) (calls_of drop_steered c.new-dropping.result) answered c.args.pool.now c.run.new.self c.args.life.now.left c.run.new.life.left drop_keeps c.requires.working ran c.run.ensures.told
 
 pub run-requires-clause-may : goal.run-requires-clause-may
 run-requires-clause-may c =
@@ -46,11 +34,11 @@ spent : (c : In-Some-Err) → Answered drop_plan (dropping (member c.args.pool.n
 spent c = let x = c.in-Some-Err in plan_answered drop_parts drop_plan (λ (z : Me). dropping z c.args.root) c.args.pool.now c.run.new.self x.field-0 c.me.ensures.is c.new-dropping.ensures x.field-0-is c.requires.working x.ensures.ran (x.ensures.at_work tt) x.ensures.leaves
 
 -- no exchange of it failed
-took_most : (c : After-new-dropping) (n : ℕ) (q : Pool) (y : ℕ) → Took (calls_control drop_parts drop_plan) 0 c.args.pool.now (calls_of drop_plan c.new-dropping.result) q → Ran 0 true true c.args.pool.now q c.args.life.now.left y → IsWithin n (memo_of q 0).call → c.args.life.now.left ≤ y + n
+took_most : (c : After-new-dropping) (n : ℕ) (q : Pool) (y : ℕ) → Took (calls_control drop_parts drop_steered) 0 c.args.pool.now (calls_of drop_steered c.new-dropping.result) q → Ran 0 true true c.args.pool.now q c.args.life.now.left y → IsWithin n (memo_of q 0).call → c.args.life.now.left ≤ y + n
 took_most c n q y took ran most =
     let p = c.args.pool.now in
     let made : c.new-dropping.result ≡ dropping (member p.start.geometry 0) c.args.root = c.new-dropping.ensures ∙ ap (λ (z : Me). dropping z c.args.root) c.me.ensures.is in
-    drop_most n p q c.args.root c.args.life.now.left y c.requires.working (refl, c.requires.root) (subst (λ (z : DropState). Took (calls_control drop_parts drop_plan) 0 p (calls_of drop_plan z) q) made took) ran most
+    drop_most n p q c.args.root c.args.life.now.left y c.requires.working (refl, c.requires.root) (subst (λ (z : DropState). Took (calls_control drop_parts drop_steered) 0 p (calls_of drop_steered z) q) made took) ran most
 
 working : (c : In-Some-Err) → IsWorking c.run.new.self
 working c = let (es, on, h) = spent c in drop_works c.args.pool.now c.run.new.self es on c.args.root (Err c.in-Some-Err.spent) h

@@ -1,5 +1,4 @@
-use Rattle.shm_tree.proofs.Answering.{height_none, height_read, node_of}
-use Rattle.shm_tree.proofs.Building.{looked_none, looks_done}
+use Rattle.shm_tree.proofs.{Answering.{height_none, height_read, node_of}, Building.{looked_none, looks_done}}
 use Rattle.shm_tree.proofs.Counts.{taken_most}
 use Rattle.shm_tree.proofs.calls.height.Goals as goal
 

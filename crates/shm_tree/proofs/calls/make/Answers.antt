@@ -1,14 +1,12 @@
 use Rattle.std.proofs.Common.{◌≡◌, refl, ap, ◌∙◌, arith, inl, inr, List, true, false}
 use Rattle.std.specs.Prelude.{Some, Ok, Err}
 use Rattle.shm_graph.specs.Events.{Event}
-use Rattle.shm_alloc.specs.declared.alloc.AllocFault.TheVariants as fault
 use Rattle.shm_alloc.specs.Alloc.Events.{own_events}
+use Rattle.shm_alloc.specs.declared.alloc.AllocFault.TheVariants as fault
 use Rattle.shm_count.specs.Roots.{member}
 use Rattle.shm_tree.proofs.Alive.{on_answer, went_alive}
 use Rattle.shm_tree.proofs.Makes.{full_over, make_cause, make_latch, make_made, make_reaches, make_room, make_within, make_works, refused_reaches, refused_still, spent_over}
-use Rattle.shm_tree.proofs.Harmless.{alloc_falls}
-use Rattle.shm_tree.proofs.Unnamed.{made_unnamed}
-use Rattle.shm_tree.proofs.CutOffs.{changes_dead}
+use Rattle.shm_tree.proofs.{Harmless.alloc_falls, Unnamed.made_unnamed, CutOffs.changes_dead}
 use Rattle.shm_tree.proofs.calls.make.Goals as goal
 
 pub unreachable-requires : goal.unreachable-requires

@@ -1,29 +1,20 @@
 use Rattle.std.proofs.Common.{◌≡◌, true, refl, Bool, false}
 use Rattle.std.specs.Prelude.{Ok}
-use Rattle.shm_graph.specs.declared.ask.Me.{Me}
-use Rattle.shm_graph.specs.Reach.{is_reached}
-use Rattle.shm_plain.specs.Pools.{memo_of}
-use Rattle.shm_calls.specs.Words.{word_control}
+use Rattle.shm_graph.specs.{declared.ask.Me.Me, Reach.is_reached}
+use Rattle.shm_plain.specs.{Pools.memo_of, Calls.Ran}
+use Rattle.shm_calls.specs.{Words.word_control, CallsControl.{calls_control, calls_does, calls_of}}
 use Rattle.shm_count.specs.Roots.{member}
-use Rattle.shm_ref.specs.LatchTasks.{ReadMay}
-use Rattle.shm_ref.specs.Read.{read_plan, reading}
-use Rattle.plain_calls.proofs.Reaching.{reached_small}
-use Rattle.plain_calls.proofs.Running.{plan_may}
-use Rattle.shm_tree.proofs.Alive.{went_alive}
-use Rattle.shm_tree.proofs.Answering.{plan_answered}
-use Rattle.shm_tree.proofs.Counts.{taken_by}
+use Rattle.shm_ref.specs.{LatchTasks.ReadMay, Read.{read_plan, reading, read_steered}}
+use Rattle.plain_calls.proofs.{Reaching.reached_small, Running.plan_may}
+use Rattle.shm_tree.proofs.{Alive.went_alive, Answering.plan_answered, Counts.taken_by}
 use Rattle.shm_tree.proofs.Findings.{plain_is, plain_refused, plain_still, read_only, read_reaches, read_works}
-use Rattle.shm_calls.specs.CallsControl.{calls_control, calls_does, calls_of}
-use Rattle.shm_plain.specs.Calls.{Ran}
-use Rattle.shm_tree.specs.Falling.{AreFalling}
-use Rattle.shm_tree.proofs.Anytime.{always_falls}
-use Rattle.shm_tree.proofs.CutOffs.{looks_dead}
-use Rattle.shm_tree.proofs.calls.plain.Goals.{After-me, After-run}
+use Rattle.shm_tree.proofs.{Anytime.always_falls, CutOffs.looks_dead, calls.plain.Goals.{After-me, After-run}}
 use Rattle.shm_tree.proofs.calls.plain.Goals as goal
+use Rattle.shm_tree.specs.Falling.{AreFalling}
 
 -- references fall after it, whether it was answered or not
 falls : (c : After-run) (answered : Bool) → Ran 0 true answered c.args.pool.now c.run.new.self c.args.life.now.left c.run.new.life.left → AreFalling c.args.pool.now → AreFalling c.run.new.self
-falls c answered ran = always_falls (calls_control word_control read_plan) (calls_does word_control read_plan) (calls_of read_plan c.new-reading.result) answered c.args.pool.now c.run.new.self c.args.life.now.left c.run.new.life.left (λ r n s i. tt) c.requires.working ran c.run.ensures.told
+falls c answered ran = always_falls (calls_control word_control read_steered) (calls_does word_control read_plan) (calls_of read_steered c.new-reading.result) answered c.args.pool.now c.run.new.self c.args.life.now.left c.run.new.life.left (λ r n s i. tt) c.requires.working ran c.run.ensures.told
 
 reached : (c : After-me) → is_reached 0 (memo_of c.args.pool.now 0) c.args.node ≡ true
 reached c = c.requires.reached c.requires.node.3.some

@@ -1,32 +1,19 @@
 use Rattle.std.proofs.Common.{◌≡◌, ℕ, ◌+◌, ◌≤◌, true, refl, sym, ap, ◌∙◌, subst, arith, inl, inr, Bool, ◌<◌, false}
-use Rattle.std.specs.Prelude.{Some, Result, Ok, Err}
 use Rattle.std.proofs.lemmas.Bool.{cases_eq}
+use Rattle.std.specs.Prelude.{Some, Result, Ok, Err}
 use Rattle.shm_words.specs.Layout.{total_of}
-use Rattle.shm_graph.specs.declared.ask.Me.{Me}
-use Rattle.shm_graph.specs.Asks.{IsWithin}
-use Rattle.shm_graph.specs.Reach.{is_reached}
+use Rattle.shm_graph.specs.{declared.ask.Me.Me, Asks.IsWithin, Reach.is_reached, Tells.happens_along}
 use Rattle.shm_calls.specs.CallsControl.{calls_control, calls_of, calls_does}
-use Rattle.shm_plain.specs.Calls.{IsAtWork, Ran, Took, Did}
-use Rattle.shm_plain.specs.Pools.{Pool, memo_of}
+use Rattle.shm_plain.specs.{Calls.{IsAtWork, Ran, Took, Did}, Pools.{Pool, memo_of}}
 use Rattle.shm_count.specs.Roots.{member}
-use Rattle.shm_ref.specs.declared.answer.SetFault.{SetFault}
+use Rattle.shm_ref.specs.{declared.{answer.SetFault.SetFault, set_ref.SetState.SetState}, RootTasks.SetMay}
+use Rattle.shm_ref.specs.SetRef.{Control.{set_parts, setting, set_steered}, set_plan}
 use Rattle.shm_ref.specs.declared.answer.SetFault.TheVariants as fault
-use Rattle.shm_ref.specs.declared.set_ref.SetState.{SetState}
-use Rattle.shm_ref.specs.RootTasks.{SetMay}
-use Rattle.shm_ref.specs.SetRef.Control.{set_parts, setting}
-use Rattle.shm_ref.specs.SetRef.{set_plan}
-use Rattle.plain_calls.proofs.Reaching.{reached_small, reached_whole}
-use Rattle.plain_calls.proofs.Running.{MachineLeft, plan_may}
-use Rattle.shm_tree.specs.Bounds.{refer_steps}
-use Rattle.shm_tree.specs.Keeping.{side_word}
-use Rattle.shm_tree.proofs.Alive.{went_alive}
-use Rattle.shm_tree.proofs.Answering.{Answered, plan_answered}
+use Rattle.plain_calls.proofs.{Reaching.{reached_small, reached_whole}, Running.{MachineLeft, plan_may}}
+use Rattle.shm_tree.specs.{Bounds.refer_steps, Keeping.side_word, Falling.{AreFalling, IsUnnamed}}
+use Rattle.shm_tree.proofs.{Alive.went_alive, Answering.{Answered, plan_answered}}
 use Rattle.shm_tree.proofs.Refers.{full_within, set_cause, set_full, set_latch, set_reaches, set_refers, set_refused, set_spent, set_within, set_works, spent_within}
-use Rattle.shm_tree.proofs.SureCalls.{set_most}
-use Rattle.shm_graph.specs.Tells.{happens_along}
-use Rattle.shm_tree.specs.Falling.{AreFalling, IsUnnamed}
-use Rattle.shm_tree.proofs.Referring.{setting_falls, setting_unnamed}
-use Rattle.shm_tree.proofs.CutOffs.{changes_dead}
+use Rattle.shm_tree.proofs.{SureCalls.set_most, Referring.{setting_falls, setting_unnamed}, CutOffs.changes_dead}
 use Rattle.shm_tree.proofs.calls.refer.Goals.{After-me, After-new-setting, After-run}
 use Rattle.shm_tree.proofs.calls.refer.Goals as goal
 
@@ -40,8 +27,8 @@ planned : (c : After-new-setting) → c.new-setting.result ≡ setting c.me.resu
 planned c = c.new-setting.ensures ∙ ap (λ k. setting c.me.result c.args.node k c.args.child) c.word.ensures
 
 -- its events are told, of the plan as it was made
-told : (c : After-run) → 0 < c.args.life.now.left → Did 0 c.args.pool.now c.run.new.self (happens_along (calls_control set_parts set_plan) (calls_does set_parts set_plan) (calls_of set_plan (setting c.me.result c.args.node (side_word c.args.side) c.args.child)) (memo_of c.run.new.self 0).call)
-told c = subst (λ (z : SetState). 0 < c.args.life.now.left → Did 0 c.args.pool.now c.run.new.self (happens_along (calls_control set_parts set_plan) (calls_does set_parts set_plan) (calls_of set_plan z) (memo_of c.run.new.self 0).call)) (planned (goal.at.After-run c).After-new-setting) c.run.ensures.told
+told : (c : After-run) → 0 < c.args.life.now.left → Did 0 c.args.pool.now c.run.new.self (happens_along (calls_control set_parts set_steered) (calls_does set_parts set_plan) (calls_of set_steered (setting c.me.result c.args.node (side_word c.args.side) c.args.child)) (memo_of c.run.new.self 0).call)
+told c = subst (λ (z : SetState). 0 < c.args.life.now.left → Did 0 c.args.pool.now c.run.new.self (happens_along (calls_control set_parts set_steered) (calls_does set_parts set_plan) (calls_of set_steered z) (memo_of c.run.new.self 0).call)) (planned (goal.at.After-run c).After-new-setting) c.run.ensures.told
 
 -- references fall after it, whether it was answered or not
 falls : (c : After-run) (answered : Bool) → Ran 0 true answered c.args.pool.now c.run.new.self c.args.life.now.left c.run.new.life.left → AreFalling c.args.pool.now → AreFalling c.run.new.self
@@ -69,23 +56,23 @@ run-requires-clause-may c =
     SetMay (memo_of c.args.pool.now 0) (refl, c.requires.working.client, c.requires.working.loose, reached at.After-me, c.requires.reached)
 
 -- what is left where it answered a, which is b
-left : (c : After-new-setting) (q : Pool) (y : ℕ) (a b : Result (Unit {0}) SetFault) → a ≡ b → Ran 0 true true c.args.pool.now q c.args.life.now.left y → IsAtWork 0 q → MachineLeft set_parts set_plan (calls_of set_plan c.new-setting.result) 0 c.args.pool.now q (Some a)
+left : (c : After-new-setting) (q : Pool) (y : ℕ) (a b : Result (Unit {0}) SetFault) → a ≡ b → Ran 0 true true c.args.pool.now q c.args.life.now.left y → IsAtWork 0 q → MachineLeft set_parts set_plan (calls_of set_steered c.new-setting.result) 0 c.args.pool.now q (Some a)
     → Answered set_plan (setting (member c.args.pool.now.start.geometry 0) c.args.node (side_word c.args.side) c.args.child) c.args.pool.now q b
 left c q y a b is ran at h = plan_answered set_parts set_plan (λ (z : Me). setting z c.args.node (side_word c.args.side) c.args.child) c.args.pool.now q a c.me.ensures.is (planned c) is c.requires.working ran at h
 
 -- no exchange of it failed
-took_few : (c : After-new-setting) (q : Pool) (y : ℕ) → Took (calls_control set_parts set_plan) 0 c.args.pool.now (calls_of set_plan c.new-setting.result) q → Ran 0 true true c.args.pool.now q c.args.life.now.left y → IsWithin (refer_steps c.args.pool.now.start.geometry) (memo_of q 0).call
+took_few : (c : After-new-setting) (q : Pool) (y : ℕ) → Took (calls_control set_parts set_steered) 0 c.args.pool.now (calls_of set_steered c.new-setting.result) q → Ran 0 true true c.args.pool.now q c.args.life.now.left y → IsWithin (refer_steps c.args.pool.now.start.geometry) (memo_of q 0).call
     → c.args.life.now.left ≤ y + refer_steps c.args.pool.now.start.geometry
 took_few c q y took ran most =
     let p = c.args.pool.now in
     let k = side_word c.args.side in
     let made : c.new-setting.result ≡ setting (member p.start.geometry 0) c.args.node k c.args.child = planned c ∙ ap (λ (z : Me). setting z c.args.node k c.args.child) c.me.ensures.is in
     set_most (refer_steps p.start.geometry) p q c.args.node k c.args.child c.args.life.now.left y c.requires.working (refl, c.requires.working.client, c.requires.working.loose, reached (goal.at.After-new-setting c).After-me, c.requires.reached)
-    (subst (λ (z : SetState). Took (calls_control set_parts set_plan) 0 p (calls_of set_plan z) q) made took) ran most
+    (subst (λ (z : SetState). Took (calls_control set_parts set_steered) 0 p (calls_of set_steered z) q) made took) ran most
 
 -- it isn't refused but at the count step
 never : (c : After-new-setting) (q : Pool) (y : ℕ) (a : Result (Unit {0}) SetFault) (f : SetFault) → a ≡ Err f → ((e : ℕ) → f ≡ fault.EraSpent e → ⊥) → ((d n : ℕ) → f ≡ fault.CountFull d n → ⊥) → Ran 0 true true c.args.pool.now q c.args.life.now.left y → IsAtWork 0 q
-    → MachineLeft set_parts set_plan (calls_of set_plan c.new-setting.result) 0 c.args.pool.now q (Some a) → ⊥
+    → MachineLeft set_parts set_plan (calls_of set_steered c.new-setting.result) 0 c.args.pool.now q (Some a) → ⊥
 never c q y a f is spent full ran at h =
     let (es, on, l) = left c q y a (Err f) is ran at h in
     let (i, n, d, node) = c.requires.node in

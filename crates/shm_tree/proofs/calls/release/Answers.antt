@@ -1,25 +1,18 @@
 use Rattle.std.proofs.Common.{refl, true, Bool, false}
-use Rattle.shm_plain.specs.Pools.{memo_of}
-use Rattle.shm_calls.specs.Words.{word_control}
+use Rattle.shm_plain.specs.{Pools.memo_of, Calls.Ran}
+use Rattle.shm_calls.specs.{Words.word_control, CallsControl.{calls_control, calls_does, calls_of}}
 use Rattle.shm_count.specs.Roots.{member}
-use Rattle.shm_ref.specs.LatchTasks.{ReleaseMay}
-use Rattle.shm_ref.specs.Release.{release_plan, releasing}
+use Rattle.shm_ref.specs.{LatchTasks.ReleaseMay, Release.{release_plan, releasing, release_steered}}
 use Rattle.plain_calls.proofs.Running.{plan_may}
-use Rattle.shm_tree.proofs.Alive.{went_alive, went_dead}
-use Rattle.shm_tree.proofs.Answering.{plan_answered}
-use Rattle.shm_tree.proofs.Counts.{taken_by}
-use Rattle.shm_tree.proofs.Latches.{released_still, released_works}
-use Rattle.shm_calls.specs.CallsControl.{calls_control, calls_does, calls_of}
-use Rattle.shm_plain.specs.Calls.{Ran}
-use Rattle.shm_tree.specs.Falling.{AreFalling}
-use Rattle.shm_tree.proofs.Anytime.{always_falls}
-use Rattle.shm_tree.proofs.CutOffs.{cut_ran}
+use Rattle.shm_tree.proofs.{Alive.{went_alive, went_dead}, Answering.plan_answered, Counts.taken_by}
+use Rattle.shm_tree.proofs.{Latches.{released_still, released_works}, Anytime.always_falls, CutOffs.cut_ran}
 use Rattle.shm_tree.proofs.calls.release.Goals.{After-run}
 use Rattle.shm_tree.proofs.calls.release.Goals as goal
+use Rattle.shm_tree.specs.Falling.{AreFalling}
 
 -- references fall after it, whether it was answered or not
 falls : (c : After-run) (answered : Bool) → Ran 0 true answered c.args.pool.now c.run.new.self c.args.life.now.left c.run.new.life.left → AreFalling c.args.pool.now → AreFalling c.run.new.self
-falls c answered ran = always_falls (calls_control word_control release_plan) (calls_does word_control release_plan) (calls_of release_plan c.new-releasing.result) answered c.args.pool.now c.run.new.self c.args.life.now.left c.run.new.life.left (λ r n s i. tt) c.requires.working ran c.run.ensures.told
+falls c answered ran = always_falls (calls_control word_control release_steered) (calls_does word_control release_plan) (calls_of release_steered c.new-releasing.result) answered c.args.pool.now c.run.new.self c.args.life.now.left c.run.new.life.left (λ r n s i. tt) c.requires.working ran c.run.ensures.told
 
 pub run-requires-clause-may : goal.run-requires-clause-may
 run-requires-clause-may c =

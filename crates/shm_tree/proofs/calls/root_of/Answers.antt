@@ -1,23 +1,17 @@
 use Rattle.std.proofs.Common.{refl, subst, true, Bool, false}
 use Rattle.shm_graph.specs.declared.ask.Me.{Me}
 use Rattle.shm_plain.specs.Calls.{Did, Ran}
-use Rattle.shm_calls.specs.Words.{word_control}
-use Rattle.shm_ref.specs.RootOf.{naming, naming_plan}
-use Rattle.shm_tree.proofs.Alive.{went_alive}
-use Rattle.shm_tree.proofs.Answering.{plan_answered}
-use Rattle.shm_tree.proofs.Counts.{taken_by}
-use Rattle.shm_tree.proofs.CutShort.{unanswered}
+use Rattle.shm_calls.specs.{Words.word_control, CallsControl.{calls_control, calls_does, calls_of}}
+use Rattle.shm_ref.specs.RootOf.{naming, naming_plan, naming_steered}
+use Rattle.shm_tree.proofs.{Alive.went_alive, Answering.plan_answered, Counts.taken_by, CutShort.unanswered}
 use Rattle.shm_tree.proofs.Latches.{named_latch, named_reached, named_reaches, named_still, named_works}
-use Rattle.shm_calls.specs.CallsControl.{calls_control, calls_does, calls_of}
-use Rattle.shm_tree.specs.Falling.{AreFalling}
-use Rattle.shm_tree.proofs.Anytime.{always_falls}
-use Rattle.shm_tree.proofs.CutOffs.{looks_dead}
-use Rattle.shm_tree.proofs.calls.root_of.Goals.{After-run}
+use Rattle.shm_tree.proofs.{Anytime.always_falls, CutOffs.looks_dead, calls.root_of.Goals.After-run}
 use Rattle.shm_tree.proofs.calls.root_of.Goals as goal
+use Rattle.shm_tree.specs.Falling.{AreFalling}
 
 -- references fall after it, whether it was answered or not
 falls : (c : After-run) (answered : Bool) → Ran 0 true answered c.args.pool.now c.run.new.self c.args.life.now.left c.run.new.life.left → AreFalling c.args.pool.now → AreFalling c.run.new.self
-falls c answered ran = always_falls (calls_control word_control naming_plan) (calls_does word_control naming_plan) (calls_of naming_plan c.new-naming.result) answered c.args.pool.now c.run.new.self c.args.life.now.left c.run.new.life.left (λ r n s i. tt) c.requires.working ran c.run.ensures.told
+falls c answered ran = always_falls (calls_control word_control naming_steered) (calls_does word_control naming_plan) (calls_of naming_steered c.new-naming.result) answered c.args.pool.now c.run.new.self c.args.life.now.left c.run.new.life.left (λ r n s i. tt) c.requires.working ran c.run.ensures.told
 
 pub returns-in-None : goal.returns-in-None
 returns-in-None c =

@@ -2,36 +2,26 @@ use Rattle.std.proofs.Common.{◌≡◌, ℕ, true, refl, ap, ◌∙◌, subst, 
 use Rattle.std.specs.Prelude.{Some, Ok, Err, Result}
 use Rattle.shm_graph.specs.declared.ask.Me.{Me}
 use Rattle.shm_calls.specs.CallsControl.{calls_control, calls_of, calls_does}
-use Rattle.shm_plain.specs.Calls.{Took, Ran, IsAtWork}
-use Rattle.shm_plain.specs.Pools.{memo_of}
-use Rattle.shm_count.specs.declared.answer.ShareFault.TheVariants as fault
-use Rattle.shm_count.specs.declared.up_root.RootingState.{RootingState}
-use Rattle.shm_count.specs.Roots.{member}
-use Rattle.shm_count.specs.ShareTask.{ShareMay}
-use Rattle.shm_count.specs.UpRoot.Control.{rooting, rooting_parts}
+use Rattle.shm_plain.specs.{Calls.{Took, Ran, IsAtWork}, Pools.memo_of}
+use Rattle.shm_count.specs.{declared.{up_root.RootingState.RootingState, answer.ShareFault.ShareFault}, Roots.member}
+use Rattle.shm_count.specs.{ShareTask.ShareMay, UpRoot.Control.{rooting, rooting_parts, rooting_steered}}
 use Rattle.shm_count.specs.UpRoot.{rooting_plan}
-use Rattle.plain_calls.proofs.Reaching.{reached_small}
-use Rattle.plain_calls.proofs.Running.{plan_may, MachineLeft}
-use Rattle.shm_tree.proofs.Alive.{went_alive}
-use Rattle.shm_tree.proofs.Answering.{Answered, plan_answered}
+use Rattle.shm_count.specs.declared.answer.ShareFault.TheVariants as fault
+use Rattle.plain_calls.proofs.{Reaching.reached_small, Running.{plan_may, MachineLeft}}
+use Rattle.shm_tree.proofs.{Alive.went_alive, Answering.{Answered, plan_answered}}
 use Rattle.shm_tree.proofs.Shares.{share_cause, share_latch, share_reaches, share_room, share_shared, share_still, share_works}
-use Rattle.shm_tree.proofs.CutShort.{unanswered}
-use Rattle.shm_tree.proofs.SureCalls.{share_within}
-use Rattle.shm_tree.specs.Falling.{AreFalling}
-use Rattle.shm_tree.proofs.Anytime.{always_falls}
-use Rattle.shm_tree.proofs.Harmless.{share_keeps}
-use Rattle.shm_tree.proofs.CutOffs.{changes_dead}
-use Rattle.shm_count.specs.declared.answer.ShareFault.{ShareFault}
-use Rattle.shm_tree.proofs.calls.share.Goals.{After-run}
+use Rattle.shm_tree.proofs.{CutShort.unanswered, SureCalls.share_within, Anytime.always_falls, Harmless.share_keeps}
+use Rattle.shm_tree.proofs.{CutOffs.changes_dead, calls.share.Goals.After-run}
 use Rattle.shm_tree.proofs.calls.share.Goals as goal
+use Rattle.shm_tree.specs.Falling.{AreFalling}
 
 -- references fall after it, whether it was answered or not
 falls : (c : After-run) (answered : Bool) → Ran 0 true answered c.args.pool.now c.run.new.self c.args.life.now.left c.run.new.life.left → AreFalling c.args.pool.now → AreFalling c.run.new.self
-falls c answered ran = always_falls (calls_control rooting_parts rooting_plan) (calls_does rooting_parts rooting_plan) (calls_of rooting_plan c.new-sharing.result) answered c.args.pool.now c.run.new.self c.args.life.now.left c.run.new.life.left share_keeps c.requires.working ran c.run.ensures.told
+falls c answered ran = always_falls (calls_control rooting_parts rooting_steered) (calls_does rooting_parts rooting_plan) (calls_of rooting_steered c.new-sharing.result) answered c.args.pool.now c.run.new.self c.args.life.now.left c.run.new.life.left share_keeps c.requires.working ran c.run.ensures.told
 
 -- its turns, by the plan as it was made
-took : (c : After-run) → Took (calls_control rooting_parts rooting_plan) 0 c.args.pool.now (calls_of rooting_plan c.new-sharing.result) c.run.new.self → Took (calls_control rooting_parts rooting_plan) 0 c.args.pool.now (calls_of rooting_plan (rooting (member c.args.pool.now.start.geometry 0) c.args.tree)) c.run.new.self
-took c t = subst (λ (s : RootingState). Took (calls_control rooting_parts rooting_plan) 0 c.args.pool.now (calls_of rooting_plan s) c.run.new.self) (c.new-sharing.ensures ∙ ap (λ (z : Me). rooting z c.args.tree) c.me.ensures.is) t
+took : (c : After-run) → Took (calls_control rooting_parts rooting_steered) 0 c.args.pool.now (calls_of rooting_steered c.new-sharing.result) c.run.new.self → Took (calls_control rooting_parts rooting_steered) 0 c.args.pool.now (calls_of rooting_steered (rooting (member c.args.pool.now.start.geometry 0) c.args.tree)) c.run.new.self
+took c t = subst (λ (s : RootingState). Took (calls_control rooting_parts rooting_steered) 0 c.args.pool.now (calls_of rooting_steered s) c.run.new.self) (c.new-sharing.ensures ∙ ap (λ (z : Me). rooting z c.args.tree) c.me.ensures.is) t
 
 pub new-sharing-requires-clause-block : goal.new-sharing-requires-clause-block
 new-sharing-requires-clause-block c = reached_small c.args.pool.now 0 c.requires.working.work c.requires.working.run c.args.tree (c.requires.reached c.requires.some)
@@ -42,7 +32,7 @@ run-requires-clause-may c =
     ShareMay (memo_of c.args.pool.now 0) (refl, c.requires.working.client, c.requires.reached c.requires.some)
 
 -- what is left where it answered a, which is b
-left : (c : After-run) (a b : Result ℕ ShareFault) → a ≡ b → Ran 0 true true c.args.pool.now c.run.new.self c.args.life.now.left c.run.new.life.left → IsAtWork 0 c.run.new.self → MachineLeft rooting_parts rooting_plan (calls_of rooting_plan c.new-sharing.result) 0 c.args.pool.now c.run.new.self (Some a)
+left : (c : After-run) (a b : Result ℕ ShareFault) → a ≡ b → Ran 0 true true c.args.pool.now c.run.new.self c.args.life.now.left c.run.new.life.left → IsAtWork 0 c.run.new.self → MachineLeft rooting_parts rooting_plan (calls_of rooting_steered c.new-sharing.result) 0 c.args.pool.now c.run.new.self (Some a)
     → Answered rooting_plan (rooting (member c.args.pool.now.start.geometry 0) c.args.tree) c.args.pool.now c.run.new.self b
 left c a b is ran at h = plan_answered rooting_parts rooting_plan (λ (z : Me). rooting z c.args.tree) c.args.pool.now c.run.new.self a c.me.ensures.is c.new-sharing.ensures is c.requires.working ran at h
 

@@ -2,9 +2,7 @@ use Rattle.std.proofs.Common.{◌∙◌, ap, sym, subst}
 use Rattle.std.specs.Prelude.{Ok}
 use Rattle.shm_plain.specs.Pools.{Pool}
 use Rattle.shm_tree.specs.Ending.{HasEnded}
-use Rattle.shm_tree.proofs.Emptying.{ended_empty}
-use Rattle.shm_tree.proofs.Ending.{ended_turns}
-use Rattle.shm_tree.proofs.closing.finish.Goals.{After-close}
+use Rattle.shm_tree.proofs.{Emptying.ended_empty, Ending.ended_turns, closing.finish.Goals.After-close}
 use Rattle.shm_tree.proofs.closing.finish.Goals as goal
 
 ended : (c : After-close) → HasEnded c.args.died c.args.pool c.close.result (Ok tt)

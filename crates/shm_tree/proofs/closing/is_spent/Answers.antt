@@ -1,14 +1,10 @@
-use Rattle.std.proofs.Common.{◌≡◌, ℕ, ◌<◌, sym, ap, ◌∙◌, subst, arith, true}
+use Rattle.std.proofs.{Common.{◌≡◌, ℕ, ◌<◌, sym, ap, ◌∙◌, subst, arith, true}, lemmas.Bool.{lt-ltb, ltb-true}}
 use Rattle.std.specs.Prelude.{nat_lt, slice_index}
-use Rattle.std.proofs.lemmas.Bool.{lt-ltb, ltb-true}
-use Rattle.shm_words.specs.declared.geometry.Geometry.{Geometry}
+use Rattle.shm_words.specs.{declared.geometry.Geometry.Geometry, Layout.{address, total_of}}
 use Rattle.shm_words.specs.declared.place.Place.TheVariants as place
-use Rattle.shm_words.specs.Layout.{address, total_of}
-use Rattle.shm_graph.specs.declared.spot.Spot.TheVariants.{Era}
-use Rattle.shm_graph.specs.Views.{own_word}
+use Rattle.shm_graph.specs.{declared.spot.Spot.TheVariants.Era, Views.own_word}
 use Rattle.shm_plain.specs.Pools.{memo_of}
-use Rattle.shm_tree.proofs.Ending.{era_below, era_read}
-use Rattle.shm_tree.proofs.closing.is_spent.Goals.{After-era}
+use Rattle.shm_tree.proofs.{Ending.{era_below, era_read}, closing.is_spent.Goals.After-era}
 use Rattle.shm_tree.proofs.closing.is_spent.Goals as goal
 
 who : (c : After-era) → 0 < c.args.pool.now.start.geometry.clients

@@ -1,19 +1,16 @@
 use Rattle.std.proofs.Common.{◌≡◌, ◌^◌, ◌<◌, ◌≤◌, ap, ◌∙◌, arith}
-use Rattle.shm_calls.specs.CallsControl.{calls_of}
-use Rattle.shm_calls.specs.CallsFit.{CallsFits, CallsGives}
-use Rattle.shm_recover.specs.declared.leave.LeaveState.{LeaveState}
-use Rattle.shm_recover.specs.Leave.Control.{leave_parts, leaving}
+use Rattle.shm_calls.specs.{CallsControl.calls_of, CallsFit.{CallsFits, CallsGives}}
+use Rattle.shm_recover.specs.{declared.leave.LeaveState.LeaveState, Leave.Control.{leave_parts, leaving, leave_steered}}
 use Rattle.shm_recover.specs.Leave.{leave_plan}
 use Rattle.shm_plain.proofs.Called.{Called}
 use Rattle.shm_tree.specs.Ending.{HasParted}
-use Rattle.shm_tree.proofs.Ending.{leave_answers, leave_control, leave_fits, leave_parted, leaver}
-use Rattle.shm_tree.proofs.Opening.{some_is}
+use Rattle.shm_tree.proofs.{Ending.{leave_answers, leave_control, leave_fits, leave_parted, leaver}, Opening.some_is}
 use Rattle.shm_tree.proofs.Roomy.{parted_ok, young_room}
 use Rattle.shm_tree.proofs.closing.leave.Goals.{After-new-leaving, After-call, After-unwrap}
 use Rattle.shm_tree.proofs.closing.leave.Goals as goal
 
 made : (c : After-new-leaving) → c.new-leaving.result ≡ leaver c.args.pool.now
-made c = c.new-leaving.ensures ∙ ap (λ (x : LeaveState). calls_of leave_plan x) (c.new.ensures ∙ ap leaving c.me.ensures.is)
+made c = c.new-leaving.ensures ∙ ap (λ (x : LeaveState). calls_of leave_steered x) (c.new.ensures ∙ ap leaving c.me.ensures.is)
 
 pub call-requires-clause-fits : goal.call-requires-clause-fits
 call-requires-clause-fits c =

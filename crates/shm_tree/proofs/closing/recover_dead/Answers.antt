@@ -1,19 +1,16 @@
 use Rattle.std.proofs.Common.{◌≡◌, ◌^◌, ◌<◌, ◌≤◌, ap, ◌∙◌, arith}
-use Rattle.shm_calls.specs.CallsControl.{calls_of}
-use Rattle.shm_calls.specs.CallsFit.{CallsFits, CallsGives}
+use Rattle.shm_calls.specs.{CallsControl.calls_of, CallsFit.{CallsFits, CallsGives}}
 use Rattle.shm_recover.specs.declared.recover.RecoverState.{RecoverState}
-use Rattle.shm_recover.specs.Recover.Control.{recover_parts, recovering}
-use Rattle.shm_recover.specs.Recover.{recover_plan}
+use Rattle.shm_recover.specs.Recover.{Control.{recover_parts, recovering, recover_steered}, recover_plan}
 use Rattle.shm_plain.proofs.Called.{Called}
 use Rattle.shm_tree.specs.Ending.{IsRevived}
 use Rattle.shm_tree.proofs.Ending.{recover_answers, recover_control, recover_fits, recover_revived, recoverer}
-use Rattle.shm_tree.proofs.Opening.{some_is}
-use Rattle.shm_tree.proofs.Roomy.{revived_ok, young_room}
+use Rattle.shm_tree.proofs.{Opening.some_is, Roomy.{revived_ok, young_room}}
 use Rattle.shm_tree.proofs.closing.recover_dead.Goals.{After-new-recovery, After-call, After-unwrap}
 use Rattle.shm_tree.proofs.closing.recover_dead.Goals as goal
 
 made : (c : After-new-recovery) → c.new-recovery.result ≡ recoverer c.args.pool.now
-made c = c.new-recovery.ensures ∙ ap (λ (x : RecoverState). calls_of recover_plan x) (c.new.ensures.state ∙ ap recovering c.me.ensures.is)
+made c = c.new-recovery.ensures ∙ ap (λ (x : RecoverState). calls_of recover_steered x) (c.new.ensures.state ∙ ap recovering c.me.ensures.is)
 
 who : (c : After-new-recovery) → 0 < c.args.pool.now.start.geometry.clients
 who c = let one = c.requires.one in omega arith

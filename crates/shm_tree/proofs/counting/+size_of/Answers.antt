@@ -2,8 +2,7 @@ use Rattle.std.proofs.Common.{◌≡◌, ℕ, ◌+◌, ◌<◌, ◌^◌, get_or,
 use Rattle.shm_plain.specs.Pools.{Pool}
 use Rattle.shm_tree.specs.Holding.{HasSearch}
 use Rattle.shm_tree.proofs.Sizes.{Sized, block_small, children_at, left_lower, left_search, node_sized, none_sized, right_lower, right_search, sized_small}
-use Rattle.shm_tree.proofs.Ways.{height_at}
-use Rattle.shm_tree.proofs.counting.+size_of.Goals.{After-size_of-right}
+use Rattle.shm_tree.proofs.{Ways.height_at, counting.+size_of.Goals.After-size_of-right}
 use Rattle.shm_tree.proofs.counting.+size_of.Goals as goal
 
 pub returns-then-tree-eq0 : goal.returns-then-tree-eq0

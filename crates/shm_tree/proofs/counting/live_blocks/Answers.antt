@@ -1,6 +1,5 @@
 use Rattle.std.proofs.Common.{◌≡◌, ℕ, ◌+◌, ◌*◌, sym, ap, ◌∙◌, arith}
-use Rattle.shm_words.specs.declared.geometry.Geometry.{Geometry}
-use Rattle.shm_words.specs.Layout.{bodies, total_of}
+use Rattle.shm_words.specs.{declared.geometry.Geometry.Geometry, Layout.{bodies, total_of}}
 use Rattle.shm_plain.specs.Pools.{Pool}
 use Rattle.shm_tree.specs.Holding.{lives_below}
 use Rattle.shm_tree.proofs.Lives.{lives_all, lives_first}

@@ -1,11 +1,9 @@
 use Rattle.std.proofs.Common.{◌≡◌, ℕ, ◌+◌, ◌*◌, get_or, sym, ap, subst, ◌∙◌, arith}
 use Rattle.shm_words.specs.Layout.{bodies, pages}
 use Rattle.shm_words.proofs.Placing.{total_most_wide}
-use Rattle.shm_graph.specs.References.{one_if}
-use Rattle.shm_graph.specs.Spots.{block_spot, classes_in, spot_at}
+use Rattle.shm_graph.specs.{References.one_if, Spots.{block_spot, classes_in, spot_at}}
 use Rattle.shm_plain.specs.Pools.{Pool}
-use Rattle.shm_tree.specs.Holding.{lives_below}
-use Rattle.shm_tree.specs.Keeping.{is_live}
+use Rattle.shm_tree.specs.{Holding.lives_below, Keeping.is_live}
 use Rattle.shm_tree.proofs.Lives.{body_start, lives_few, lives_next, one_most, page_inside, page_spot, page_start, page_within}
 use Rattle.shm_tree.proofs.counting.live_to.Goals.{After-body, After-page}
 use Rattle.shm_tree.proofs.counting.live_to.Goals as goal

@@ -1,10 +1,8 @@
 use Rattle.std.proofs.Common.{◌≡◌, ℕ, ◌≤◌, ◌∙◌, subst, arith}
-use Rattle.shm_tree.specs.Standing.{Stands, weight}
-use Rattle.shm_tree.specs.Ways.{down}
+use Rattle.shm_tree.specs.{Standing.{Stands, weight}, Ways.down}
 use Rattle.shm_tree.proofs.Answering.{node_still, reached_then}
 use Rattle.shm_tree.proofs.Building.{looked, looked_none, looked_then, looks_after, looks_done, looks_from}
-use Rattle.shm_tree.proofs.Descents.{level_light, level_stands}
-use Rattle.shm_tree.proofs.Ways.{some_node}
+use Rattle.shm_tree.proofs.{Descents.{level_light, level_stands}, Ways.some_node}
 use Rattle.shm_tree.proofs.find.above.Goals as goal
 
 pub loop-level-init : goal.loop-level-init

@@ -1,8 +1,5 @@
 use Rattle.std.proofs.Common.{ℕ, ◌≤◌, ◌≡◌, ◌+◌, ◌*◌}
-use Rattle.shm_tree.specs.Standing.{Stands, weight}
-use Rattle.shm_tree.specs.Trees.{Tree}
-use Rattle.shm_tree.specs.Ways.{down}
-use Rattle.shm_tree.specs.Working.{IsReached}
+use Rattle.shm_tree.specs.{Standing.{Stands, weight}, Trees.Tree, Ways.down, Working.IsReached}
 use Rattle.shm_tree.proofs.Building.{Looked}
 use Rattle.shm_tree.proofs.find.above.Given as goal
 

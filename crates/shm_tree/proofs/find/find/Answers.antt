@@ -1,13 +1,9 @@
-use Rattle.std.proofs.Common.{ℕ, ◌∙◌, inl, inr, sym, subst, arith}
-use Rattle.std.proofs.lemmas.Bool.{cases_eq}
-use Rattle.shm_tree.specs.Standing.{Stands}
-use Rattle.shm_tree.specs.Trees.{Tree}
-use Rattle.shm_tree.specs.Ways.{IsOther, IsSome, down}
+use Rattle.std.proofs.{Common.{ℕ, ◌∙◌, inl, inr, sym, subst, arith}, lemmas.Bool.cases_eq}
+use Rattle.shm_tree.specs.{Standing.Stands, Trees.Tree, Ways.{IsOther, IsSome, down}}
 use Rattle.shm_tree.proofs.Answering.{node_still, reached_then}
 use Rattle.shm_tree.proofs.Building.{looked, looked_none, looked_then, looks_after, looks_done, looks_from}
 use Rattle.shm_tree.proofs.Descents.{level_light, level_lower, level_stands, none_end, others_deep, way_low}
-use Rattle.shm_tree.proofs.Ways.{key_end, key_other, stands_node}
-use Rattle.shm_tree.proofs.Weights.{weight_nodes}
+use Rattle.shm_tree.proofs.{Ways.{key_end, key_other, stands_node}, Weights.weight_nodes}
 use Rattle.shm_tree.proofs.find.find.Goals as goal
 
 pub loop-node-init : goal.loop-node-init

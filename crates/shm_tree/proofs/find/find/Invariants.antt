@@ -1,10 +1,6 @@
 use Rattle.std.proofs.Common.{ℕ, ◌<◌, ◌≤◌, ◌≡◌, ◌+◌, ◌*◌}
-use Rattle.shm_tree.specs.Standing.{Stands, weight}
-use Rattle.shm_tree.specs.Trees.{Tree}
-use Rattle.shm_tree.specs.Ways.{IsOther, down}
-use Rattle.shm_tree.specs.Working.{IsReached}
-use Rattle.shm_tree.proofs.Building.{Looked}
-use Rattle.shm_tree.proofs.Ways.{height_at}
+use Rattle.shm_tree.specs.{Standing.{Stands, weight}, Trees.Tree, Ways.{IsOther, down}, Working.IsReached}
+use Rattle.shm_tree.proofs.{Building.Looked, Ways.height_at}
 use Rattle.shm_tree.proofs.find.find.Given as goal
 
 abbrev pub invariant-loop-node : goal.invariant-loop-node

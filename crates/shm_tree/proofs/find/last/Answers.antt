@@ -1,13 +1,7 @@
-use Rattle.std.proofs.Common.{◌≡◌, ℕ, suc, ◌+◌, ◌-◌, ◌∙◌, inl, inr, sym, subst, arith}
-use Rattle.std.proofs.lemmas.Bool.{cases_eq}
-use Rattle.shm_tree.specs.Standing.{Stands}
-use Rattle.shm_tree.specs.Trees.{Tree}
-use Rattle.shm_tree.specs.Ways.{IsSome, down, toward}
-use Rattle.shm_tree.proofs.Answering.{reached_then}
-use Rattle.shm_tree.proofs.Building.{looked, looked_then, looks_after, looks_done, looks_from}
-use Rattle.shm_tree.proofs.Descents.{way_low}
-use Rattle.shm_tree.proofs.Levels.{behind}
-use Rattle.shm_tree.proofs.Onward.{left_child, right_child, some_end}
+use Rattle.std.proofs.{Common.{◌≡◌, ℕ, suc, ◌+◌, ◌-◌, ◌∙◌, inl, inr, sym, subst, arith}, lemmas.Bool.cases_eq}
+use Rattle.shm_tree.specs.{Standing.Stands, Trees.Tree, Ways.{IsSome, down, toward}}
+use Rattle.shm_tree.proofs.{Answering.reached_then, Building.{looked, looked_then, looks_after, looks_done, looks_from}}
+use Rattle.shm_tree.proofs.{Descents.way_low, Levels.behind, Onward.{left_child, right_child, some_end}}
 use Rattle.shm_tree.proofs.Ways.{height_at_is, stands_node, stands_none, toward_lower}
 use Rattle.shm_tree.proofs.find.last.Goals as goal
 

@@ -1,10 +1,6 @@
 use Rattle.std.proofs.Common.{◌≡◌, ℕ, suc, ◌+◌, ◌*◌, ◌-◌, ◌≤◌}
-use Rattle.shm_tree.specs.Standing.{Stands}
-use Rattle.shm_tree.specs.Trees.{Tree, IsSearch}
-use Rattle.shm_tree.specs.Ways.{IsDeep, IsEnd, down}
-use Rattle.shm_tree.specs.Working.{IsReached}
-use Rattle.shm_tree.proofs.Building.{Looked}
-use Rattle.shm_tree.proofs.Ways.{height_at}
+use Rattle.shm_tree.specs.{Standing.Stands, Trees.{Tree, IsSearch}, Ways.{IsDeep, IsEnd, down}, Working.IsReached}
+use Rattle.shm_tree.proofs.{Building.Looked, Ways.height_at}
 use Rattle.shm_tree.proofs.find.last.Given as goal
 
 abbrev pub invariant-loop-next : goal.invariant-loop-next

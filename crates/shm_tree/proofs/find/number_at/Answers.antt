@@ -1,11 +1,9 @@
 use Rattle.std.proofs.Common.{◌∙◌, sym, arith, ◌≤◌}
-use Rattle.shm_tree.proofs.Building.{looked, looked_then, looks_after, looks_done, looks_from}
-use Rattle.shm_tree.specs.Standing.{Stands}
-use Rattle.shm_tree.specs.Trees.{Tree, height}
-use Rattle.shm_tree.proofs.Descents.{others_deep}
+use Rattle.shm_tree.proofs.{Building.{looked, looked_then, looks_after, looks_done, looks_from}, Descents.others_deep}
 use Rattle.shm_tree.proofs.Ways.{down_lower, down_found, end_none, end_some, stands_node}
 use Rattle.shm_tree.proofs.find.number_at.Goals.{In_ok-place}
 use Rattle.shm_tree.proofs.find.number_at.Goals as goal
+use Rattle.shm_tree.specs.{Standing.Stands, Trees.{Tree, height}}
 
 pub find-requires : goal.find-requires
 find-requires c = record { working = c.requires.working; latch = c.requires.latch; tree = c.requires.tree }

@@ -1,32 +1,20 @@
-use Rattle.shm_tree.proofs.Resting.{rests_still, rests_then}
-use Rattle.std.proofs.Common.{◌≡◌, ℕ, suc, ◌+◌, ◌*◌, ◌-◌, ◌<◌, ◌≤◌, ◌∙◌, sym, subst, arith, inl, inr}
-use Rattle.shm_count.specs.declared.answer.Made.{Made}
-use Rattle.shm_tree.specs.Building.{IsCut}
-use Rattle.shm_tree.specs.declared.node.Side.{Side}
-use Rattle.shm_tree.specs.Inserting.{outside}
-use Rattle.shm_tree.specs.Raising.{IsCheapAt}
-use Rattle.shm_tree.specs.Sharing.{CountsTop}
-use Rattle.shm_tree.proofs.Growing.{down_tree}
+use Rattle.shm_tree.proofs.{Resting.{rests_still, rests_then}, Growing.down_tree}
 use Rattle.shm_tree.proofs.Lights.{level_few, level_tops, lowest_tops, outside_count, outside_new, outside_none, registered_same}
-use Rattle.shm_tree.proofs.LiveCounts.{spent_made}
-use Rattle.shm_tree.proofs.Named.{lives_fresh, lives_stay}
-use Rattle.shm_tree.proofs.Sharings.{top_kept}
+use Rattle.shm_tree.proofs.{LiveCounts.spent_made, Named.{lives_fresh, lives_stay}, Sharings.top_kept}
 use Rattle.shm_tree.proofs.Weights.{weight_nodes}
-use Rattle.shm_tree.specs.Keeping.{HasMade}
-use Rattle.shm_tree.specs.Standing.{Stands, weight}
-use Rattle.shm_tree.specs.Trees.{Tree, height, inserted}
-use Rattle.shm_tree.specs.Ways.{IsDeep, IsEnd, IsOther, down, toward}
 use Rattle.shm_tree.proofs.Building.{builds_cut, builds_died, builds_done, builds_first, builds_from, built_after, built_cut, built_made, built_more, cut_made, cut_then, made_more, refused_with, rooms_rooted, rooms_still, root_reached, still_cut, went_on}
-use Rattle.shm_tree.proofs.Costs.{away, cost, cost_down, cost_end, cost_level, cost_low, work}
-use Rattle.shm_tree.proofs.Descents.{others_deep}
+use Rattle.shm_tree.proofs.{Costs.{away, cost, cost_down, cost_end, cost_level, cost_low, work}, Descents.others_deep}
 use Rattle.shm_tree.proofs.Raising.{held_kept}
 use Rattle.shm_tree.proofs.Inserting.{built_held, built_up, level_made, level_up, registered_at_hand, registered_kept}
-use Rattle.shm_tree.proofs.Nodes.{made_then}
-use Rattle.shm_tree.proofs.Ways.{down_lower, other_block, stands_one, tree_is}
-use Rattle.shm_tree.specs.Bounds.{climb_steps, insert_steps, lowest_steps, raise_steps}
-use Rattle.shm_tree.specs.Spending.{HasSpent}
+use Rattle.shm_tree.proofs.{Nodes.made_then, Ways.{down_lower, other_block, stands_one, tree_is}}
 use Rattle.shm_tree.proofs.Spendings.{climbed_low, climbed_more, climbed_none, first_most, level_most, spent_call, spent_then}
 use Rattle.shm_tree.proofs.insert.insert.Goals as goal
+use Rattle.shm_tree.specs.{Building.IsCut, declared.node.Side.Side, Inserting.outside, Raising.IsCheapAt}
+use Rattle.shm_tree.specs.{Sharing.CountsTop, Keeping.HasMade, Standing.{Stands, weight}}
+use Rattle.shm_tree.specs.{Trees.{Tree, height, inserted}, Ways.{IsDeep, IsEnd, IsOther, down, toward}}
+use Rattle.shm_tree.specs.{Bounds.{climb_steps, insert_steps, lowest_steps, raise_steps}, Spending.HasSpent}
+use Rattle.std.proofs.Common.{◌≡◌, ℕ, suc, ◌+◌, ◌*◌, ◌-◌, ◌<◌, ◌≤◌, ◌∙◌, sym, subst, arith, inl, inr}
+use Rattle.shm_count.specs.declared.answer.Made.{Made}
 
 pub above-requires : goal.above-requires
 above-requires c =

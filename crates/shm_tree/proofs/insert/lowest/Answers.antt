@@ -1,18 +1,12 @@
-use Rattle.shm_tree.proofs.Resting.{rests_link}
-use Rattle.std.proofs.Common.{◌≡◌, ◌∙◌, lit≤, sym, ap, subst, arith}
-use Rattle.shm_tree.specs.Sharing.{IsFresh}
-use Rattle.shm_tree.proofs.Weights.{weigh_link, weight_nodes}
-use Rattle.shm_count.specs.declared.answer.Made.{Made}
-use Rattle.shm_tree.specs.declared.node.Side.TheVariants.{Left}
-use Rattle.shm_tree.specs.Building.{IsBuilt}
-use Rattle.shm_tree.specs.Inserting.{StandsLowest, WeighsLowest, left_of, right_of}
-use Rattle.shm_tree.specs.Keeping.{HasTree, IsLinked}
-use Rattle.shm_tree.specs.Standing.{Stands, weight}
-use Rattle.shm_tree.specs.Trees.{Tree, Node, inserted}
+use Rattle.shm_tree.proofs.{Resting.rests_link, Weights.{weigh_link, weight_nodes}}
 use Rattle.shm_tree.proofs.Building.{born_built, builds_after, builds_first, builds_from, builds_link, built_after, linked_some, looked, ok_kept, rooms_some, rooms_still}
 use Rattle.shm_tree.proofs.Inserting.{inserted_low}
-use Rattle.shm_tree.specs.Bounds.{link_steps}
 use Rattle.shm_tree.proofs.insert.lowest.Goals as goal
+use Rattle.shm_tree.specs.{Sharing.IsFresh, declared.node.Side.TheVariants.Left, Building.IsBuilt}
+use Rattle.shm_tree.specs.{Inserting.{StandsLowest, WeighsLowest, left_of, right_of}, Keeping.{HasTree, IsLinked}}
+use Rattle.shm_tree.specs.{Standing.{Stands, weight}, Trees.{Tree, Node, inserted}, Bounds.link_steps}
+use Rattle.std.proofs.Common.{◌≡◌, ◌∙◌, lit≤, sym, ap, subst, arith}
+use Rattle.shm_count.specs.declared.answer.Made.{Made}
 
 pub trees_of-requires : goal.trees_of-requires
 trees_of-requires c = record { working = c.requires.working; latch = c.requires.latch; node = c.requires.node }

@@ -1,18 +1,10 @@
 use Rattle.std.proofs.Common.{◌≡◌, ℕ, ◌+◌, ◌≤◌, refl, sym, subst, arith, Result, Ok, Err}
 use Rattle.std.specs.Prelude.{IfOk}
 use Rattle.shm_plain.specs.Pools.{Pool}
-use Rattle.shm_tree.specs.declared.stop.Stop.{Stop}
-use Rattle.shm_tree.proofs.Lights.{none_light, trees_light}
-use Rattle.shm_tree.specs.Inserting.{left_of, right_of}
-use Rattle.shm_tree.specs.Standing.{Stands, weight}
-use Rattle.shm_tree.specs.Trees.{Tree}
-use Rattle.shm_tree.specs.Keeping.{child_of}
-use Rattle.shm_tree.specs.declared.node.Pair.{Pair}
-use Rattle.shm_tree.specs.declared.node.Side.TheVariants.{Left, Right}
-use Rattle.shm_tree.proofs.Building.{looked_none, looks_done, ok_kept}
-use Rattle.shm_tree.proofs.Inserting.{no_trees, node_trees}
-use Rattle.shm_tree.proofs.Rotations.{node_of}
-use Rattle.shm_tree.proofs.Counts.{taken_most}
+use Rattle.shm_tree.specs.declared.{stop.Stop.Stop, node.{Pair.Pair, Side.TheVariants.{Left, Right}}}
+use Rattle.shm_tree.specs.{Inserting.{left_of, right_of}, Standing.{Stands, weight}, Trees.Tree, Keeping.child_of}
+use Rattle.shm_tree.proofs.{Lights.{none_light, trees_light}, Building.{looked_none, looks_done, ok_kept}}
+use Rattle.shm_tree.proofs.{Inserting.{no_trees, node_trees}, Rotations.node_of, Counts.taken_most}
 use Rattle.shm_tree.proofs.insert.trees_of.Goals as goal
 
 pub returns-then-node-eq0 : goal.returns-then-node-eq0

@@ -1,19 +1,15 @@
 use Rattle.std.proofs.Common.{◌≡◌, ◌≢◌, ℕ, ◌+◌, max, ap, ◌∙◌, subst, arith}
 use Rattle.shm_plain.specs.Pools.{Pool}
 use Rattle.shm_count.specs.declared.answer.Made.{Made}
-use Rattle.shm_tree.specs.declared.node.Content.{Content}
-use Rattle.shm_tree.specs.declared.node.Side.{Side}
-use Rattle.shm_tree.specs.declared.node.Side.TheVariants.{Left, Right}
+use Rattle.shm_tree.specs.declared.node.{Content.Content, Side.{Side, TheVariants.{Left, Right}}}
 use Rattle.shm_tree.specs.Bounds.{make_steps, refer_steps}
 use Rattle.shm_tree.specs.Keeping.{HasGrown, HasTree, IsBorn, IsMade, IsReferring, child_of, other_side}
-use Rattle.shm_tree.specs.Standing.{Stands}
-use Rattle.shm_tree.specs.Trees.{Tree, height}
+use Rattle.shm_tree.specs.{Standing.Stands, Trees.{Tree, height}}
 use Rattle.shm_tree.proofs.Answering.{reached_then, room_still, tree_still}
 use Rattle.shm_tree.proofs.Building.{Looked, looked, looked_then, looks_after}
 use Rattle.shm_tree.proofs.Changing.{Changed, changed_looked, changed_then, changes_cut, changes_done, changes_first, changes_from}
 use Rattle.shm_tree.proofs.Links.{born_grown, born_refers, born_still, heights_fit, linked_of, still_born, still_grown, still_then}
-use Rattle.shm_tree.proofs.Unnamed.{tree_other}
-use Rattle.shm_tree.proofs.node.link.Goals.{In_ok-near, In_ok-far, In_ok-made, In_ok-refer}
+use Rattle.shm_tree.proofs.{Unnamed.tree_other, node.link.Goals.{In_ok-near, In_ok-far, In_ok-made, In_ok-refer}}
 use Rattle.shm_tree.proofs.node.link.Goals as goal
 
 -- ---- before the node is made

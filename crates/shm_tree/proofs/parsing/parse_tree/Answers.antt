@@ -1,7 +1,5 @@
-use Rattle.std.proofs.Common.{◌∙◌, sym, arith, Ok, ap}
-use Rattle.std.specs.Prelude.{◌==◌}
-use Rattle.std.specs.List.{slice_split}
-use Rattle.std.proofs.lemmas.Result.{err_from_is_err_and}
+use Rattle.std.proofs.{Common.{◌∙◌, sym, arith, Ok, ap}, lemmas.Result.err_from_is_err_and}
+use Rattle.std.specs.{Prelude.◌==◌, List.slice_split}
 use Rattle.shm_tree.specs.Scripts.{draft_none, reading, script_of}
 use Rattle.shm_tree.proofs.ReadLoop.{take_stops, take_goes, end_stops, end_goes, short_script}
 use Rattle.shm_tree.proofs.parsing.parse_tree.Goals as goal

@@ -1,6 +1,5 @@
 use Rattle.std.proofs.Common.{◌≡◌, ◌+◌, ◌≤◌, length}
-use Rattle.std.specs.Prelude.{◌==◌}
-use Rattle.std.specs.List.{slice_split}
+use Rattle.std.specs.{Prelude.◌==◌, List.slice_split}
 use Rattle.shm_tree.specs.Scripts.{draft_none, reading}
 use Rattle.shm_tree.proofs.parsing.parse_tree.Given as goal
 

@@ -1,7 +1,6 @@
 use Rattle.std.proofs.Common.{◌∙◌, ap}
 use Rattle.shm_tree.specs.Scripts.{script_of}
-use Rattle.shm_tree.proofs.Again.{script_again}
-use Rattle.shm_tree.proofs.Sound.{script_sound}
+use Rattle.shm_tree.proofs.{Again.script_again, Sound.script_sound}
 use Rattle.shm_tree.proofs.parsing.scripts_are_spelled.Goals as goal
 
 pub returns-clause-read : goal.returns-clause-read

@@ -1,13 +1,10 @@
 use Rattle.std.proofs.Common.{◌∙◌, ◌≤◌, ◌+◌, sym, arith}
-use Rattle.shm_tree.proofs.Building.{looked, rooms_some, rooms_still}
-use Rattle.shm_tree.proofs.Costing.{costs_copied}
+use Rattle.shm_tree.proofs.{Building.{looked, rooms_some, rooms_still}, Costing.costs_copied}
 use Rattle.shm_tree.proofs.Forests.{calls_died, calls_from, copied_rooted, copied_stands, shared_grows}
-use Rattle.shm_tree.proofs.CutShort.{copied_off}
-use Rattle.shm_tree.proofs.Moving.{copied_some}
-use Rattle.shm_tree.specs.Bounds.{share_steps}
-use Rattle.shm_tree.specs.Costing.{copied_steps}
+use Rattle.shm_tree.proofs.{CutShort.copied_off, Moving.copied_some}
 use Rattle.shm_tree.proofs.Refusals.{alive_refusals, all_of, handed_over, none_least, refused_both, spends_more, spends_still, spends_then}
 use Rattle.shm_tree.proofs.registers.copied.Goals as goal
+use Rattle.shm_tree.specs.{Bounds.share_steps, Costing.copied_steps}
 
 pub share-requires : goal.share-requires
 share-requires c =

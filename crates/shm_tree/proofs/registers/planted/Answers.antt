@@ -1,18 +1,12 @@
 use Rattle.std.proofs.Common.{◌+◌, arith}
 use Rattle.std.specs.Prelude.{IfOk, Result}
 use Rattle.shm_count.specs.declared.answer.Made.{Made}
-use Rattle.shm_tree.specs.declared.stop.Stop.{Stop}
-use Rattle.shm_tree.specs.Bounds.{insert_steps}
-use Rattle.shm_tree.specs.Building.{Builds, IsBuilt}
-use Rattle.shm_tree.specs.Costing.{MakesFew}
-use Rattle.shm_tree.specs.Living.{KeepsLives}
-use Rattle.shm_tree.specs.Standing.{Stands}
-use Rattle.shm_tree.specs.Trees.{Tree, height, inserted}
+use Rattle.shm_tree.specs.{declared.stop.Stop.Stop, Bounds.insert_steps, Building.{Builds, IsBuilt}, Costing.MakesFew}
+use Rattle.shm_tree.specs.{Living.KeepsLives, Standing.Stands, Trees.{Tree, height, inserted}}
 use Rattle.shm_tree.proofs.Building.{looked, built_cut, ok_kept, rooms_still, went_on}
 use Rattle.shm_tree.proofs.Costing.{costs_still, few_between}
 use Rattle.shm_tree.proofs.Forests.{calls_died, calls_from, named_cut, planted_rooted, quiet}
-use Rattle.shm_tree.proofs.Moving.{planted_tree, registered}
-use Rattle.shm_tree.proofs.Refusals.{handed_over}
+use Rattle.shm_tree.proofs.{Moving.{planted_tree, registered}, Refusals.handed_over}
 use Rattle.shm_tree.proofs.Releasing.{Entered, entered, entered_stands, held_on, released_calls, released_costs, released_off, released_ok, released_refused, released_spends}
 use Rattle.shm_tree.proofs.registers.planted.Goals.{In_ok-tree}
 use Rattle.shm_tree.proofs.registers.planted.Goals as goal

@@ -1,17 +1,9 @@
 use Rattle.std.proofs.Common.{◌*◌, arith}
 use Rattle.std.specs.Prelude.{IfOk, Option, Result}
-use Rattle.shm_tree.specs.declared.remove.Removed.{Removed}
-use Rattle.shm_tree.specs.declared.stop.Stop.{Stop}
-use Rattle.shm_tree.specs.Bounds.{remove_steps}
-use Rattle.shm_tree.specs.Building.{Builds}
-use Rattle.shm_tree.specs.Living.{KeepsLives}
-use Rattle.shm_tree.specs.Removing.{IsRemoved}
-use Rattle.shm_tree.specs.Standing.{Stands}
-use Rattle.shm_tree.specs.Trees.{Tree, height}
-use Rattle.shm_tree.proofs.Building.{looked, ok_kept, rooms_still, went_on}
-use Rattle.shm_tree.proofs.Costing.{removed_made}
-use Rattle.shm_tree.proofs.Forests.{calls_died, calls_from, quiet}
-use Rattle.shm_tree.proofs.Moving.{pruned_is, registered, removed_named}
+use Rattle.shm_tree.specs.{declared.{remove.Removed.Removed, stop.Stop.Stop}, Bounds.remove_steps, Building.Builds}
+use Rattle.shm_tree.specs.{Living.KeepsLives, Removing.IsRemoved, Standing.Stands, Trees.{Tree, height}}
+use Rattle.shm_tree.proofs.{Building.{looked, ok_kept, rooms_still, went_on}, Costing.removed_made}
+use Rattle.shm_tree.proofs.{Forests.{calls_died, calls_from, quiet}, Moving.{pruned_is, registered, removed_named}}
 use Rattle.shm_tree.proofs.Refusals.{handed_over}
 use Rattle.shm_tree.proofs.Releasing.{Entered, entered, entered_stands, held_on, released_calls, released_costs, released_off, released_ok, released_refused, released_spends}
 use Rattle.shm_tree.proofs.registers.pruned.Goals.{In_ok-tree}

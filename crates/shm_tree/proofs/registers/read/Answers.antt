@@ -1,9 +1,6 @@
 use Rattle.std.proofs.Common.{arith}
-use Rattle.shm_tree.specs.Costing.{read_steps}
-use Rattle.shm_tree.specs.Trees.{height}
-use Rattle.shm_tree.proofs.Building.{looked, went_on}
-use Rattle.shm_tree.proofs.Costing.{costs_still}
-use Rattle.shm_tree.proofs.Forests.{Quiet, quiet, quiet_then}
+use Rattle.shm_tree.specs.{Costing.read_steps, Trees.height}
+use Rattle.shm_tree.proofs.{Building.{looked, went_on}, Costing.costs_still, Forests.{Quiet, quiet, quiet_then}}
 use Rattle.shm_tree.proofs.Releasing.{Entered, entered, entered_stands}
 use Rattle.shm_tree.proofs.registers.read.Goals.{In_ok-number, In_ok-tree}
 use Rattle.shm_tree.proofs.registers.read.Goals as goal

@@ -1,10 +1,7 @@
 use Rattle.std.proofs.Common.{refl, sym, ◌∙◌, inr}
 use Rattle.std.specs.Prelude.{Err}
-use Rattle.shm_tree.proofs.Answering.{alive_died}
-use Rattle.shm_tree.proofs.Building.{alive_any}
-use Rattle.shm_tree.proofs.CutShort.{cut_under}
-use Rattle.shm_tree.proofs.Moving.{alive_is, is_over_is, is_over_not}
-use Rattle.shm_tree.proofs.Releasing.{releases_held}
+use Rattle.shm_tree.proofs.{Answering.alive_died, Building.alive_any, CutShort.cut_under}
+use Rattle.shm_tree.proofs.{Moving.{alive_is, is_over_is, is_over_not}, Releasing.releases_held}
 use Rattle.shm_tree.proofs.registers.released.Goals as goal
 
 pub release-requires : goal.release-requires

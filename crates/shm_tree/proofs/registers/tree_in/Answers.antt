@@ -1,5 +1,4 @@
-use Rattle.shm_tree.proofs.Building.{looked_none, looks_done}
-use Rattle.shm_tree.proofs.Costing.{ok_least}
+use Rattle.shm_tree.proofs.{Building.{looked_none, looks_done}, Costing.ok_least}
 use Rattle.shm_tree.proofs.registers.tree_in.Goals as goal
 
 pub returns-then-root-eq-NONE-clause-looks : goal.returns-then-root-eq-NONE-clause-looks

@@ -1,9 +1,7 @@
-use Rattle.std.proofs.Common.{◌==◌, ◌∙◌, sym, ap, arith}
+use Rattle.std.proofs.{Common.{◌==◌, ◌∙◌, sym, ap, arith}, lemmas.Bool.{cond-false, cond-true, eq-eqb, ne_eqb}}
 use Rattle.std.specs.Prelude.{None, Some}
-use Rattle.std.proofs.lemmas.Bool.{cond-false, cond-true, eq-eqb, ne_eqb}
 use Rattle.shm_tree.specs.Removing.{content_in}
-use Rattle.shm_tree.proofs.Building.{looked, looked_none, looks_done, looks_from}
-use Rattle.shm_tree.proofs.Removing.{content_read}
+use Rattle.shm_tree.proofs.{Building.{looked, looked_none, looks_done, looks_from}, Removing.content_read}
 use Rattle.shm_tree.proofs.Rotations.{node_of}
 use Rattle.shm_tree.proofs.remove.next_of.Goals as goal
 

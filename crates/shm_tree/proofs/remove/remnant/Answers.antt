@@ -1,14 +1,10 @@
 use Rattle.std.proofs.Common.{lit≤, sym, subst, arith}
 use Rattle.std.specs.Prelude.{Option}
 use Rattle.shm_count.specs.declared.answer.Made.{Made}
-use Rattle.shm_tree.specs.Bounds.{share_steps}
-use Rattle.shm_tree.specs.Building.{block_of}
-use Rattle.shm_tree.specs.Keeping.{HasTree, child_of}
+use Rattle.shm_tree.specs.{Bounds.share_steps, Building.block_of, Keeping.{HasTree, child_of}}
 use Rattle.shm_tree.specs.Removing.{IsKept, StandsMoved}
 use Rattle.shm_tree.proofs.Building.{builds_after, builds_first, builds_from, looked, ok_kept, rooms_still, tree_still}
-use Rattle.shm_tree.proofs.Resting.{rests_after}
-use Rattle.shm_tree.proofs.Removing.{kept_after, moved_after}
-use Rattle.shm_tree.proofs.Rotations.{child_tree, node_of}
+use Rattle.shm_tree.proofs.{Resting.rests_after, Removing.{kept_after, moved_after}, Rotations.{child_tree, node_of}}
 use Rattle.shm_tree.proofs.remove.remnant.Goals as goal
 
 pub child-requires : goal.child-requires

@@ -1,27 +1,16 @@
 use Rattle.std.proofs.Common.{◌≡◌, ◌==◌, ℕ, suc, ◌+◌, ◌*◌, ◌-◌, ◌∙◌, cond, sym, ap, subst, arith, inl, inr}
 use Rattle.std.specs.Prelude.{Option, None, Some}
 use Rattle.shm_count.specs.declared.answer.Made.{Made}
-use Rattle.shm_tree.specs.declared.node.Content.{Content}
-use Rattle.shm_tree.specs.declared.node.Side.{Side}
-use Rattle.shm_tree.specs.declared.remove.Removed.{Removed}
-use Rattle.shm_tree.specs.Bounds.{fall_steps, remnant_steps, remove_steps, raise_steps}
-use Rattle.shm_tree.specs.Building.{IsCut, block_of}
-use Rattle.shm_tree.specs.Raising.{again}
-use Rattle.shm_tree.specs.Removing.{rest, side_tree}
-use Rattle.shm_tree.specs.Spending.{HasSpent}
-use Rattle.shm_tree.specs.Standing.{Stands}
-use Rattle.shm_tree.specs.Trees.{Tree, height}
-use Rattle.shm_tree.specs.Ways.{IsDeep, down}
+use Rattle.shm_tree.specs.declared.{node.{Content.Content, Side.Side}, remove.Removed.Removed}
+use Rattle.shm_tree.specs.{Bounds.{fall_steps, remnant_steps, remove_steps, raise_steps}, Building.{IsCut, block_of}}
+use Rattle.shm_tree.specs.{Raising.again, Removing.{rest, side_tree}, Spending.HasSpent, Standing.Stands}
+use Rattle.shm_tree.specs.{Trees.{Tree, height}, Ways.{IsDeep, down}}
 use Rattle.shm_tree.proofs.Building.{builds_cut, builds_died, builds_done, builds_first, builds_from, built_more, cut_then, looked, looked_then, made_more, rooms_still, root_reached, still_cut, went_on}
-use Rattle.shm_tree.proofs.Descents.{others_deep}
-use Rattle.shm_tree.proofs.Fallings.{cut_stay, fallen_low, fallen_more, fallen_none}
-use Rattle.shm_tree.proofs.Fresh.{made_few}
-use Rattle.shm_tree.proofs.Growing.{down_tree}
-use Rattle.shm_tree.proofs.Levels.{IsWay, rest_last, rest_level, rest_top, told}
+use Rattle.shm_tree.proofs.{Descents.others_deep, Fallings.{cut_stay, fallen_low, fallen_more, fallen_none}}
+use Rattle.shm_tree.proofs.{Fresh.made_few, Growing.down_tree, Levels.{IsWay, rest_last, rest_level, rest_top, told}}
 use Rattle.shm_tree.proofs.LiveCounts.{spent_made}
 use Rattle.shm_tree.proofs.Removing.{cut_at_hand, cut_stands, kept_after, kept_cut, kept_held, kept_more, kept_rooms, kept_up, lowest_way, side_stands, some_block, way_found}
-use Rattle.shm_tree.proofs.Raising.{some_held}
-use Rattle.shm_tree.proofs.Resting.{rests_still, rests_then}
+use Rattle.shm_tree.proofs.{Raising.some_held, Resting.{rests_still, rests_then}}
 use Rattle.shm_tree.proofs.Spendings.{first_most, level_most, spent_call, spent_then}
 use Rattle.shm_tree.proofs.Ways.{down_found, down_lower, end_none, stands_one}
 use Rattle.shm_tree.proofs.remove.remove.Goals as goal

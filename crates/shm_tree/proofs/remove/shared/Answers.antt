@@ -3,10 +3,8 @@ use Rattle.std.specs.Prelude.{Option, None, Some}
 use Rattle.shm_count.specs.declared.answer.Made.{Made}
 use Rattle.shm_tree.specs.Bounds.{share_steps}
 use Rattle.shm_tree.proofs.Building.{builds_call, builds_cut, builds_done, builds_from, looked_none, rooms_some, still_cut}
-use Rattle.shm_tree.proofs.Fallings.{rests_shared}
-use Rattle.shm_tree.proofs.Removing.{kept_none, kept_share, moved_none, moved_share}
-use Rattle.shm_tree.proofs.Resting.{rests_still}
-use Rattle.shm_tree.proofs.Spendings.{spent_call}
+use Rattle.shm_tree.proofs.{Fallings.rests_shared, Removing.{kept_none, kept_share, moved_none, moved_share}}
+use Rattle.shm_tree.proofs.{Resting.rests_still, Spendings.spent_call}
 use Rattle.shm_tree.proofs.remove.shared.Goals as goal
 
 pub returns-then-tree-eq0 : goal.returns-then-tree-eq0

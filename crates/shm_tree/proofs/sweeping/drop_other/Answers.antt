@@ -2,9 +2,9 @@ use Rattle.std.proofs.Common.{refl}
 use Rattle.shm_tree.proofs.Costing.{costs_dropped, costs_none}
 use Rattle.shm_tree.proofs.Forests.{calls_kept, calls_none, dropped_calls, root_self}
 use Rattle.shm_tree.proofs.Moving.{emptied_others, emptied_root, free_by, taken_by}
-use Rattle.shm_tree.specs.Bounds.{drop_steps}
 use Rattle.shm_tree.proofs.Refusals.{refused_both, spends_still}
 use Rattle.shm_tree.proofs.sweeping.drop_other.Goals as goal
+use Rattle.shm_tree.specs.Bounds.{drop_steps}
 
 pub returns-then-contains : goal.returns-then-contains
 returns-then-contains c =

@@ -1,10 +1,8 @@
 use Rattle.std.proofs.Common.{refl, arith}
-use Rattle.shm_tree.proofs.Costing.{costs_dropped, costs_none}
-use Rattle.shm_tree.proofs.Forests.{calls_none, dropped_calls, root_self}
-use Rattle.shm_tree.proofs.Moving.{emptied_others, emptied_root}
-use Rattle.shm_tree.specs.Bounds.{drop_steps}
-use Rattle.shm_tree.proofs.Refusals.{refused_both, spends_still}
+use Rattle.shm_tree.proofs.{Costing.{costs_dropped, costs_none}, Forests.{calls_none, dropped_calls, root_self}}
+use Rattle.shm_tree.proofs.{Moving.{emptied_others, emptied_root}, Refusals.{refused_both, spends_still}}
 use Rattle.shm_tree.proofs.sweeping.emptied.Goals as goal
+use Rattle.shm_tree.specs.Bounds.{drop_steps}
 
 pub returns-then-root-eq-NONE : goal.returns-then-root-eq-NONE
 returns-then-root-eq-NONE c =

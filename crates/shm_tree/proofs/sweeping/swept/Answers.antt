@@ -1,8 +1,7 @@
 use Rattle.std.proofs.Common.{◌*◌, ℕ, arith}
 use Rattle.shm_words.specs.declared.geometry.Geometry.{Geometry}
 use Rattle.shm_tree.specs.Bounds.{drop_steps}
-use Rattle.shm_tree.proofs.Costing.{swept_all, swept_more, swept_none}
-use Rattle.shm_tree.proofs.Forests.{calls_from, sweeping_stop}
+use Rattle.shm_tree.proofs.{Costing.{swept_all, swept_more, swept_none}, Forests.{calls_from, sweeping_stop}}
 use Rattle.shm_tree.proofs.Refusals.{handed, none_least, one_root, spends_more, spends_of, spends_then}
 use Rattle.shm_tree.proofs.sweeping.swept.Goals as goal
 

@@ -1,6 +1,5 @@
 use Rattle.std.proofs.Common.{◌≡◌, ℕ, ◌<◌, List, get_or, length}
-use Rattle.shm_tree.specs.Forests.{HasVersions, version}
-use Rattle.shm_tree.specs.Trees.{Tree, size}
+use Rattle.shm_tree.specs.{Forests.{HasVersions, version}, Trees.{Tree, size}}
 use Rattle.shm_versions.proofs.playing.holding_of.Given as goal
 
 abbrev pub invariant-loop-at : goal.invariant-loop-at

@@ -1,8 +1,7 @@
 use Rattle.std.proofs.Common.{◌≤◌, ◌^◌, ◌∙◌, ap, arith}
 use Rattle.shm_tree.specs.Scripts.{Scripted}
 use Rattle.shm_versions.specs.declared.treed.Treed.{Treed}
-use Rattle.shm_versions.proofs.Plays.{played_few}
-use Rattle.shm_versions.proofs.Runs.{script_low, tree_run}
+use Rattle.shm_versions.proofs.{Plays.played_few, Runs.{script_low, tree_run}}
 use Rattle.shm_versions.proofs.playing.run_script.Goals as goal
 
 pub close-requires : goal.close-requires

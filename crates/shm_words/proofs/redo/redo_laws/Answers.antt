@@ -1,5 +1,4 @@
-use Rattle.std.proofs.Common.{false, true, ◌∙◌, sym, ap}
-use Rattle.std.proofs.lemmas.Option.{none-some}
+use Rattle.std.proofs.{Common.{false, true, ◌∙◌, sym, ap}, lemmas.Option.none-some}
 use Rattle.shm_words.specs.Redos.{redo_of, redo_first}
 use Rattle.shm_words.proofs.Words.{redo_of-words, redo_of-word, redo_words-of, redo_second-of}
 use Rattle.shm_words.proofs.redo.redo_laws.Goals as goal

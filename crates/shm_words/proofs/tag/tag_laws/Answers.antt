@@ -1,5 +1,4 @@
-use Rattle.std.proofs.Common.{◌∙◌, sym, ap}
-use Rattle.std.proofs.lemmas.Option.{none-some}
+use Rattle.std.proofs.{Common.{◌∙◌, sym, ap}, lemmas.Option.none-some}
 use Rattle.shm_words.specs.Tags.{tag_of}
 use Rattle.shm_words.proofs.Words.{tag_of-word, tag_word-of, tag_fits}
 use Rattle.shm_words.proofs.tag.tag_laws.Goals as goal

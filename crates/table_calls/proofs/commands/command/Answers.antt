@@ -1,23 +1,16 @@
 use Rattle.std.proofs.Common.{ap, ◌≡◌, ◌∙◌, subst, sym, List}
 use Rattle.std.specs.Prelude.{IfSome}
-use Rattle.shm_graph.specs.declared.ask.Me.{Me}
-use Rattle.shm_graph.specs.declared.memo.Memo.{Memo}
-use Rattle.shm_graph.specs.Events.{Event}
-use Rattle.shm_graph.specs.Tells.{happens_along}
-use Rattle.shm_plain.specs.Calls.{Did, IsAtWork}
-use Rattle.shm_plain.specs.Pools.{memo_of}
+use Rattle.shm_graph.specs.{declared.{ask.Me.Me, memo.Memo.Memo}, Events.Event, Tells.happens_along}
+use Rattle.shm_plain.specs.{Calls.{Did, IsAtWork}, Pools.memo_of}
 use Rattle.shm_plain.proofs.Answering.{some_map}
 use Rattle.plain_calls.proofs.Running.{run_kind}
 use Rattle.shm_count.specs.Roots.{member}
 use Rattle.shm_script.specs.declared.log.Answer.{Answer}
 use Rattle.shm_table.specs.Command.{CommandCall, CommandGives, MayStand, command_control, command_does, command_of}
-use Rattle.shm_table.specs.Command.Operates.{CommandLeaves, CommandMay, command_may}
-use Rattle.shm_table.specs.Staying.{Ended}
+use Rattle.shm_table.specs.{Command.Operates.{CommandLeaves, CommandMay, command_may}, Staying.Ended}
 use Rattle.table_calls.specs.Running.{LeavesOpen, MapSo, RunLeaves}
-use Rattle.table_calls.proofs.RunBegins.{run_latch, run_may, run_me, run_stands}
-use Rattle.table_calls.proofs.RunEvents.{run_leaves, run_left}
-use Rattle.table_calls.proofs.RunKeeps.{RunKeeps, run_keeps}
-use Rattle.table_calls.proofs.RunMaps.{run_maps}
+use Rattle.table_calls.proofs.{RunBegins.{run_latch, run_may, run_me, run_stands}, RunEvents.{run_leaves, run_left}}
+use Rattle.table_calls.proofs.{RunKeeps.{RunKeeps, run_keeps}, RunMaps.run_maps}
 use Rattle.table_calls.proofs.commands.command.Goals.{After-new-machine, After-run}
 use Rattle.table_calls.proofs.commands.command.Goals as goal
 

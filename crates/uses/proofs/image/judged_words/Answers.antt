@@ -1,9 +1,7 @@
-use Rattle.std.proofs.Common.{◌≡◌, ℕ, ◌^◌, ◌<◌, ◌∙◌, rules, Ok}
+use Rattle.std.proofs.{Common.{◌≡◌, ℕ, ◌^◌, ◌<◌, ◌∙◌, rules, Ok}, lemmas.Result.{IfErr-weaker, IfOk-weaker}}
 use Rattle.std.specs.Prelude.{slice_index}
-use Rattle.std.proofs.lemmas.Result.{IfErr-weaker, IfOk-weaker}
 use Rattle.shm_audit.specs.Images.{image_of}
-use Rattle.uses.proofs.Auditing.{image_clean, image_stops, words_small}
-use Rattle.uses.proofs.image.judged_words.Goals.{After-audit}
+use Rattle.uses.proofs.{Auditing.{image_clean, image_stops, words_small}, image.judged_words.Goals.After-audit}
 use Rattle.uses.proofs.image.judged_words.Goals as goal
 
 -- the bytes that are audited are the image of the words

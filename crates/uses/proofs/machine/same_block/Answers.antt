@@ -1,10 +1,7 @@
 use Rattle.std.proofs.Common.{◌≡◌, ◌==◌, Bool, refl, subst, []}
 use Rattle.std.specs.Prelude.{IfSome}
-use Rattle.shm_graph.specs.declared.ask.Me.{Me}
-use Rattle.shm_graph.specs.declared.memo.Memo.{Memo}
-use Rattle.shm_graph.specs.Core.{core}
-use Rattle.shm_plain.specs.Calls.{Did, IsAtWork}
-use Rattle.shm_plain.specs.Pools.{memo_of}
+use Rattle.shm_graph.specs.{declared.{ask.Me.Me, memo.Memo.Memo}, Core.core}
+use Rattle.shm_plain.specs.{Calls.{Did, IsAtWork}, Pools.memo_of}
 use Rattle.shm_plain.proofs.Answering.{some_map}
 use Rattle.shm_count.specs.Roots.{member, root_word}
 use Rattle.plain_calls.proofs.Running.{PlanLeft, plan_may, plan_said}

@@ -1,12 +1,8 @@
 use Rattle.std.proofs.Common.{refl}
 use Rattle.shm_graph.specs.declared.ask.Me.{Me}
 use Rattle.shm_plain.specs.Pools.{memo_of}
-use Rattle.shm_count.specs.Roots.{member}
-use Rattle.shm_count.specs.ShareTask.{ShareMay}
-use Rattle.shm_count.specs.UpRoot.Control.{rooting}
-use Rattle.shm_count.specs.UpRoot.{rooting_plan}
-use Rattle.plain_calls.proofs.Reaching.{reached_small}
-use Rattle.plain_calls.proofs.Running.{plan_may}
+use Rattle.shm_count.specs.{Roots.member, ShareTask.ShareMay, UpRoot.{Control.rooting, rooting_plan}}
+use Rattle.plain_calls.proofs.{Reaching.reached_small, Running.plan_may}
 use Rattle.uses.proofs.machine.share.Goals as goal
 
 pub new-sharing-requires-clause-block : goal.new-sharing-requires-clause-block

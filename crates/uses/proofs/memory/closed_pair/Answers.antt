@@ -1,8 +1,5 @@
-use Rattle.std.proofs.Common.{◌≡◌, ◌<◌, ℕ, refl, sym, ap, ◌∙◌, subst, rules, Ok, Some, inl, inr}
-use Rattle.std.proofs.lemmas.Bool.{cases_eq}
-use Rattle.shm_graph.specs.declared.memo.Memo.{Memo}
-use Rattle.shm_graph.specs.declared.memo.Status.TheVariants.{Gone}
-use Rattle.shm_graph.specs.declared.run.Start.{Start}
+use Rattle.std.proofs.{Common.{◌≡◌, ◌<◌, ℕ, refl, sym, ap, ◌∙◌, subst, rules, Ok, Some, inl, inr}, lemmas.Bool.cases_eq}
+use Rattle.shm_graph.specs.declared.{memo.{Memo.Memo, Status.TheVariants.Gone}, run.Start.Start}
 use Rattle.shm_plain.specs.Pools.{memo_of}
 use Rattle.plain_calls.proofs.QueueReady.{clear_join}
 use Rattle.uses.proofs.memory.closed_pair.Goals as goal

@@ -1,15 +1,11 @@
-use Rattle.std.proofs.Common.{◌≡◌, true, refl, ◌∙◌, rules, Ok, Some}
-use Rattle.std.proofs.lemmas.Bool.{eq-eqb}
-use Rattle.shm_graph.specs.declared.ask.Me.{Me}
-use Rattle.shm_graph.specs.declared.spot.Spot.TheVariants.{Body}
+use Rattle.std.proofs.{Common.{◌≡◌, true, refl, ◌∙◌, rules, Ok, Some}, lemmas.Bool.eq-eqb}
+use Rattle.shm_graph.specs.declared.{ask.Me.Me, spot.Spot.TheVariants.Body}
 use Rattle.shm_plain.specs.Pools.{memo_of}
 use Rattle.shm_plain.proofs.Calling.{still_kind}
 use Rattle.shm_count.specs.Roots.{member, root_word}
-use Rattle.shm_ref.specs.DropRoot.Control.{drop_parts, dropping}
-use Rattle.shm_ref.specs.DropRoot.{drop_plan}
+use Rattle.shm_ref.specs.DropRoot.{Control.{drop_parts, dropping}, drop_plan}
 use Rattle.plain_calls.proofs.Running.{plan_done}
-use Rattle.uses.proofs.Frees.{holds_still, queues_rests}
-use Rattle.uses.proofs.Names.{root_named}
+use Rattle.uses.proofs.{Frees.{holds_still, queues_rests}, Names.root_named}
 use Rattle.uses.proofs.memory.drop_root.Goals as goal
 
 pub returns-clause-holds : goal.returns-clause-holds

@@ -5,9 +5,7 @@ use Rattle.shm_calls.specs.Words.{word_control}
 use Rattle.shm_count.specs.Roots.{member}
 use Rattle.shm_ref.specs.Release.{release_plan, releasing}
 use Rattle.plain_calls.proofs.Running.{plan_done}
-use Rattle.uses.proofs.Done.{answered}
-use Rattle.uses.proofs.Frees.{holds_no_more, waiting_rests}
-use Rattle.uses.proofs.Names.{root_named, still_known}
+use Rattle.uses.proofs.{Done.answered, Frees.{holds_no_more, waiting_rests}, Names.{root_named, still_known}}
 use Rattle.uses.proofs.memory.give_back.Goals as goal
 
 pub returns-clause-free : goal.returns-clause-free

@@ -1,24 +1,14 @@
-use Rattle.std.proofs.Common.{◌≡◌, true, refl, sym, ap, ◌∙◌, subst, rules, Ok, Some, List, inl}
+use Rattle.std.proofs.{Common.{◌≡◌, true, refl, sym, ap, ◌∙◌, subst, rules, Ok, Some, List, inl}, lemmas.Bool.eq-eqb}
 use Rattle.std.specs.List.{Contains}
-use Rattle.std.proofs.lemmas.Bool.{eq-eqb}
-use Rattle.shm_graph.specs.declared.ask.Me.{Me}
-use Rattle.shm_graph.specs.declared.memo.Memo.{Memo}
-use Rattle.shm_graph.specs.declared.memo.Stored.{Stored}
-use Rattle.shm_graph.specs.declared.spot.Spot.TheVariants.{Body, Home, Root}
-use Rattle.shm_graph.specs.Reach.{is_reached}
+use Rattle.shm_graph.specs.declared.{ask.Me.Me, memo.{Memo.Memo, Stored.Stored}}
+use Rattle.shm_graph.specs.{declared.spot.Spot.TheVariants.{Body, Home, Root}, Reach.is_reached}
 use Rattle.shm_plain.specs.Pools.{memo_of}
 use Rattle.shm_plain.proofs.Calling.{still_kind}
-use Rattle.shm_count.specs.Roots.{member}
-use Rattle.shm_count.specs.Tear.Memos.{Knows}
+use Rattle.shm_count.specs.{Roots.member, Tear.Memos.Knows}
 use Rattle.shm_count.proofs.RootSpots.{roots_reached}
-use Rattle.shm_ref.specs.RootTasks.{HomeMay}
-use Rattle.shm_ref.specs.SetHome.{home_parts, home_plan, homing}
-use Rattle.plain_calls.proofs.Reaching.{home_unread, reached_small}
-use Rattle.plain_calls.proofs.Running.{plan_done, plan_may}
-use Rattle.uses.proofs.Done.{renamed}
-use Rattle.uses.proofs.Frees.{free_again}
-use Rattle.uses.proofs.Names.{known_word, own_here}
-use Rattle.uses.proofs.Pairs.{home_rests}
+use Rattle.shm_ref.specs.{RootTasks.HomeMay, SetHome.{home_parts, home_plan, homing}}
+use Rattle.plain_calls.proofs.{Reaching.{home_unread, reached_small}, Running.{plan_done, plan_may}}
+use Rattle.uses.proofs.{Done.renamed, Frees.free_again, Names.{known_word, own_here}, Pairs.home_rests}
 use Rattle.uses.proofs.memory.set_home.Goals.{After-me}
 use Rattle.uses.proofs.memory.set_home.Goals as goal
 

@@ -1,19 +1,13 @@
 use Rattle.std.proofs.Common.{◌≡◌, ◌+◌, ◌≤◌, true, refl, sym, ap, ◌∙◌, subst, rules, Ok, Some}
 use Rattle.shm_words.specs.Layout.{total_of}
-use Rattle.shm_graph.specs.declared.ask.Me.{Me}
-use Rattle.shm_graph.specs.Reach.{is_reached}
+use Rattle.shm_graph.specs.{declared.ask.Me.Me, Reach.is_reached}
 use Rattle.shm_plain.specs.Pools.{memo_of}
 use Rattle.shm_plain.proofs.Calling.{still_kind}
 use Rattle.shm_count.specs.Roots.{member, root_word}
 use Rattle.shm_count.proofs.RootSpots.{roots_reached}
-use Rattle.shm_ref.specs.RootTasks.{SetMay}
-use Rattle.shm_ref.specs.SetRef.Control.{set_parts, setting}
-use Rattle.shm_ref.specs.SetRef.{set_plan}
-use Rattle.plain_calls.proofs.Reaching.{reached_small, reached_whole}
-use Rattle.plain_calls.proofs.Running.{plan_done, plan_may}
-use Rattle.uses.proofs.Done.{renamed}
-use Rattle.uses.proofs.Frees.{holds_still, queues_rests}
-use Rattle.uses.proofs.Names.{root_named}
+use Rattle.shm_ref.specs.{RootTasks.SetMay, SetRef.{Control.{set_parts, setting}, set_plan}}
+use Rattle.plain_calls.proofs.{Reaching.{reached_small, reached_whole}, Running.{plan_done, plan_may}}
+use Rattle.uses.proofs.{Done.renamed, Frees.{holds_still, queues_rests}, Names.root_named}
 use Rattle.uses.proofs.memory.set_ref.Goals.{After-me}
 use Rattle.uses.proofs.memory.set_ref.Goals as goal
 

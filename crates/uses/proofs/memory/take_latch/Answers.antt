@@ -4,11 +4,9 @@ use Rattle.shm_plain.specs.Pools.{memo_of}
 use Rattle.shm_plain.proofs.Calling.{still_kind}
 use Rattle.shm_calls.specs.Words.{word_control}
 use Rattle.shm_count.specs.Roots.{member}
-use Rattle.shm_ref.specs.Hold.Control.{holding}
-use Rattle.shm_ref.specs.Hold.{hold_plan}
+use Rattle.shm_ref.specs.Hold.{Control.holding, hold_plan}
 use Rattle.plain_calls.proofs.Running.{plan_done}
-use Rattle.uses.proofs.Done.{renamed}
-use Rattle.uses.proofs.Frees.{holds_now, waiting_rests}
+use Rattle.uses.proofs.{Done.renamed, Frees.{holds_now, waiting_rests}}
 use Rattle.uses.proofs.memory.take_latch.Goals as goal
 
 pub returns-clause-holds : goal.returns-clause-holds

@@ -1,18 +1,12 @@
 use Rattle.std.proofs.Common.{◌≡◌, ◌<◌, true, sym, ap, ◌∙◌, subst}
 use Rattle.shm_words.specs.Layout.{GeometryFits}
-use Rattle.shm_graph.specs.declared.ask.Me.{Me}
-use Rattle.shm_graph.specs.declared.memo.Memo.{Memo}
-use Rattle.shm_graph.specs.Agents.{acts}
-use Rattle.shm_graph.specs.Laws.{is_died}
-use Rattle.shm_plain.specs.Calls.{Ran}
-use Rattle.shm_plain.specs.Pools.{Pool, memo_of}
+use Rattle.shm_graph.specs.{declared.{ask.Me.Me, memo.Memo.Memo}, Agents.acts, Laws.is_died}
+use Rattle.shm_plain.specs.{Calls.Ran, Pools.{Pool, memo_of}}
 use Rattle.shm_plain.proofs.Calling.{answered_is, lives, still_working, went_gives, went_on, went_ran}
 use Rattle.shm_count.specs.Roots.{member}
 use Rattle.shm_table.specs.Command.{CommandCall, CommandFits, CommandGives, MayStand, command_control, command_effect, command_of}
 use Rattle.shm_table.specs.Command.Maps.{MapSoFar}
-use Rattle.table_calls.proofs.RunBegins.{run_fresh, run_latch, run_stands}
-use Rattle.table_calls.proofs.RunEvents.{run_leaves}
-use Rattle.table_calls.proofs.RunKeeps.{run_keeps}
+use Rattle.table_calls.proofs.{RunBegins.{run_fresh, run_latch, run_stands}, RunEvents.run_leaves, RunKeeps.run_keeps}
 use Rattle.table_calls.proofs.RunMaps.{run_maps}
 use Rattle.uses.proofs.Attempts.{acts_still, answered_so, attempts_first, cut_so, first_is, first_of, fits_begun, laws}
 use Rattle.uses.proofs.table.attempt.Goals.{In-Died, In-Done}

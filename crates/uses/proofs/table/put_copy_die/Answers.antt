@@ -1,7 +1,5 @@
 use Rattle.std.proofs.Common.{sym, ap, ◌∙◌, subst, arith}
-use Rattle.shm_graph.specs.declared.memo.Memo.{Memo}
-use Rattle.shm_graph.specs.Agents.{recovers}
-use Rattle.shm_graph.specs.Held.{is_loose}
+use Rattle.shm_graph.specs.{declared.memo.Memo.Memo, Agents.recovers, Held.is_loose}
 use Rattle.shm_plain.specs.Pools.{Pool, memo_of}
 use Rattle.plain_calls.proofs.QueueReady.{one_not_zero, zero_not_one}
 use Rattle.shm_script.specs.declared.line.Line.TheVariants as line

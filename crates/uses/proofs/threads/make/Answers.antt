@@ -1,7 +1,5 @@
 use Rattle.std.proofs.Common.{Ok}
-use Rattle.shm_alloc.specs.Alloc.AsPart.{AllocLeaves}
-use Rattle.shm_alloc.specs.Alloc.Control.{alloc_control}
-use Rattle.shm_alloc.specs.Alloc.Events.{alloc_event}
+use Rattle.shm_alloc.specs.Alloc.{AsPart.AllocLeaves, Control.alloc_control, Events.alloc_event}
 use Rattle.uses.proofs.Quiet.{alive_before, quiet_after}
 use Rattle.uses.proofs.threads.make.Goals as goal
 

@@ -1,11 +1,8 @@
 use Rattle.std.proofs.Common.{◌≡◌, ◌≢◌, ℕ, Ok, true, sym, subst, rules}
-use Rattle.shm_calls.specs.CallsControl.{calls_control, calls_does, calls_of}
-use Rattle.shm_calls.specs.Tasks.{CallsLeave}
-use Rattle.shm_graph.specs.declared.ask.Me.{Me}
-use Rattle.shm_graph.specs.Reach.{is_reached}
+use Rattle.shm_calls.specs.{CallsControl.{calls_control, calls_does, calls_of}, Tasks.CallsLeave}
+use Rattle.shm_graph.specs.{declared.ask.Me.Me, Reach.is_reached}
 use Rattle.shm_count.specs.Roots.{root_word}
-use Rattle.shm_queue.specs.Receive.Control.{receive_parts, receiving}
-use Rattle.shm_queue.specs.Receive.{receive_plan}
+use Rattle.shm_queue.specs.Receive.{Control.{receive_parts, receiving, receive_steered}, receive_plan}
 use Rattle.shm_pool.specs.Tokens.{me_of}
 use Rattle.uses.proofs.Quiet.{alive_before}
 use Rattle.uses.proofs.threads.take.Goals as goal
@@ -20,7 +17,7 @@ returns-else-made-eq0-clause-root c =
     let k = c.receive_keeps.ensures in
     let r0 = t.account.memo in
     let r = u.account.memo in
-    let alive = alive_before (calls_control receive_parts receive_plan) (calls_does receive_parts receive_plan) (CallsLeave receive_plan) (λ m b. Unit {0}) (calls_of receive_plan (receiving me c.args.from)) t u _ _ (Ok made) h.done in
+    let alive = alive_before (calls_control receive_parts receive_steered) (calls_does receive_parts receive_plan) (CallsLeave receive_plan) (λ m b. Unit {0}) (calls_of receive_steered (receiving me c.args.from)) t u _ _ (Ok made) h.done in
     let low = k.number me c.args.from r0 r _ _ (Ok made) h.done.left_so in
     let named = k.named me c.args.from r0 r _ _ (Ok made) h.done.left_so in
     let some : made.block ≢ 0 = search rules in

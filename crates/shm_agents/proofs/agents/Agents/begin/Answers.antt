@@ -1,6 +1,5 @@
 use Rattle.std.proofs.Common.{◌≡◌, ap, subst, ◌∙◌, sym, length, arith, vec_capacity}
-use Rattle.shm_agents.specs.Agents.{Playing, behind}
-use Rattle.shm_agents.specs.Work.{Work}
+use Rattle.shm_agents.specs.{Agents.{Playing, behind}, Work.Work}
 use Rattle.shm_agents.proofs.WorkLaws.{behind_at, behind_past}
 use Rattle.shm_agents.proofs.agents.Agents.begin.Goals.{Joined-self-next, then-answered-lines, else-answered-lines}
 use Rattle.shm_agents.proofs.agents.Agents.begin.Goals as goal

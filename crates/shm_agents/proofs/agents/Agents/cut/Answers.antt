@@ -1,21 +1,13 @@
 use Rattle.std.proofs.Common.{◌≡◌, ℕ, ◌<◌, Bool, true, false, List, Some, length, le-ltb, lt-ltb, refl, sym, ap, ◌∙◌, subst, arith}
-use Rattle.std.specs.Prelude.{nat_lt, not, slice_get}
-use Rattle.std.specs.Option.{is_some}
 use Rattle.std.proofs.lemmas.Bool.{true≢false}
-use Rattle.shm_graph.specs.declared.run.Account.{Account}
-use Rattle.shm_graph.specs.declared.run.Start.{Start}
-use Rattle.shm_graph.specs.Agents.{acts}
-use Rattle.shm_graph.specs.Runs.{account_died}
-use Rattle.shm_script.specs.declared.line.Line.{Line}
-use Rattle.shm_script.specs.Values.{Scripted}
-use Rattle.shm_agents.specs.declared.agents.Standing.TheVariants.{Dead}
-use Rattle.shm_agents.specs.Agents.{Playing}
-use Rattle.shm_agents.specs.Cuts.{IsCut, account_cut}
+use Rattle.std.specs.{Prelude.{nat_lt, not, slice_get}, Option.is_some}
+use Rattle.shm_graph.specs.{declared.run.{Account.Account, Start.Start}, Agents.acts, Runs.account_died}
+use Rattle.shm_script.specs.{declared.line.Line.Line, Values.Scripted}
+use Rattle.shm_agents.specs.{declared.agents.Standing.TheVariants.Dead, Agents.Playing, Cuts.{IsCut, account_cut}}
 use Rattle.shm_agents.specs.Turns.{lives_of}
-use Rattle.shm_agents.proofs.Cutting as cutting
-use Rattle.shm_agents.proofs.Dying.{settles}
-use Rattle.shm_agents.proofs.agents.Agents.cut.Given.{Over}
+use Rattle.shm_agents.proofs.{Dying.settles, agents.Agents.cut.Given.Over}
 use Rattle.shm_agents.proofs.agents.Agents.cut.Goals.{After-has_begun-acts, then-acts, else-acts, then-is_none, else-is_none, then-acts-2, else-acts-2}
+use Rattle.shm_agents.proofs.Cutting as cutting
 use Rattle.shm_agents.proofs.agents.Agents.cut.Goals as goal
 
 later_by : (r : Bool) (n : ℕ) → r ≡ nat_lt 0 n → 0 < n → r ≡ true

@@ -1,23 +1,12 @@
 use Rattle.std.proofs.Common.{◌≡◌, ℕ, ◌+◌, ◌<◌, Bool, true, false, List, length, refl, sym, ap, ◌∙◌, subst, inl, inr}
-use Rattle.std.specs.Prelude.{not, Option, Some, None, slice_get}
-use Rattle.std.specs.Option.{is_some}
+use Rattle.std.specs.{Prelude.{not, Option, Some, None, slice_get}, Option.is_some}
 use Rattle.shm_words.specs.Layout.{GeometryFits}
-use Rattle.shm_graph.specs.declared.ask.Me.{Me}
-use Rattle.shm_graph.specs.declared.run.Account.{Account}
-use Rattle.shm_graph.specs.declared.run.Start.{Start}
-use Rattle.shm_graph.specs.Agents.{acts}
-use Rattle.shm_graph.specs.Runs.{account_died}
-use Rattle.shm_script.specs.declared.line.Line.{Line}
-use Rattle.shm_script.specs.declared.log.End.{End}
-use Rattle.shm_script.specs.Values.{Scripted}
-use Rattle.shm_agents.specs.Agents.{Playing, Stands, follows}
-use Rattle.shm_agents.specs.Turns.{lives_of}
-use Rattle.shm_agents.specs.TurnsLeft.{turns_given}
-use Rattle.shm_agents.proofs.Deaths as deaths
-use Rattle.shm_agents.proofs.Dying.{settles}
-use Rattle.shm_agents.proofs.Given.{given_died}
-use Rattle.shm_agents.proofs.agents.Agents.die.Given.{Over}
+use Rattle.shm_graph.specs.{declared.{ask.Me.Me, run.{Account.Account, Start.Start}}, Agents.acts, Runs.account_died}
+use Rattle.shm_script.specs.{declared.{line.Line.Line, log.End.End}, Values.Scripted}
+use Rattle.shm_agents.specs.{Agents.{Playing, Stands, follows}, Turns.lives_of, TurnsLeft.turns_given}
+use Rattle.shm_agents.proofs.{Dying.settles, Given.given_died, agents.Agents.die.Given.Over}
 use Rattle.shm_agents.proofs.agents.Agents.die.Goals.{After-as_slice-2, After-follow, else-is_none, then-is_none}
+use Rattle.shm_agents.proofs.Deaths as deaths
 use Rattle.shm_agents.proofs.agents.Agents.die.Goals as goal
 
 -- whether it has ended

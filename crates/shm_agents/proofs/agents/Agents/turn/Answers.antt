@@ -1,19 +1,13 @@
 use Rattle.std.proofs.Common.{◌≡◌, ℕ, ◌+◌, ◌<◌, true, false, ap, sym, subst, refl, ◌∙◌, Result, length}
-use Rattle.std.specs.Prelude.{vec_capacity}
-use Rattle.std.specs.Result.{IsOk}
-use Rattle.shm_graph.specs.declared.ask.Turn.TheVariants.{Done}
-use Rattle.shm_graph.specs.declared.run.Account.{Account}
-use Rattle.shm_graph.specs.declared.run.Start.{Start}
+use Rattle.std.specs.{Prelude.vec_capacity, Result.IsOk}
+use Rattle.shm_graph.specs.declared.{ask.Turn.TheVariants.Done, run.{Account.Account, Start.Start}}
 use Rattle.shm_graph.specs.Laws.{is_died, step_of}
 use Rattle.shm_calls.specs.declared.or.Or.TheVariants.{First, Second}
 use Rattle.shm_count.specs.declared.answer.EraSpent.{EraSpent}
 use Rattle.shm_script.specs.Values.{Scripted}
-use Rattle.shm_agents.specs.Agents.{Playing, Stands}
-use Rattle.shm_agents.specs.TurnsLeft.{turns_given}
-use Rattle.shm_agents.specs.Work.{work_control}
+use Rattle.shm_agents.specs.{Agents.{Playing, Stands}, TurnsLeft.turns_given, Work.work_control}
+use Rattle.shm_agents.proofs.agents.Agents.turn.{Given.Over, Goals.After-step}
 use Rattle.shm_agents.proofs.Turns as turns
-use Rattle.shm_agents.proofs.agents.Agents.turn.Given.{Over}
-use Rattle.shm_agents.proofs.agents.Agents.turn.Goals.{After-step}
 use Rattle.shm_agents.proofs.agents.Agents.turn.Goals as goal
 
 -- ---- the word step, and what stands before it and after it

@@ -1,28 +1,23 @@
-use Rattle.std.proofs.Common.{◌≡◌, ◌*◌, List, sym, ap, ◌∙◌, subst}
+use Rattle.std.proofs.{Common.{◌≡◌, ◌*◌, List, sym, ap, ◌∙◌, subst, length, arith}, lemmas.Option.slice_get_within}
 use Rattle.std.specs.Prelude.{Some, None, slice_get}
-use Rattle.shm_graph.specs.declared.ask.Me.{Me}
-use Rattle.shm_graph.specs.declared.run.Account.{Account}
-use Rattle.shm_graph.specs.Runs.{first_account}
+use Rattle.shm_graph.specs.{declared.{ask.Me.Me, run.Account.Account}, Runs.first_account}
 use Rattle.shm_agents.specs.Agents.{Stands}
 use Rattle.shm_pool.specs.Tokens.{Its}
-use Rattle.shm_replay.proofs.Gathering.{same_some}
-use Rattle.shm_replay.proofs.Seating.{script_read}
+use Rattle.shm_replay.proofs.{Gathering.same_some, Seating.script_read}
 use Rattle.shm_script.specs.Values.{Scripted, Traced}
-use Rattle.shm_team.specs.declared.left.Left.TheVariants.{Vacant}
-use Rattle.shm_team.specs.Jobs.{AreAgentsOf, MayHaveAgents}
+use Rattle.shm_team.specs.{declared.left.Left.TheVariants.Vacant, Jobs.{AreAgentsOf, MayHaveAgents}}
 use Rattle.shm_team.proofs.Gathering.{agents_in, none_in}
-use Rattle.shm_async.proofs.Due.{new_due, none_within}
-use Rattle.shm_async.proofs.Making.{first_here}
+use Rattle.shm_async.proofs.{Due.{new_due, none_within}, Making.first_here, limited.LimitedMember.of.Given.Over}
 use Rattle.shm_async.proofs.limited.LimitedMember.of.Goals.{After-index}
 use Rattle.shm_async.proofs.limited.LimitedMember.of.Goals as goal
 
 pub returns-in-None : goal.returns-in-None
-returns-in-None c = λ limit some room.
+returns-in-None g c = λ limit some room.
     let k = c.args.job.token.account.who in
     let none = subst (MayHaveAgents c.args.trace.now c.args.pool.now.start k c.args.job.token.account) c.in-None.is c.requires.job.agents in
     none_within c.args.trace.now c.args.pool.now k (c.args.q * limit) (record { log = None; left = Vacant c.args.job.token }) (none_in c.args.trace.now c.args.pool.now c.args.job c.requires.job c.in-None.is) none.0
 
-module _ (c : After-index) where
+module _ (g : Over) (c : After-index g) where
   its : AreAgentsOf c.args.trace.now c.args.pool.now.start c.args.job.token.account.who c.args.job.token.account c.in-Some.agents
   its = agents_in c.args.trace.now c.args.pool.now c.args.job c.in-Some.agents c.requires.job c.in-Some.is
 
@@ -36,26 +31,35 @@ module _ (c : After-index) where
       ∙ script_read c.trace.inside.scripts.items k c.script-at.result its.script c.index.result.now (sym (ap (λ (ss : List Scripted). slice_get ss k) scripts) ∙ its.at) c.script-at.ensures c.index.ensures in
       same_some c.index.result.now its.script (sym here ∙ its.at)
 
+pub index-requires : goal.index-requires
+index-requires g c =
+    let own = agents_in c.args.trace.now c.args.pool.now c.args.job c.in-Some.agents c.requires.job c.in-Some.is in
+    let low = slice_get_within c.args.trace.now.scripts c.in-Some.agents.script own.script own.at in
+    let is = c.script-at.ensures in
+    let same = ap (λ (t : Traced). length t.scripts) c.trace.view_is in
+    let whole = c.trace.inside.scripts.ok.0 in
+    omega arith
+
 pub of-requires-clause-first : goal.of-requires-clause-first
-of-requires-clause-first c = c.requires.job.first ∙ ap (λ (p : Its). first_account p.start c.args.job.token.account.who) (sym c.requires.job.of)
+of-requires-clause-first g c = c.requires.job.first ∙ ap (λ (p : Its). first_account p.start c.args.job.token.account.who) (sym c.requires.job.of)
 
 pub of-requires-clause-me : goal.of-requires-clause-me
-of-requires-clause-me c = ap (λ (m : Me). m.who) (its (goal.at.of-requires-clause-me c).After-index).me
+of-requires-clause-me g c = ap (λ (m : Me). m.who) (its g (goal.at.of-requires-clause-me g c).After-index).me
 
 pub of-requires-clause-stands : goal.of-requires-clause-stands
-of-requires-clause-stands c =
-    let at = (goal.at.of-requires-clause-stands c).After-index in
+of-requires-clause-stands g c =
+    let at = (goal.at.of-requires-clause-stands g c).After-index in
     let e = c.args.job.token.account in
     subst (λ (p : Its). Stands p.start c.index.result.now c.in-Some.agents e) (sym c.requires.job.of)
-    (subst (λ (s : Scripted). Stands c.args.pool.now.start s c.in-Some.agents e) (sym (read at)) (its at).stands)
+    (subst (λ (s : Scripted). Stands c.args.pool.now.start s c.in-Some.agents e) (sym (read g at)) (its g at).stands)
 
 pub of-requires-clause-here : goal.of-requires-clause-here
-of-requires-clause-here c =
-    let at = (goal.at.of-requires-clause-here c).After-index in
-    first_here c.args.pool.now.start (its at).script c.in-Some.agents c.args.job.token.account (its at).stands (ap (λ (e : Account). e.memo.agents) c.requires.job.first)
+of-requires-clause-here g c =
+    let at = (goal.at.of-requires-clause-here g c).After-index in
+    first_here c.args.pool.now.start (its g at).script c.in-Some.agents c.args.job.token.account (its g at).stands (ap (λ (e : Account). e.memo.agents) c.requires.job.first)
 
 pub returns-in-Some : goal.returns-in-Some
-returns-in-Some c = λ limit some room.
-    let at = (goal.at.returns-in-Some c).After-index in
+returns-in-Some g c = λ limit some room.
+    let at = (goal.at.returns-in-Some g c).After-index in
     let k = c.args.job.token in
-    new_due c.args.trace.now c.args.pool.now k.account.who k c.index.result.now c.args.q limit c.of.result c.of.ensures ((its at).is ∙ ap (λ (s : Scripted). Some s) (sym (read at))) c.requires.job.of c.requires.job.first c.requires.turns some room
+    new_due c.args.trace.now c.args.pool.now k.account.who k c.index.result.now c.args.q limit c.of.result c.of.ensures ((its g at).is ∙ ap (λ (s : Scripted). Some s) (sym (read g at))) c.requires.job.of c.requires.job.first c.requires.turns some room

@@ -1,22 +1,21 @@
-use Rattle.std.proofs.Common.{◌≡◌, ℕ, ◌-◌, length, sym, ap, ◌∙◌, subst}
+use Rattle.std.proofs.{Common.{◌≡◌, ℕ, ◌-◌, length, sym, ap, ◌∙◌, subst}, lemmas.List.with_items_is}
 use Rattle.std.specs.Vec.{with_items}
-use Rattle.std.proofs.lemmas.List.{with_items_is}
 use Rattle.shm_pool.specs.Tokens.{Its}
 use Rattle.shm_async.specs.LimitedMembers.{AreLimitedHere}
 use Rattle.shm_async.proofs.limits.LimitedMembersRounds.round.Goals as goal
 
 pub poll_each-more-requires-clause-turns : goal.poll_each-more-requires-clause-turns
-poll_each-more-requires-clause-turns c = let (w, h) = c.requires in h.quota
+poll_each-more-requires-clause-turns g c = let (w, h) = c.requires in h.quota
 
 pub poll_each-more-requires-clause-here : goal.poll_each-more-requires-clause-here
-poll_each-more-requires-clause-here c =
+poll_each-more-requires-clause-here g c =
     let (w, h) = c.requires in
     let t = w.trace.now in
     let x = c.args.self.now in
     (t, w.turns, subst (AreLimitedHere t x.pool.now w.turns x.left) (sym c.deref_mut.ensures.value) (subst (λ (z : Its). AreLimitedHere t z w.turns x.left x.members.items) (sym h.pool) h.here))
 
 pub returns : goal.returns
-returns c = λ w h.
+returns g c = λ w h.
     let t = w.trace.now in
     let p = w.pool.now in
     let n = w.turns in

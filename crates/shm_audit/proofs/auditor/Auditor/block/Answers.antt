@@ -1,15 +1,13 @@
 use Rattle.std.proofs.Common.{◌≡◌, ◌≢◌, ℕ, Bool, ◌+◌, ◌&&◌, ltb, true, false, get_or, refl, sym, ap, ◌∙◌, arith}
-use Rattle.std.specs.Prelude.{Option, None, Some, is_some}
 use Rattle.std.proofs.lemmas.Bool.{false≢true, true≢false}
+use Rattle.std.specs.Prelude.{Option, None, Some, is_some}
 use Rattle.shm_words.specs.Headers.{header_of}
-use Rattle.shm_audit.specs.declared.fault.ImageFault.{ImageFault}
+use Rattle.shm_audit.specs.{declared.fault.ImageFault.ImageFault, Images.numbers}
 use Rattle.shm_audit.specs.declared.fault.ImageFault.TheVariants as fault
-use Rattle.shm_audit.specs.Images.{numbers}
-use Rattle.shm_audit.proofs.Blocks.{class_above, free_block}
-use Rattle.shm_audit.proofs.Fronts.{from_word, numbers_length}
+use Rattle.shm_audit.proofs.{Blocks.{class_above, free_block}, Fronts.{from_word, numbers_length}}
 use Rattle.shm_audit.proofs.Steps.{seen_bad_header, seen_faulty, seen_more_tags, seen_nothing_to, sound_so_far, tallied_so_far}
-use Rattle.shm_audit.proofs.auditor.Auditor.block.Goals as goal
 use Rattle.shm_audit.proofs.auditor.Auditor.block.Goals.{then-head-eq0-via-then-head-eq0, then-head-eq0-via-else-head-eq0+then-is_some}
+use Rattle.shm_audit.proofs.auditor.Auditor.block.Goals as goal
 
 none_there : (o : Option ImageFault) → is_some o ≡ false → o ≡ None
 none_there None e = refl

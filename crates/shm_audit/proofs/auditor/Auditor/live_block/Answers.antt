@@ -1,13 +1,10 @@
 use Rattle.std.proofs.Common.{◌≡◌, ℕ, ◌+◌, ◌-◌, true, false, get_or, sym, ap, subst, ◌∙◌, arith}
-use Rattle.std.specs.Prelude.{Some}
 use Rattle.std.proofs.lemmas.Bool.{and_parts}
-use Rattle.shm_words.specs.Headers.{header_of}
-use Rattle.shm_words.specs.Tags.{tag_of, tag_refs}
+use Rattle.std.specs.Prelude.{Some}
+use Rattle.shm_words.specs.{Headers.header_of, Tags.{tag_of, tag_refs}}
 use Rattle.shm_graph.proofs.Spots.WordsAt.{block_header}
+use Rattle.shm_audit.specs.{Faults.tag_suits, Images.numbers, Tallies.Tallied}
 use Rattle.shm_audit.specs.declared.fault.ImageFault.TheVariants as fault
-use Rattle.shm_audit.specs.Faults.{tag_suits}
-use Rattle.shm_audit.specs.Images.{numbers}
-use Rattle.shm_audit.specs.Tallies.{Tallied}
 use Rattle.shm_audit.proofs.Blocks.{block_end, block_place, class_above, good_tag, head_named, live_behind, live_head, live_naming, nothing_tag, refs_room}
 use Rattle.shm_audit.proofs.Fronts.{from_word, numbers_length}
 use Rattle.shm_audit.proofs.Steps.{seen_bad_tag, seen_block, seen_tag, seen_tallied}

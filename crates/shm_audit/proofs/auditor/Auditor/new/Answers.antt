@@ -1,16 +1,9 @@
 use Rattle.std.proofs.Common.{◌≡◌, ℕ, List, sym, subst, arith}
-use Rattle.std.specs.Prelude.{IfErr, None, OnOk, Result, Ok, Err, Some}
-use Rattle.std.specs.Result.{result_err}
-use Rattle.shm_words.specs.declared.geometry.Geometry.{Geometry}
-use Rattle.shm_words.specs.Layout.{address, bodies}
-use Rattle.shm_audit.specs.declared.fault.ImageFault.{ImageFault}
-use Rattle.shm_audit.specs.declared.tally.Tally.{Tally}
-use Rattle.shm_audit.specs.Faults.{words_fault_of}
-use Rattle.shm_audit.specs.Images.{numbers}
-use Rattle.shm_audit.specs.Streams.{SeenBy}
-use Rattle.shm_audit.specs.Tallies.{AreFrom, ArePages, Tallied}
-use Rattle.shm_audit.proofs.Fronts.{front_naming}
-use Rattle.shm_audit.proofs.Steps.{seen_front}
+use Rattle.std.specs.{Prelude.{IfErr, None, OnOk, Result, Ok, Err, Some}, Result.result_err}
+use Rattle.shm_words.specs.{declared.geometry.Geometry.Geometry, Layout.{address, bodies}}
+use Rattle.shm_audit.specs.{declared.{fault.ImageFault.ImageFault, tally.Tally.Tally}, Faults.words_fault_of}
+use Rattle.shm_audit.specs.{Images.numbers, Streams.SeenBy, Tallies.{AreFrom, ArePages, Tallied}}
+use Rattle.shm_audit.proofs.{Fronts.front_naming, Steps.seen_front}
 use Rattle.shm_audit.proofs.auditor.Auditor.new.Goals as goal
 
 checked : {A : Type 0} (g : Geometry) (front : List ℕ) (tally : Tally) (r : Result A ImageFault) → OnOk r ((ws : List ℕ) → AreFrom ws 0 front → ArePages g ws) → IfErr r (λ f. (ws : List ℕ) → AreFrom ws 0 front → words_fault_of g ws ≡ Some f)

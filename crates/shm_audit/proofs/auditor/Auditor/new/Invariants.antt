@@ -1,6 +1,5 @@
 use Rattle.std.proofs.Common.{ℕ, List}
-use Rattle.shm_audit.specs.Images.{numbers}
-use Rattle.shm_audit.specs.Tallies.{AreFrom, Tallied}
+use Rattle.shm_audit.specs.{Images.numbers, Tallies.{AreFrom, Tallied}}
 use Rattle.shm_audit.proofs.auditor.Auditor.new.Given as goal
 
 abbrev pub invariant-loop-at : goal.invariant-loop-at

@@ -1,7 +1,6 @@
 use Rattle.std.proofs.Common.{◌≡◌, ◌+◌, ◌-◌, ◌%◌, sym, ap, subst, ◌∙◌, arith}
 use Rattle.shm_audit.specs.Streams.{Seen}
-use Rattle.shm_audit.proofs.Blocks.{block_in_page, next_block}
-use Rattle.shm_audit.proofs.Steps.{seen_unused}
+use Rattle.shm_audit.proofs.{Blocks.{block_in_page, next_block}, Steps.seen_unused}
 use Rattle.shm_audit.proofs.auditor.Auditor.page.Goals as goal
 
 pub returns-in_default : goal.returns-in_default

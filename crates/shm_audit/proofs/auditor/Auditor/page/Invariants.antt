@@ -1,7 +1,5 @@
 use Rattle.std.proofs.Common.{◌≡◌, ℕ, ◌+◌, ◌-◌, ◌%◌, ◌≤◌, List}
-use Rattle.shm_audit.specs.Images.{numbers}
-use Rattle.shm_audit.specs.Streams.{HasPage, Seen}
-use Rattle.shm_audit.specs.Tallies.{AreFrom}
+use Rattle.shm_audit.specs.{Images.numbers, Streams.{HasPage, Seen}, Tallies.AreFrom}
 use Rattle.shm_audit.proofs.auditor.Auditor.page.Given as goal
 
 abbrev pub invariant-loop-k : goal.invariant-loop-k

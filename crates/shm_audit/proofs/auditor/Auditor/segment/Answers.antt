@@ -1,11 +1,8 @@
 use Rattle.std.proofs.Common.{◌≡◌, ◌+◌, ◌-◌, ◌*◌, ◌/◌, ◌<◌, get_or, sym, ap, subst, ◌∙◌, arith}
 use Rattle.shm_words.specs.Layout.{address, bodies, pages}
 use Rattle.shm_words.proofs.Placing.{total_small}
-use Rattle.shm_audit.specs.Images.{numbers}
-use Rattle.shm_audit.specs.Streams.{HasPage, Seen}
-use Rattle.shm_audit.specs.Tallies.{AreFrom}
-use Rattle.shm_audit.proofs.Blocks.{page_word}
-use Rattle.shm_audit.proofs.Fronts.{from_word, numbers_length}
+use Rattle.shm_audit.specs.{Images.numbers, Streams.{HasPage, Seen}, Tallies.AreFrom}
+use Rattle.shm_audit.proofs.{Blocks.page_word, Fronts.{from_word, numbers_length}}
 use Rattle.shm_audit.proofs.auditor.Auditor.segment.Goals as goal
 
 pub page-requires-in-loop-p-clause-room : goal.page-requires-in-loop-p-clause-room

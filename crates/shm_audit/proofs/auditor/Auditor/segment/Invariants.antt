@@ -1,8 +1,6 @@
 use Rattle.std.proofs.Common.{ℕ, ◌+◌, ◌*◌, List}
 use Rattle.shm_words.specs.Layout.{bodies}
-use Rattle.shm_audit.specs.Images.{numbers}
-use Rattle.shm_audit.specs.Streams.{Seen}
-use Rattle.shm_audit.specs.Tallies.{AreFrom}
+use Rattle.shm_audit.specs.{Images.numbers, Streams.Seen, Tallies.AreFrom}
 use Rattle.shm_audit.proofs.auditor.Auditor.segment.Given as goal
 
 abbrev pub invariant-loop-p : goal.invariant-loop-p

@@ -1,12 +1,12 @@
 use Rattle.std.proofs.Common.{◌≡◌, ℕ, ◌+◌, ◌*◌, ◌<◌, true, false, get_or, length, sym, ap, subst, ◌∙◌, arith}
-use Rattle.std.specs.Prelude.{Option}
 use Rattle.std.proofs.lemmas.List.{get_or_default}
+use Rattle.std.specs.Prelude.{Option}
 use Rattle.shm_words.specs.Layout.{total_of}
 use Rattle.shm_audit.specs.declared.tally.Reference.{Reference}
 use Rattle.shm_audit.specs.Tallies.{earlier, is_bad_place, place_address, places_in, unseen}
 use Rattle.shm_audit.proofs.Ends.{IsFirstIn, bad_below, bad_end, bad_more, bad_same, bad_start}
-use Rattle.shm_audit.proofs.tally.Tally.bad_reference.Goals as goal
 use Rattle.shm_audit.proofs.tally.Tally.bad_reference.Goals.{then-is_bad, else-is_bad}
+use Rattle.shm_audit.proofs.tally.Tally.bad_reference.Goals as goal
 
 pub loop-found-init : goal.loop-found-init
 loop-found-init c = record {

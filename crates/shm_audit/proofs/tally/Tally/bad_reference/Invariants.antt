@@ -1,6 +1,5 @@
 use Rattle.std.proofs.Common.{◌≡◌, ℕ, ◌+◌, ◌*◌, List}
-use Rattle.shm_words.specs.declared.geometry.Geometry.{Geometry}
-use Rattle.shm_words.specs.Layout.{GeometryFits, total_of}
+use Rattle.shm_words.specs.{declared.geometry.Geometry.Geometry, Layout.{GeometryFits, total_of}}
 use Rattle.shm_audit.specs.Tallies.{ArePages, Tallied}
 use Rattle.shm_audit.proofs.Ends.{IsFirstIn, bad_below}
 use Rattle.shm_audit.proofs.tally.Tally.bad_reference.Given as goal

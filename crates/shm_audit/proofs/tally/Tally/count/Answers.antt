@@ -1,5 +1,4 @@
-use Rattle.std.proofs.Common.{◌≡◌, get_or, refl, sym, ap, ◌∙◌}
-use Rattle.std.proofs.lemmas.List.{get_or_default}
+use Rattle.std.proofs.{Common.{◌≡◌, get_or, refl, sym, ap, ◌∙◌}, lemmas.List.get_or_default}
 use Rattle.shm_audit.specs.Tallies.{unseen}
 use Rattle.shm_audit.proofs.Tallying.{tally_head}
 use Rattle.shm_audit.proofs.tally.Tally.count.Goals as goal

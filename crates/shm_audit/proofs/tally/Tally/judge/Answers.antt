@@ -1,9 +1,8 @@
 use Rattle.std.proofs.Common.{◌≡◌, ◌+◌, ◌*◌, ◌<◌, get_or, length, below_more, refl, sym, ap, subst, ◌∙◌, arith}
-use Rattle.std.specs.Prelude.{Option, None, Some}
 use Rattle.std.proofs.lemmas.List.{get_or_default}
+use Rattle.std.specs.Prelude.{Option, None, Some}
 use Rattle.shm_graph.specs.Spots.{see}
-use Rattle.shm_audit.specs.declared.verdict.Verdict.{Verdict}
-use Rattle.shm_audit.specs.Tallies.{place_address, place_verdict, unseen}
+use Rattle.shm_audit.specs.{declared.verdict.Verdict.Verdict, Tallies.{place_address, place_verdict, unseen}}
 use Rattle.shm_audit.proofs.Ends.{Judges, judge_clean, judge_wrong, judges}
 use Rattle.shm_audit.proofs.tally.Tally.judge.Goals as goal
 

@@ -1,9 +1,7 @@
 use Rattle.std.proofs.Common.{◌≡◌, ℕ, ◌+◌, ◌*◌, ◌<◌, List, false}
-use Rattle.shm_words.specs.declared.geometry.Geometry.{Geometry}
-use Rattle.shm_words.specs.Layout.{GeometryFits, total_of}
+use Rattle.shm_words.specs.{declared.geometry.Geometry.Geometry, Layout.{GeometryFits, total_of}}
 use Rattle.shm_graph.specs.Spots.{see}
-use Rattle.shm_audit.specs.Tallies.{ArePages, Tallied, place_address}
-use Rattle.shm_audit.specs.Verdicts.{is_wrong}
+use Rattle.shm_audit.specs.{Tallies.{ArePages, Tallied, place_address}, Verdicts.is_wrong}
 use Rattle.shm_audit.proofs.tally.Tally.judge.Given as goal
 
 abbrev pub invariant-loop-found : goal.invariant-loop-found

@@ -1,9 +1,7 @@
 use Rattle.std.proofs.Common.{◌≡◌, ◌≢◌, ◌+◌, ◌%◌, ◌^◌, eqb, cond, get_or, true, false, refl, ap, ◌∙◌}
+use Rattle.std.proofs.lemmas.{Bool.{false≢true, true≢false}, List.get_or_default}
 use Rattle.std.specs.Prelude.{Option, None, Some, is_some}
-use Rattle.std.proofs.lemmas.Bool.{false≢true, true≢false}
-use Rattle.std.proofs.lemmas.List.{get_or_default}
-use Rattle.shm_audit.specs.declared.tally.Reference.{Reference}
-use Rattle.shm_audit.specs.Tallies.{unseen}
+use Rattle.shm_audit.specs.{declared.tally.Reference.Reference, Tallies.unseen}
 use Rattle.shm_audit.proofs.Tallying.{tally_named, tally_nothing, tally_strayed}
 use Rattle.shm_audit.proofs.tally.Tally.name.Goals as goal
 

@@ -1,8 +1,6 @@
 use Rattle.std.proofs.Common.{ℕ, ◌+◌, ◌<◌, ◌≤◌, List, get_or, length}
-use Rattle.shm_words.specs.declared.geometry.Geometry.{Geometry}
-use Rattle.shm_words.specs.Layout.{GeometryFits, total_of}
-use Rattle.shm_audit.specs.Images.{numbers}
-use Rattle.shm_audit.specs.Tallies.{AreFrom, IsNaming, Tallied}
+use Rattle.shm_words.specs.{declared.geometry.Geometry.Geometry, Layout.{GeometryFits, total_of}}
+use Rattle.shm_audit.specs.{Images.numbers, Tallies.{AreFrom, IsNaming, Tallied}}
 use Rattle.shm_audit.proofs.tally.Tally.names.Given as goal
 
 abbrev pub invariant-loop-k : goal.invariant-loop-k

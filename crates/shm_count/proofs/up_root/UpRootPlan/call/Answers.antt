@@ -1,8 +1,7 @@
-use Rattle.std.proofs.Common.{sym, subst, ◌<◌}
-use Rattle.std.proofs.lemmas.Bool.{and_from, lt-ltb}
+use Rattle.std.proofs.{Common.{sym, subst, ◌<◌}, lemmas.Bool.{and_from, lt-ltb}}
+use Rattle.shm_words.specs.Layout.{address_limit}
 use Rattle.shm_words.specs.declared.place.Place.TheVariants as place
 use Rattle.shm_words.proofs.Placing.{address_small}
-use Rattle.shm_words.specs.Layout.{address_limit}
 use Rattle.shm_count.proofs.up_root.UpRootPlan.call.Goals as goal
 
 pub taken_up-requires-clause-slot : goal.taken_up-requires-clause-slot

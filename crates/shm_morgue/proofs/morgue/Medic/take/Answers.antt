@@ -1,7 +1,6 @@
 use Rattle.std.proofs.Common.{ap, []}
 use Rattle.crossbeam_queue.specs.Passes.{view}
-use Rattle.shm_morgue.specs.declared.rule.Hands.{Hands}
-use Rattle.shm_morgue.specs.Hands.{first_list}
+use Rattle.shm_morgue.specs.{declared.rule.Hands.Hands, Hands.first_list}
 use Rattle.shm_morgue.proofs.Moves.{takes_one, knows}
 use Rattle.shm_morgue.proofs.morgue.Medic.take.Goals as goal
 

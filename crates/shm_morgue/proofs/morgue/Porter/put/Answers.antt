@@ -1,11 +1,8 @@
 use Rattle.std.proofs.Common.{[], length, ap, sym, ◌∙◌, subst}
 use Rattle.crossbeam_queue.specs.Passes.{view}
-use Rattle.shm_morgue.specs.declared.rule.Hands.{Hands}
-use Rattle.shm_morgue.specs.declared.rule.Taken.{Taken}
-use Rattle.shm_morgue.specs.Entries.{Puts, Which, MayHold, entry}
+use Rattle.shm_morgue.specs.{declared.rule.{Hands.Hands, Taken.Taken}, Entries.{Puts, Which, MayHold, entry}}
 use Rattle.shm_morgue.specs.Hands.{desk, first_entries}
-use Rattle.shm_morgue.proofs.Moves.{puts_one, waits}
-use Rattle.shm_morgue.proofs.Seen.{same_puts, waits_alone}
+use Rattle.shm_morgue.proofs.{Moves.{puts_one, waits}, Seen.{same_puts, waits_alone}}
 use Rattle.shm_morgue.proofs.morgue.Porter.put.Goals as goal
 
 pub push_as-requires-clause-rule : goal.push_as-requires-clause-rule

@@ -1,14 +1,8 @@
-use Rattle.std.proofs.Common.{◌≡◌, ℕ, ◌+◌, ◌<◌, false, length, ap, ◌∙◌, sym, subst}
-use Rattle.std.proofs.lemmas.Bool.{true≢false}
-use Rattle.shm_graph.specs.declared.ask.Life.{Life}
-use Rattle.shm_graph.specs.Laws.{is_died}
-use Rattle.shm_graph.specs.Whole.{fits_now}
-use Rattle.shm_plain.specs.Pools.{Pool, memo_of, readied}
-use Rattle.shm_plain.specs.Calls.{Ran, Took}
+use Rattle.std.proofs.{Common.{◌≡◌, ℕ, ◌+◌, ◌<◌, false, length, ap, ◌∙◌, sym, subst}, lemmas.Bool.true≢false}
+use Rattle.shm_graph.specs.{declared.ask.Life.Life, Laws.is_died, Whole.fits_now}
+use Rattle.shm_plain.specs.{Pools.{Pool, memo_of, readied}, Calls.{Ran, Took}}
 use Rattle.shm_plain.proofs.Calling.{answered_is, died_ran, died_spent, died_took, lives, went_first, went_gives, went_on, went_ran, went_spent, went_took}
-use Rattle.shm_plain.proofs.OwnTurns.{called_did}
-use Rattle.shm_plain.proofs.pool.PlainPool.call.Given.{Over}
-use Rattle.shm_plain.proofs.pool.PlainPool.call.Goals.{In-Died, In-Done}
+use Rattle.shm_plain.proofs.{OwnTurns.called_did, pool.PlainPool.call.{Given.Over, Goals.{In-Died, In-Done}}}
 use Rattle.shm_plain.proofs.pool.PlainPool.call.Goals as goal
 
 pub loop-answer-init : goal.loop-answer-init

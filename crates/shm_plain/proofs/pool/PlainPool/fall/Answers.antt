@@ -1,8 +1,6 @@
 use Rattle.std.proofs.Common.{◌≡◌, ◌<◌, sym, ◌∙◌, subst}
-use Rattle.shm_plain.specs.declared.track.Track.{Track}
-use Rattle.shm_plain.specs.Pools.{Pool, pool, IsRun}
-use Rattle.shm_plain.proofs.Turning.{fall_run}
-use Rattle.shm_plain.proofs.pool.PlainPool.fall.Goals.{After-note_death}
+use Rattle.shm_plain.specs.{declared.track.Track.Track, Pools.{Pool, pool, IsRun}}
+use Rattle.shm_plain.proofs.{Turning.fall_run, pool.PlainPool.fall.Goals.After-note_death}
 use Rattle.shm_plain.proofs.pool.PlainPool.fall.Goals as goal
 
 ran : (c : After-note_death) → IsRun (pool c.self.inside.start c.self.inside.words.items c.note_death.new.place.me.0.accounts c.note_death.new.place.me.0.turns)

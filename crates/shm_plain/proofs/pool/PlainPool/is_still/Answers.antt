@@ -1,8 +1,7 @@
 use Rattle.std.proofs.Common.{◌≡◌, ℕ, ◌<◌, ◌⊎◌, inl, inr, sym, ap, ◌∙◌, subst, below_more}
 use Rattle.std.specs.Prelude.{slice_index}
-use Rattle.shm_words.specs.declared.geometry.Geometry.{Geometry}
+use Rattle.shm_words.specs.{declared.geometry.Geometry.Geometry, Layout.{address, total_of}}
 use Rattle.shm_words.specs.declared.place.Place.TheVariants as place
-use Rattle.shm_words.specs.Layout.{address, total_of}
 use Rattle.shm_graph.specs.declared.memo.Status.TheVariants.{New, Gone}
 use Rattle.shm_plain.specs.Pools.{memo_of}
 use Rattle.shm_plain.proofs.Stilling.{out_by, status_below, status_read, still_word}

@@ -1,8 +1,6 @@
 use Rattle.std.proofs.Common.{ℕ, List, subst, sym, ap}
 use Rattle.shm_graph.specs.declared.run.Start.{Start}
-use Rattle.shm_plain.specs.declared.track.Track.{Track}
-use Rattle.shm_plain.specs.Pools.{pool, IsRun}
-use Rattle.shm_plain.specs.Tracks.{first_track}
+use Rattle.shm_plain.specs.{declared.track.Track.Track, Pools.{pool, IsRun}, Tracks.first_track}
 use Rattle.shm_plain.proofs.Turning.{first_run}
 use Rattle.shm_plain.proofs.pool.PlainPool.make.Goals as goal
 

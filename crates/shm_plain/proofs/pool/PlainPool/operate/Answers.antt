@@ -1,9 +1,6 @@
 use Rattle.std.proofs.Common.{subst, refl}
-use Rattle.shm_graph.specs.declared.ask.Me.{Me}
-use Rattle.shm_graph.specs.Idle.{IsIdle}
-use Rattle.shm_graph.specs.Tells.{happens_along}
-use Rattle.shm_plain.specs.Pools.{memo_of}
-use Rattle.shm_plain.specs.Calls.{Did}
+use Rattle.shm_graph.specs.{declared.ask.Me.Me, Idle.IsIdle, Tells.happens_along}
+use Rattle.shm_plain.specs.{Pools.memo_of, Calls.Did}
 use Rattle.shm_plain.proofs.Called.{Answered, answered, call_fits, fits_first, ready}
 use Rattle.shm_plain.proofs.pool.PlainPool.operate.Goals.{After-call}
 use Rattle.shm_plain.proofs.pool.PlainPool.operate.Goals as goal

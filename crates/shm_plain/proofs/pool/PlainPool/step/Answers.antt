@@ -1,6 +1,5 @@
 use Rattle.std.proofs.Common.{◌≡◌, Option, Some, None, false, true, refl, sym, ap, ◌∙◌, arith}
-use Rattle.shm_graph.specs.declared.ask.Turn.{Turn}
-use Rattle.shm_graph.specs.Laws.{turn_of, is_died}
+use Rattle.shm_graph.specs.{declared.ask.Turn.Turn, Laws.{turn_of, is_died}}
 use Rattle.shm_plain.proofs.pool.PlainPool.step.Goals as goal
 
 lives : {A : Type 0} (o : Option A) (t : Turn A) → t ≡ turn_of o → is_died t ≡ true → ⊥

@@ -1,14 +1,10 @@
 use Rattle.std.proofs.Common.{◌≡◌, ℕ, List, sym, ap, ◌∙◌, subst}
-use Rattle.shm_graph.specs.declared.ask.Me.{Me}
-use Rattle.shm_graph.specs.declared.memo.Memo.{Memo}
-use Rattle.shm_graph.specs.Asks.{words_set}
-use Rattle.shm_graph.specs.Whole.{fits_now, gives_now, Learns}
+use Rattle.shm_graph.specs.{declared.{ask.Me.Me, memo.Memo.Memo}, Asks.words_set, Whole.{fits_now, gives_now, Learns}}
+use Rattle.shm_graph.proofs.Machines.Wholes.{whole_keeps}
 use Rattle.shm_plain.specs.declared.track.Track.{Track}
 use Rattle.shm_plain.specs.Pools.{Pool, pool, memo_of, IsRun, IsOf, MayStep, readied, turn_on, turned}
 use Rattle.shm_plain.specs.Tracks.{noted_at}
-use Rattle.shm_graph.proofs.Machines.Wholes.{whole_keeps}
-use Rattle.shm_plain.proofs.Turning.{ready_run, turned_run, learned}
-use Rattle.shm_plain.proofs.pool.PlainPool.turn.Given.{Over}
+use Rattle.shm_plain.proofs.{Turning.{ready_run, turned_run, learned}, pool.PlainPool.turn.Given.Over}
 use Rattle.shm_plain.proofs.pool.PlainPool.turn.Goals.{After-act}
 use Rattle.shm_plain.proofs.pool.PlainPool.turn.Goals as goal
 

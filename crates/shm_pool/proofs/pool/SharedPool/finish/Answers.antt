@@ -1,9 +1,7 @@
 use Rattle.std.proofs.Common.{◌≡◌, ℕ, ◌<◌, ◌≤◌, List, ap, sym, ◌∙◌, subst}
 use Rattle.atomic_table.specs.Table.{Me as Mine}
-use Rattle.shm_graph.specs.declared.run.Start.{Start}
-use Rattle.shm_graph.specs.declared.run.Account.{Account}
-use Rattle.shm_pool.specs.Rules.{Rule, count_in}
-use Rattle.shm_pool.specs.Tokens.{Its, accounts_of, by_who, head_view, AllStill, IsClosedRun}
+use Rattle.shm_graph.specs.declared.run.{Start.Start, Account.Account}
+use Rattle.shm_pool.specs.{Rules.{Rule, count_in}, Tokens.{Its, accounts_of, by_who, head_view, AllStill, IsClosedRun}}
 use Rattle.shm_pool.proofs.Ends.{ends}
 use Rattle.shm_pool.proofs.pool.SharedPool.finish.Goals as goal
 

@@ -1,15 +1,11 @@
 use Rattle.std.proofs.Common.{List, ℕ, ◌≡◌, ◌-◌, ◌<◌, ◌+◌, ◌++◌, subst, sym, ap, ◌∙◌, [], ◌∷◌, take, drop, arith, inl, length}
 use Rattle.atomic_table.specs.Table.{Me as Mine}
 use Rattle.shm_words.specs.Layout.{total_of, place_at}
-use Rattle.shm_graph.specs.declared.run.Account.{Account}
-use Rattle.shm_graph.specs.declared.run.Start.{Start}
-use Rattle.shm_graph.specs.Agents.{acts}
+use Rattle.shm_graph.specs.{declared.run.{Account.Account, Start.Start}, Agents.acts}
 use Rattle.shm_graph.specs.Runs.{first_words, first_word, first_account, accounts_from, Stood}
 use Rattle.shm_graph.proofs.States.FirstHeld.{length-words_from}
-use Rattle.shm_pool.specs.Rules.{Rule, head_account}
-use Rattle.shm_pool.specs.Tokens.{Its, its, token_of, token_first, first_tokens, AllOf}
-use Rattle.shm_pool.proofs.Opening.{opens, cut_as, first_cut, first_stood, first_tokens_more}
-use Rattle.shm_pool.proofs.Ends.{of_first}
+use Rattle.shm_pool.specs.{Rules.{Rule, head_account}, Tokens.{Its, its, token_of, token_first, first_tokens, AllOf}}
+use Rattle.shm_pool.proofs.{Opening.{opens, cut_as, first_cut, first_stood, first_tokens_more}, Ends.of_first}
 use Rattle.shm_pool.proofs.pool.SharedPool.make.Goals.{After-split_seat-place}
 use Rattle.shm_pool.proofs.pool.SharedPool.make.Goals as goal
 

@@ -1,10 +1,6 @@
 use Rattle.std.proofs.Common.{◌≡◌, false, sym, ap, ◌∙◌, subst}
-use Rattle.shm_graph.specs.declared.run.Account.{Account}
-use Rattle.shm_graph.specs.Agents.{acts, last_agent}
-use Rattle.shm_graph.specs.Runs.{fell_by}
-use Rattle.shm_pool.specs.Posts.{account_seen}
-use Rattle.shm_pool.specs.Rules.{alone}
-use Rattle.shm_pool.specs.Tokens.{IsOut, Token, its}
+use Rattle.shm_graph.specs.{declared.run.Account.Account, Agents.{acts, last_agent}, Runs.fell_by}
+use Rattle.shm_pool.specs.{Posts.account_seen, Rules.alone, Tokens.{IsOut, Token, its}}
 use Rattle.shm_pool.proofs.Posting.{seen_whole}
 use Rattle.shm_pool.proofs.post.Post.vacate.Goals as goal
 

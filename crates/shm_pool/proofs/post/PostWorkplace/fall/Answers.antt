@@ -1,12 +1,7 @@
 use Rattle.std.proofs.Common.{◌≡◌, ℕ, ◌<◌, true, sym, ap, ◌∙◌, subst}
-use Rattle.shm_graph.specs.declared.run.Account.{Account}
-use Rattle.shm_graph.specs.Agents.{acts}
-use Rattle.shm_graph.specs.Runs.{account_died}
-use Rattle.shm_pool.specs.Posts.{account_seen}
-use Rattle.shm_pool.specs.Rules.{alone}
-use Rattle.shm_pool.specs.Tokens.{Token}
-use Rattle.shm_pool.proofs.Posting.{seen_same}
-use Rattle.shm_pool.proofs.Stepping.{stood_dies}
+use Rattle.shm_graph.specs.{declared.run.Account.Account, Agents.acts, Runs.account_died}
+use Rattle.shm_pool.specs.{Posts.account_seen, Rules.alone, Tokens.Token}
+use Rattle.shm_pool.proofs.{Posting.seen_same, Stepping.stood_dies}
 use Rattle.shm_pool.proofs.post.PostWorkplace.fall.Goals as goal
 
 pub invariant_of-self : goal.invariant_of-self

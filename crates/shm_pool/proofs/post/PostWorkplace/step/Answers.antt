@@ -1,18 +1,10 @@
 use Rattle.std.proofs.Common.{◌≡◌, ℕ, ◌<◌, true, false, sym, ap, ◌∙◌, subst, arith}
-use Rattle.shm_graph.specs.declared.run.Account.{Account}
-use Rattle.shm_graph.specs.declared.run.Start.{Start}
-use Rattle.shm_graph.specs.Laws.{step_of}
-use Rattle.shm_graph.specs.Runs.{Stood, account_after}
+use Rattle.shm_graph.specs.{declared.run.{Account.Account, Start.Start}, Laws.step_of, Runs.{Stood, account_after}}
 use Rattle.shm_graph.specs.Whole.{Learns, fits_now, gives_now}
 use Rattle.shm_work.specs.Working.{ready_account}
-use Rattle.shm_pool.specs.Calls.{ClientStepped}
-use Rattle.shm_pool.specs.Posts.{Knows, account_seen}
-use Rattle.shm_pool.specs.Rules.{alone}
-use Rattle.shm_pool.specs.Tokens.{Its, Token}
-use Rattle.shm_pool.proofs.Posting.{ready_who, seen_who, stepped_knows}
-use Rattle.shm_pool.proofs.Seating.{seated_on}
-use Rattle.shm_pool.proofs.post.PostWorkplace.step.Given.{Over}
-use Rattle.shm_pool.proofs.post.PostWorkplace.step.Goals.{After-top-2, After-step_place}
+use Rattle.shm_pool.specs.{Calls.ClientStepped, Posts.{Knows, account_seen}, Rules.alone, Tokens.{Its, Token}}
+use Rattle.shm_pool.proofs.{Posting.{ready_who, seen_who, stepped_knows}, Seating.seated_on}
+use Rattle.shm_pool.proofs.post.PostWorkplace.step.{Given.Over, Goals.{After-top-2, After-step_place}}
 use Rattle.shm_pool.proofs.post.PostWorkplace.step.Goals as goal
 
 -- the account that is seen before

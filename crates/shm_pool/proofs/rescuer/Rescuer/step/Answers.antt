@@ -1,19 +1,10 @@
 use Rattle.std.proofs.Common.{◌≡◌, ◌<◌, Bool, true, false, Ok, Err, arith, refl, sym, ap, ◌∙◌, subst}
 use Rattle.shm_calls.specs.CallsFit.{CallsFits}
-use Rattle.shm_graph.specs.declared.ask.Turn.TheVariants.{More, Done}
-use Rattle.shm_graph.specs.declared.run.Account.{Account}
-use Rattle.shm_graph.specs.declared.run.Start.{Start}
-use Rattle.shm_graph.specs.Runs.{Stood}
-use Rattle.shm_graph.specs.Whole.{fits_now}
-use Rattle.shm_recover.specs.Machines.Recovering.{recover}
-use Rattle.shm_recover.specs.Recover.Control.{recover_parts}
-use Rattle.shm_recover.specs.Recover.{recover_plan}
-use Rattle.shm_pool.specs.Endings.{Answer}
-use Rattle.shm_pool.specs.Rescues.{IsRescuing, Rescuing, account_of}
-use Rattle.shm_pool.specs.Rules.{alone}
-use Rattle.shm_pool.specs.Tokens.{Its}
-use Rattle.shm_pool.proofs.Rescuing.{Stepped, finished_by, is_finished_ok, rescued}
-use Rattle.shm_pool.proofs.Seating.{seated_on}
+use Rattle.shm_graph.specs.declared.{ask.Turn.TheVariants.{More, Done}, run.{Account.Account, Start.Start}}
+use Rattle.shm_graph.specs.{Runs.Stood, Whole.fits_now}
+use Rattle.shm_recover.specs.{Machines.Recovering.recover, Recover.{Control.recover_parts, recover_plan}}
+use Rattle.shm_pool.specs.{Endings.Answer, Rescues.{IsRescuing, Rescuing, account_of}, Rules.alone, Tokens.Its}
+use Rattle.shm_pool.proofs.{Rescuing.{Stepped, finished_by, is_finished_ok, rescued}, Seating.seated_on}
 use Rattle.shm_pool.proofs.rescuer.Rescuer.step.Goals.{After-top-2}
 use Rattle.shm_pool.proofs.rescuer.Rescuer.step.Goals as goal
 

@@ -1,12 +1,9 @@
 use Rattle.std.proofs.Common.{◌≡◌, refl, sym, ap, ◌∙◌, subst}
 use Rattle.shm_graph.specs.declared.ask.Me.{Me}
-use Rattle.shm_queue.specs.Drain.Control.{drain_parts, draining}
-use Rattle.shm_queue.specs.Drain.{drain_plan}
-use Rattle.shm_queue.specs.QueueTasks.{DrainMay}
+use Rattle.shm_queue.specs.{Drain.{Control.{drain_parts, draining}, drain_plan}, QueueTasks.DrainMay}
 use Rattle.shm_queue.specs.declared.drain.DrainState.{DrainState}
 use Rattle.shm_pool.specs.Tokens.{me_of}
-use Rattle.shm_pool.proofs.Named.{called_by, called_dead}
-use Rattle.shm_pool.proofs.token.Client.drain.Goals.{After-new}
+use Rattle.shm_pool.proofs.{Named.{called_by, called_dead}, token.Client.drain.Goals.After-new}
 use Rattle.shm_pool.proofs.token.Client.drain.Goals as goal
 
 -- the plan is one of the client's identity

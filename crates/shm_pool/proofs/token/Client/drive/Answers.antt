@@ -1,7 +1,5 @@
-use Rattle.std.proofs.Common.{◌≡◌, false, rules, refl, sym, ap, ◌∙◌}
-use Rattle.std.proofs.lemmas.Bool.{true≢false}
-use Rattle.shm_pool.specs.Rules.{alone}
-use Rattle.shm_pool.specs.Tokens.{Acting, has_left}
+use Rattle.std.proofs.{Common.{◌≡◌, false, rules, refl, sym, ap, ◌∙◌}, lemmas.Bool.true≢false}
+use Rattle.shm_pool.specs.{Rules.alone, Tokens.{Acting, has_left}}
 use Rattle.shm_pool.proofs.token.Client.drive.Goals.{After-run_place}
 use Rattle.shm_pool.proofs.token.Client.drive.Goals as goal
 

@@ -1,12 +1,9 @@
 use Rattle.std.proofs.Common.{◌≡◌, refl, sym, ap, ◌∙◌, subst}
 use Rattle.shm_graph.specs.declared.ask.Me.{Me}
-use Rattle.shm_ref.specs.DropRoot.Control.{drop_parts, dropping}
-use Rattle.shm_ref.specs.DropRoot.{drop_plan}
-use Rattle.shm_ref.specs.RootTasks.{DropMay}
+use Rattle.shm_ref.specs.{DropRoot.{Control.{drop_parts, dropping}, drop_plan}, RootTasks.DropMay}
 use Rattle.shm_ref.specs.declared.drop_root.DropState.{DropState}
 use Rattle.shm_pool.specs.Tokens.{me_of}
-use Rattle.shm_pool.proofs.Named.{called_by, called_dead}
-use Rattle.shm_pool.proofs.token.Client.drop_root.Goals.{After-new}
+use Rattle.shm_pool.proofs.{Named.{called_by, called_dead}, token.Client.drop_root.Goals.After-new}
 use Rattle.shm_pool.proofs.token.Client.drop_root.Goals as goal
 
 -- the plan is one of the client's identity

@@ -1,9 +1,8 @@
 use Rattle.std.proofs.Common.{◌≡◌, ℕ, ◌<◌, sym, ap, ◌∙◌, subst}
-use Rattle.shm_words.specs.declared.place.Place.TheVariants as place
 use Rattle.shm_words.specs.Layout.{GeometryFits, address}
+use Rattle.shm_words.specs.declared.place.Place.TheVariants as place
 use Rattle.shm_graph.specs.declared.run.Start.{Start}
-use Rattle.shm_pool.specs.Rules.{alone}
-use Rattle.shm_pool.specs.Tokens.{Acting, Its}
+use Rattle.shm_pool.specs.{Rules.alone, Tokens.{Acting, Its}}
 use Rattle.shm_pool.proofs.token.Client.end.Goals.{After-top}
 use Rattle.shm_pool.proofs.token.Client.end.Goals as goal
 

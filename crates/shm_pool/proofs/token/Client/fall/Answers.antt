@@ -1,6 +1,5 @@
 use Rattle.std.proofs.Common.{sym, ap, ◌∙◌}
-use Rattle.shm_pool.specs.Rules.{alone}
-use Rattle.shm_pool.specs.Tokens.{Acting, has_left}
+use Rattle.shm_pool.specs.{Rules.alone, Tokens.{Acting, has_left}}
 use Rattle.shm_pool.proofs.Calling.{serving_acts}
 use Rattle.shm_pool.proofs.token.Client.fall.Goals as goal
 

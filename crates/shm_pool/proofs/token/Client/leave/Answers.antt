@@ -1,26 +1,14 @@
-use Rattle.std.proofs.Common.{◌≡◌, refl, sym, ap, ◌∙◌, subst}
+use Rattle.std.proofs.{Common.{◌≡◌, refl, sym, ap, ◌∙◌, subst}, lemmas.Result.{IfErr-weaker, IfOk-weaker}}
 use Rattle.std.specs.Prelude.{IfErr, IfOk}
-use Rattle.std.proofs.lemmas.Result.{IfErr-weaker, IfOk-weaker}
-use Rattle.shm_calls.specs.declared.calls.Calls.{Calls}
-use Rattle.shm_calls.specs.CallsControl.{calls_does, calls_of}
-use Rattle.shm_calls.specs.CallsFit.{CallsFits, CallsGives}
-use Rattle.shm_calls.specs.CallsKeep.{calls_begin, calls_tells}
-use Rattle.shm_graph.specs.declared.ask.Me.{Me}
-use Rattle.shm_graph.specs.declared.memo.Memo.{Memo}
-use Rattle.shm_graph.specs.declared.run.Account.{Account}
-use Rattle.shm_graph.specs.Asks.{Trail}
-use Rattle.shm_graph.specs.Tells.{Tells}
+use Rattle.shm_calls.specs.{declared.calls.Calls.Calls, CallsControl.{calls_does, calls_of}}
+use Rattle.shm_calls.specs.{CallsFit.{CallsFits, CallsGives}, CallsKeep.{calls_begin, calls_tells}}
+use Rattle.shm_graph.specs.{declared.{ask.Me.Me, memo.Memo.Memo, run.Account.Account}, Asks.Trail, Tells.Tells}
 use Rattle.shm_graph.specs.Whole.{fits_now, gives_now}
 use Rattle.shm_recover.specs.declared.leave.LeaveState.{LeaveState}
-use Rattle.shm_recover.specs.Leave.Control.{LeaveAnswer, LeaveCall, leave_parts, leaving}
-use Rattle.shm_recover.specs.Leave.Laws.{leave_begin, leave_laws}
-use Rattle.shm_recover.specs.Leave.{leave_plan}
-use Rattle.shm_recover.specs.Machines.{leave}
-use Rattle.shm_pool.specs.Endings.{Answer, HasEnded, HasLeft, HasNotLeft, HasStopped}
-use Rattle.shm_pool.specs.Tokens.{IsFor, me_of}
-use Rattle.shm_pool.proofs.Calling.{is_here}
-use Rattle.shm_pool.proofs.Told.{end_told, stop_told}
-use Rattle.shm_pool.proofs.token.Client.leave.Goals.{After-new-leave}
+use Rattle.shm_recover.specs.Leave.Control.{LeaveAnswer, LeaveCall, leave_parts, leaving, leave_steered}
+use Rattle.shm_recover.specs.{Leave.{Laws.{leave_begin, leave_laws}, leave_plan}, Machines.leave}
+use Rattle.shm_pool.specs.{Endings.{Answer, HasEnded, HasLeft, HasNotLeft, HasStopped}, Tokens.{IsFor, me_of}}
+use Rattle.shm_pool.proofs.{Calling.is_here, Told.{end_told, stop_told}, token.Client.leave.Goals.After-new-leave}
 use Rattle.shm_pool.proofs.token.Client.leave.Goals as goal
 
 abbrev Machine : Type 0
@@ -30,8 +18,8 @@ abbrev who : (c : After-new-leave) → Me
 who c = me_of c.args.self.of c.args.self.account
 
 -- the machine is the leaving of the client's identity
-state : (c : After-new-leave) → c.new-leave.result ≡ calls_of leave_plan (leaving (who c))
-state c = c.new-leave.ensures ∙ ap (λ (x : LeaveState). calls_of leave_plan x) (c.new.ensures ∙ ap (λ (x : Me). leaving x) c.me.ensures.is)
+state : (c : After-new-leave) → c.new-leave.result ≡ calls_of leave_steered (leaving (who c))
+state c = c.new-leave.ensures ∙ ap (λ (x : LeaveState). calls_of leave_steered x) (c.new.ensures ∙ ap (λ (x : Me). leaving x) c.me.ensures.is)
 
 pub leave_by-requires-clause-fits : goal.leave_by-requires-clause-fits
 leave_by-requires-clause-fits c = λ alive.
@@ -52,7 +40,7 @@ returns-clause-left c =
     let l = c.leave_by.new.life.left in
     let fits : Machine → Memo → Memo → Trail → Type 0 = CallsFits leave_parts leave_plan in
     let gives : Machine → Memo → Memo → Answer → Type 0 = gives_now (CallsGives leave_parts leave_plan) in
-    IfOk-weaker c.leave_by.result (HasEnded leave fits gives (calls_of leave_plan (leaving (who x))) p e n l) (HasLeft p e n l) (end_told leave fits gives (calls_does leave_parts leave_plan) tells (calls_of leave_plan (leaving (who x))) p e n l)
+    IfOk-weaker c.leave_by.result (HasEnded leave fits gives (calls_of leave_steered (leaving (who x))) p e n l) (HasLeft p e n l) (end_told leave fits gives (calls_does leave_parts leave_plan) tells (calls_of leave_steered (leaving (who x))) p e n l)
     (subst (λ (m : Machine). IfOk c.leave_by.result (HasEnded leave fits gives m p e n l)) (state x) c.leave_by.ensures.ended)
 
 pub returns-clause-stopped : goal.returns-clause-stopped
@@ -64,7 +52,7 @@ returns-clause-stopped c = λ alive.
     let l = c.leave_by.new.life.left in
     let fits : Machine → Memo → Memo → Trail → Type 0 = CallsFits leave_parts leave_plan in
     let gives : Machine → Memo → Memo → Answer → Type 0 = gives_now (CallsGives leave_parts leave_plan) in
-    IfErr-weaker c.leave_by.result (λ s. HasStopped leave fits gives (calls_of leave_plan (leaving (who x))) p e n l s.cause s.corpse) (λ s. HasNotLeft p e n l s.cause s.corpse) (λ s. stop_told leave fits gives (calls_does leave_parts leave_plan) tells (calls_of leave_plan (leaving (who x))) p e n l s.cause s.corpse)
+    IfErr-weaker c.leave_by.result (λ s. HasStopped leave fits gives (calls_of leave_steered (leaving (who x))) p e n l s.cause s.corpse) (λ s. HasNotLeft p e n l s.cause s.corpse) (λ s. stop_told leave fits gives (calls_does leave_parts leave_plan) tells (calls_of leave_steered (leaving (who x))) p e n l s.cause s.corpse)
     (subst (λ (m : Machine). IfErr c.leave_by.result (λ s. HasStopped leave fits gives m p e n l s.cause s.corpse)) (state x) (c.leave_by.ensures.stopped alive))
 
 pub leave_by-requires-clause-machine : goal.leave_by-requires-clause-machine

@@ -1,6 +1,5 @@
 use Rattle.std.proofs.Common.{◌≡◌, false, sym, ap, ◌∙◌}
-use Rattle.shm_pool.specs.Tokens.{Acting, has_left}
-use Rattle.shm_pool.specs.Rules.{alone}
+use Rattle.shm_pool.specs.{Tokens.{Acting, has_left}, Rules.alone}
 use Rattle.shm_pool.proofs.Calling.{acts_here}
 use Rattle.shm_pool.proofs.token.Client.leave_by.Goals as goal
 

@@ -1,12 +1,9 @@
 use Rattle.std.proofs.Common.{◌≡◌, refl, sym, ap, ◌∙◌, subst}
 use Rattle.shm_graph.specs.declared.ask.Me.{Me}
 use Rattle.shm_calls.specs.Words.{word_control}
-use Rattle.shm_ref.specs.LatchTasks.{LookMay}
-use Rattle.shm_ref.specs.Look.{look_plan, looking}
-use Rattle.shm_ref.specs.declared.look.LookState.{LookState}
+use Rattle.shm_ref.specs.{LatchTasks.LookMay, Look.{look_plan, looking}, declared.look.LookState.LookState}
 use Rattle.shm_pool.specs.Tokens.{me_of}
-use Rattle.shm_pool.proofs.Named.{called_by, called_dead, reach_small}
-use Rattle.shm_pool.proofs.token.Client.look.Goals.{After-new}
+use Rattle.shm_pool.proofs.{Named.{called_by, called_dead, reach_small}, token.Client.look.Goals.After-new}
 use Rattle.shm_pool.proofs.token.Client.look.Goals as goal
 
 pub new-requires-clause-block : goal.new-requires-clause-block

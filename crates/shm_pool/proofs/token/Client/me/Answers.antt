@@ -1,6 +1,5 @@
 use Rattle.std.proofs.Common.{◌≡◌, ap, ◌∙◌}
-use Rattle.shm_pool.specs.Rules.{alone}
-use Rattle.shm_pool.specs.Tokens.{Acting, its, me_of}
+use Rattle.shm_pool.specs.{Rules.alone, Tokens.{Acting, its, me_of}}
 use Rattle.shm_pool.proofs.token.Client.me.Goals as goal
 
 pub returns-clause-is : goal.returns-clause-is

@@ -1,12 +1,9 @@
 use Rattle.std.proofs.Common.{◌≡◌, ◌<◌, refl, sym, ap, ◌∙◌, subst}
 use Rattle.shm_graph.specs.declared.ask.Me.{Me}
-use Rattle.shm_queue.specs.QueueTasks.{ReceiveMay}
-use Rattle.shm_queue.specs.Receive.Control.{receive_parts, receiving}
-use Rattle.shm_queue.specs.Receive.{receive_plan}
+use Rattle.shm_queue.specs.{QueueTasks.ReceiveMay, Receive.{Control.{receive_parts, receiving}, receive_plan}}
 use Rattle.shm_queue.specs.declared.receive.ReceiveState.{ReceiveState}
 use Rattle.shm_pool.specs.Tokens.{me_of}
-use Rattle.shm_pool.proofs.Named.{called_by, called_dead}
-use Rattle.shm_pool.proofs.token.Client.receive.Goals.{After-new}
+use Rattle.shm_pool.proofs.{Named.{called_by, called_dead}, token.Client.receive.Goals.After-new}
 use Rattle.shm_pool.proofs.token.Client.receive.Goals as goal
 
 pub new-requires-clause-from : goal.new-requires-clause-from

@@ -1,12 +1,10 @@
 use Rattle.std.proofs.Common.{◌≡◌, refl, sym, ap, ◌∙◌, subst}
 use Rattle.shm_graph.specs.declared.ask.Me.{Me}
 use Rattle.shm_calls.specs.Words.{word_control}
-use Rattle.shm_ref.specs.LatchTasks.{ReleaseMay}
-use Rattle.shm_ref.specs.Release.{release_plan, releasing}
+use Rattle.shm_ref.specs.{LatchTasks.ReleaseMay, Release.{release_plan, releasing}}
 use Rattle.shm_ref.specs.declared.release.ReleaseState.{ReleaseState}
 use Rattle.shm_pool.specs.Tokens.{me_of}
-use Rattle.shm_pool.proofs.Named.{called_by, called_dead}
-use Rattle.shm_pool.proofs.token.Client.release.Goals.{After-new}
+use Rattle.shm_pool.proofs.{Named.{called_by, called_dead}, token.Client.release.Goals.After-new}
 use Rattle.shm_pool.proofs.token.Client.release.Goals as goal
 
 -- the plan is one of the client's identity

@@ -1,11 +1,7 @@
 use Rattle.std.proofs.Common.{◌≡◌, true, false, sym, ap, ◌∙◌}
-use Rattle.shm_graph.specs.declared.ask.Life.{Life}
-use Rattle.shm_graph.specs.declared.ask.Me.{Me}
-use Rattle.shm_graph.specs.Operations.{IsReady}
+use Rattle.shm_graph.specs.{declared.ask.{Life.Life, Me.Me}, Operations.IsReady}
 use Rattle.shm_pool.specs.Replies.{IsLost}
-use Rattle.shm_pool.proofs.Calling.{live_here}
-use Rattle.shm_pool.proofs.Driving.{asked}
-use Rattle.shm_pool.proofs.Replied.{begun, ready, replied, rested, told}
+use Rattle.shm_pool.proofs.{Calling.live_here, Driving.asked, Replied.{begun, ready, replied, rested, told}}
 use Rattle.shm_pool.proofs.token.Client.run_on.Goals.{After-client}
 use Rattle.shm_pool.proofs.token.Client.run_on.Goals as goal
 

@@ -1,15 +1,14 @@
 use Rattle.std.proofs.Common.{sym, ap, ◌∙◌, refl, subst}
-use Rattle.shm_calls.specs.CallsControl.{calls_control, calls_does}
-use Rattle.shm_calls.specs.Tasks.{CallsLeave, CallsMay}
+use Rattle.shm_calls.specs.{CallsControl.{calls_control, calls_does}, Tasks.{CallsLeave, CallsMay}}
 use Rattle.shm_pool.specs.Doing.{HasDone}
 use Rattle.shm_pool.proofs.token.Client.run_plan.Goals as goal
 
 pub run-requires-clause-me : goal.run-requires-clause-me
-run-requires-clause-me g c = ap (λ x. g.P.Plan.plan.me x.plan) c.new.ensures ∙ c.requires.me
+run-requires-clause-me g c = ap (λ x. g.P.Plan.plan.steered.me x.plan) c.new.ensures ∙ c.requires.me
 
 pub run-requires-clause-may : goal.run-requires-clause-may
 run-requires-clause-may g c = λ alive. subst (λ x. CallsMay g.P.Plan.plan g.P.Task.may x c.args.self.now.account.memo) (sym c.new.ensures) (refl, c.requires.may alive)
 
 pub returns-clause-done : goal.returns-clause-done
 returns-clause-done g c =
-    subst (λ x. HasDone (calls_control g.P.Call.Machine.control g.P.Plan.plan) (calls_does g.P.Call.Machine.control g.P.Plan.plan) (CallsLeave g.P.Plan.plan) (λ m. g.P.Task.rests m.plan) x c.args.self.now c.run.new.self c.args.life.now.left c.run.new.life.left c.run.result) c.new.ensures c.run.ensures.done
+    subst (λ x. HasDone (calls_control g.P.Call.Machine.control g.P.Plan.plan.steered) (calls_does g.P.Call.Machine.control g.P.Plan.plan) (CallsLeave g.P.Plan.plan) (λ m. g.P.Task.rests m.plan) x c.args.self.now c.run.new.self c.args.life.now.left c.run.new.life.left c.run.result) c.new.ensures c.run.ensures.done

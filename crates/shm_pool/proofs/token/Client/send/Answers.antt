@@ -1,12 +1,9 @@
 use Rattle.std.proofs.Common.{◌≡◌, ◌<◌, refl, sym, ap, ◌∙◌, subst}
 use Rattle.shm_graph.specs.declared.ask.Me.{Me}
-use Rattle.shm_queue.specs.QueueTasks.{SendMay}
-use Rattle.shm_queue.specs.Send.Control.{send_parts, sending}
-use Rattle.shm_queue.specs.Send.{send_plan}
+use Rattle.shm_queue.specs.{QueueTasks.SendMay, Send.{Control.{send_parts, sending}, send_plan}}
 use Rattle.shm_queue.specs.declared.send.SendState.{SendState}
 use Rattle.shm_pool.specs.Tokens.{me_of}
-use Rattle.shm_pool.proofs.Named.{called_by, called_dead, reach_small}
-use Rattle.shm_pool.proofs.token.Client.send.Goals.{After-new}
+use Rattle.shm_pool.proofs.{Named.{called_by, called_dead, reach_small}, token.Client.send.Goals.After-new}
 use Rattle.shm_pool.proofs.token.Client.send.Goals as goal
 
 pub new-requires-clause-block : goal.new-requires-clause-block

@@ -1,12 +1,9 @@
 use Rattle.std.proofs.Common.{◌≡◌, refl, sym, ap, ◌∙◌, subst}
 use Rattle.shm_graph.specs.declared.ask.Me.{Me}
-use Rattle.shm_count.specs.ShareTask.{ShareMay}
-use Rattle.shm_count.specs.UpRoot.Control.{rooting, rooting_parts}
-use Rattle.shm_count.specs.UpRoot.{rooting_plan}
+use Rattle.shm_count.specs.{ShareTask.ShareMay, UpRoot.{Control.{rooting, rooting_parts}, rooting_plan}}
 use Rattle.shm_count.specs.declared.up_root.RootingState.{RootingState}
 use Rattle.shm_pool.specs.Tokens.{me_of}
-use Rattle.shm_pool.proofs.Named.{called_by, called_dead, reach_small}
-use Rattle.shm_pool.proofs.token.Client.share.Goals.{After-new}
+use Rattle.shm_pool.proofs.{Named.{called_by, called_dead, reach_small}, token.Client.share.Goals.After-new}
 use Rattle.shm_pool.proofs.token.Client.share.Goals as goal
 
 pub new-requires-clause-block : goal.new-requires-clause-block

@@ -1,12 +1,7 @@
-use Rattle.std.proofs.Common.{◌≡◌, true, false, cond, rules, refl, sym, ap, ◌∙◌, subst}
-use Rattle.std.proofs.lemmas.Bool.{true≢false}
-use Rattle.shm_graph.specs.declared.ask.Turn.TheVariants.{More, Done}
-use Rattle.shm_graph.specs.declared.run.Account.{Account}
-use Rattle.shm_graph.specs.Agents.{acts}
+use Rattle.std.proofs.{Common.{◌≡◌, true, false, cond, rules, refl, sym, ap, ◌∙◌, subst}, lemmas.Bool.true≢false}
+use Rattle.shm_graph.specs.{declared.{ask.Turn.TheVariants.{More, Done}, run.Account.Account}, Agents.acts}
 use Rattle.shm_graph.specs.Whole.{fits_now, gives_now}
-use Rattle.shm_pool.specs.Rules.{alone}
-use Rattle.shm_pool.specs.Tokens.{Acting, has_left}
-use Rattle.shm_pool.specs.Calls.{ClientStepped}
+use Rattle.shm_pool.specs.{Rules.alone, Tokens.{Acting, has_left}, Calls.ClientStepped}
 use Rattle.shm_pool.proofs.token.Client.step.Goals as goal
 
 pub invariant_of-self : goal.invariant_of-self

@@ -1,36 +1,20 @@
-use Rattle.std.proofs.Common.{◌≡◌, ◌<◌, refl, sym, ap, ◌∙◌, subst, true}
+use Rattle.std.proofs.{Common.{◌≡◌, ◌<◌, refl, sym, ap, ◌∙◌, subst, true}, lemmas.Result.{IfErr-weaker, IfOk-weaker}}
 use Rattle.std.specs.Prelude.{IfOk, IfErr}
-use Rattle.std.proofs.lemmas.Result.{IfErr-weaker, IfOk-weaker}
 use Rattle.shm_words.specs.Layout.{GeometryFits}
-use Rattle.shm_calls.specs.declared.calls.Calls.{Calls}
-use Rattle.shm_calls.specs.CallsControl.{calls_does, calls_of}
-use Rattle.shm_calls.specs.CallsFit.{CallsFits, CallsGives}
-use Rattle.shm_calls.specs.CallsKeep.{calls_begin, calls_tells}
-use Rattle.shm_graph.specs.declared.ask.Me.{Me}
-use Rattle.shm_graph.specs.declared.memo.Kind.TheVariants.{Recoverer}
-use Rattle.shm_graph.specs.declared.memo.Memo.{Memo}
-use Rattle.shm_graph.specs.declared.run.Account.{Account}
-use Rattle.shm_graph.specs.Agents.{recovers}
-use Rattle.shm_graph.specs.Asks.{Trail}
-use Rattle.shm_graph.specs.Runs.{account_died}
-use Rattle.shm_graph.specs.Tells.{Tells}
-use Rattle.shm_graph.specs.Whole.{fits_now, gives_now}
+use Rattle.shm_calls.specs.{declared.calls.Calls.Calls, CallsControl.{calls_does, calls_of}}
+use Rattle.shm_calls.specs.{CallsFit.{CallsFits, CallsGives}, CallsKeep.{calls_begin, calls_tells}}
+use Rattle.shm_graph.specs.declared.{ask.Me.Me, memo.{Kind.TheVariants.Recoverer, Memo.Memo}, run.Account.Account}
+use Rattle.shm_graph.specs.{Agents.recovers, Asks.Trail, Runs.account_died, Tells.Tells, Whole.{fits_now, gives_now}}
 use Rattle.shm_graph.proofs.Memos.MemoSteps.{recovers-entered}
 use Rattle.shm_ref.specs.DropRoots.Laws.{roots_laws}
-use Rattle.shm_recover.specs.declared.recover.RecoverState.{RecoverState}
-use Rattle.shm_recover.specs.FinishTakes.Laws.{finish_laws}
-use Rattle.shm_recover.specs.GiveUp.Laws.{give_laws}
-use Rattle.shm_recover.specs.Machines.Recovering.{recover}
-use Rattle.shm_recover.specs.Mend.Laws.{mend_laws}
-use Rattle.shm_recover.specs.Recover.Control.{RecoverAnswer, RecoverCall, recover_parts, recovering as recovery}
-use Rattle.shm_recover.specs.Recover.Laws.{recover_begin, recover_laws}
-use Rattle.shm_recover.specs.Recover.{recover_plan}
-use Rattle.shm_recover.specs.Scan.Laws.{scan_laws}
+use Rattle.shm_recover.specs.{declared.recover.RecoverState.RecoverState, FinishTakes.Laws.finish_laws}
+use Rattle.shm_recover.specs.{GiveUp.Laws.give_laws, Machines.Recovering.recover, Mend.Laws.mend_laws}
+use Rattle.shm_recover.specs.Recover.Control.{RecoverAnswer, RecoverCall, recover_parts, recovering as recovery, recover_steered}
+use Rattle.shm_recover.specs.{Recover.{Laws.{recover_begin, recover_laws}, recover_plan}, Scan.Laws.scan_laws}
 use Rattle.shm_recover.specs.TakeBack.Laws.{back_laws}
 use Rattle.shm_pool.specs.Endings.{Answer, HasEnded, HasNotRecovered, HasRecovered, HasStopped}
 use Rattle.shm_pool.specs.Tokens.{Its, begun_account, me_of, recovering}
-use Rattle.shm_pool.proofs.Told.{end_told, stop_told}
-use Rattle.shm_pool.proofs.token.Corpse.recover.Goals.{After-new-recover}
+use Rattle.shm_pool.proofs.{Told.{end_told, stop_told}, token.Corpse.recover.Goals.After-new-recover}
 use Rattle.shm_pool.proofs.token.Corpse.recover.Goals as goal
 
 abbrev Machine : Type 0
@@ -43,10 +27,10 @@ sizes : (c : After-new-recover) → c.geometry.result ≡ c.args.self.of.start.g
 sizes c = c.geometry.ensures.is ∙ sym (ap (λ (n : Its). n.start.geometry) c.requires.pool)
 
 -- the machine is the recovery of the corpse's identity
-state : (c : After-new-recover) → c.new-recover.result ≡ calls_of recover_plan (recovery (who c))
+state : (c : After-new-recover) → c.new-recover.result ≡ calls_of recover_steered (recovery (who c))
 state c =
     let me : c.new-me.result ≡ who c = (λ j. record { geometry = (c.new-me.ensures.geometry ∙ sizes c) j; who = (c.new-me.ensures.who ∙ c.client.ensures.is) j }) in
-    c.new-recover.ensures ∙ ap (λ (x : RecoverState). calls_of recover_plan x) (c.new.ensures.state ∙ ap (λ (x : Me). recovery x) me)
+    c.new-recover.ensures ∙ ap (λ (x : RecoverState). calls_of recover_steered x) (c.new.ensures.state ∙ ap (λ (x : Me). recovery x) me)
 
 pub recover_by-requires-clause-fits : goal.recover_by-requires-clause-fits
 recover_by-requires-clause-fits c =
@@ -70,7 +54,7 @@ returns-clause-recovered c =
     let l = c.recover_by.new.life.left in
     let fits : Machine → Memo → Memo → Trail → Type 0 = CallsFits recover_parts recover_plan in
     let gives : Machine → Memo → Memo → Answer → Type 0 = gives_now (CallsGives recover_parts recover_plan) in
-    IfOk-weaker c.recover_by.result (HasEnded recover fits gives (calls_of recover_plan (recovery (who x))) p e n l) (HasRecovered p c.args.self.account n l) (end_told recover fits gives (calls_does recover_parts recover_plan) tells (calls_of recover_plan (recovery (who x))) p e n l)
+    IfOk-weaker c.recover_by.result (HasEnded recover fits gives (calls_of recover_steered (recovery (who x))) p e n l) (HasRecovered p c.args.self.account n l) (end_told recover fits gives (calls_does recover_parts recover_plan) tells (calls_of recover_steered (recovery (who x))) p e n l)
     (subst (λ (m : Machine). IfOk c.recover_by.result (HasEnded recover fits gives m p e n l)) (state x) c.recover_by.ensures.ended)
 
 pub returns-clause-stopped : goal.returns-clause-stopped
@@ -82,5 +66,5 @@ returns-clause-stopped c = λ some.
     let l = c.recover_by.new.life.left in
     let fits : Machine → Memo → Memo → Trail → Type 0 = CallsFits recover_parts recover_plan in
     let gives : Machine → Memo → Memo → Answer → Type 0 = gives_now (CallsGives recover_parts recover_plan) in
-    IfErr-weaker c.recover_by.result (λ s. HasStopped recover fits gives (calls_of recover_plan (recovery (who x))) p e n l s.cause s.corpse) (λ s. HasNotRecovered p c.args.self.account n l s.cause s.corpse) (λ s. stop_told recover fits gives (calls_does recover_parts recover_plan) tells (calls_of recover_plan (recovery (who x))) p e n l s.cause s.corpse)
+    IfErr-weaker c.recover_by.result (λ s. HasStopped recover fits gives (calls_of recover_steered (recovery (who x))) p e n l s.cause s.corpse) (λ s. HasNotRecovered p c.args.self.account n l s.cause s.corpse) (λ s. stop_told recover fits gives (calls_does recover_parts recover_plan) tells (calls_of recover_steered (recovery (who x))) p e n l s.cause s.corpse)
     (subst (λ (m : Machine). IfErr c.recover_by.result (λ s. HasStopped recover fits gives m p e n l s.cause s.corpse)) (state x) (c.recover_by.ensures.stopped some))

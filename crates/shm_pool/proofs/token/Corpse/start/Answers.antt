@@ -1,29 +1,15 @@
 use Rattle.std.proofs.Common.{◌≡◌, ◌<◌, ℕ, refl, sym, ap, ◌∙◌, subst, true, true≢false}
-use Rattle.shm_calls.specs.CallsControl.{calls_of}
-use Rattle.shm_calls.specs.CallsFit.{CallsFits}
-use Rattle.shm_calls.specs.CallsKeep.{calls_begin}
-use Rattle.shm_graph.specs.declared.ask.Me.{Me}
-use Rattle.shm_graph.specs.declared.memo.Kind.TheVariants.{Recoverer}
-use Rattle.shm_graph.specs.declared.memo.Memo.{Memo}
-use Rattle.shm_graph.specs.declared.run.Account.{Account}
-use Rattle.shm_graph.specs.Agents.{recovers}
-use Rattle.shm_graph.specs.Runs.{account_died}
-use Rattle.shm_graph.specs.Whole.{fits_now}
+use Rattle.shm_calls.specs.{CallsControl.calls_of, CallsFit.CallsFits, CallsKeep.calls_begin}
+use Rattle.shm_graph.specs.declared.{ask.Me.Me, memo.{Kind.TheVariants.Recoverer, Memo.Memo}, run.Account.Account}
+use Rattle.shm_graph.specs.{Agents.recovers, Runs.account_died, Whole.fits_now}
 use Rattle.shm_graph.proofs.Memos.MemoSteps.{recovers-entered}
 use Rattle.shm_ref.specs.DropRoots.Laws.{roots_laws}
-use Rattle.shm_recover.specs.declared.recover.RecoverState.{RecoverState}
-use Rattle.shm_recover.specs.FinishTakes.Laws.{finish_laws}
-use Rattle.shm_recover.specs.GiveUp.Laws.{give_laws}
-use Rattle.shm_recover.specs.Machines.Recovering.{recover}
-use Rattle.shm_recover.specs.Mend.Laws.{mend_laws}
-use Rattle.shm_recover.specs.Recover.Control.{recover_parts, recovering as recovery}
-use Rattle.shm_recover.specs.Recover.Laws.{recover_begin, recover_laws}
-use Rattle.shm_recover.specs.Recover.{recover_plan}
-use Rattle.shm_recover.specs.Scan.Laws.{scan_laws}
+use Rattle.shm_recover.specs.{declared.recover.RecoverState.RecoverState, FinishTakes.Laws.finish_laws}
+use Rattle.shm_recover.specs.{GiveUp.Laws.give_laws, Machines.Recovering.recover, Mend.Laws.mend_laws}
+use Rattle.shm_recover.specs.Recover.Control.{recover_parts, recovering as recovery, recover_steered}
+use Rattle.shm_recover.specs.{Recover.{Laws.{recover_begin, recover_laws}, recover_plan}, Scan.Laws.scan_laws}
 use Rattle.shm_recover.specs.TakeBack.Laws.{back_laws}
-use Rattle.shm_pool.specs.Rescues.{RecoverMachine}
-use Rattle.shm_pool.specs.Rules.{alone}
-use Rattle.shm_pool.specs.Tokens.{Token, begun_account, its, me_of, recovering}
+use Rattle.shm_pool.specs.{Rescues.RecoverMachine, Rules.alone, Tokens.{Token, begun_account, its, me_of, recovering}}
 use Rattle.shm_pool.proofs.token.Corpse.start.Goals.{After-new-machine}
 use Rattle.shm_pool.proofs.token.Corpse.start.Goals as goal
 
@@ -32,10 +18,10 @@ abbrev who : (c : After-new-machine) → Me
 who c = me_of (its c.self.inside.place.table_id c.self.inside.start) (alone c.self.inside.place)
 
 -- the machine is the recovery of it
-state : (c : After-new-machine) → c.new-machine.result ≡ calls_of recover_plan (recovery (who c))
+state : (c : After-new-machine) → c.new-machine.result ≡ calls_of recover_steered (recovery (who c))
 state c =
     let me : c.new-me.result ≡ who c = (λ j. record { geometry = c.new-me.ensures.geometry j; who = (c.new-me.ensures.who ∙ c.self.invariant.0.who) j }) in
-    c.new-machine.ensures ∙ ap (λ (x : RecoverState). calls_of recover_plan x) (c.new.ensures.state ∙ ap (λ (x : Me). recovery x) me)
+    c.new-machine.ensures ∙ ap (λ (x : RecoverState). calls_of recover_steered x) (c.new.ensures.state ∙ ap (λ (x : Me). recovery x) me)
 
 fitting : (c : After-new-machine) → let r = (recovering (alone c.self.inside.place)).memo in fits_now recover (CallsFits recover_parts recover_plan) c.new-machine.result r r
 fitting c =
@@ -63,7 +49,7 @@ invariant_of-result c =
 pub returns-clause-machine : goal.returns-clause-machine
 returns-clause-machine c =
     let x = (goal.at.returns-clause-machine c).After-new-machine in
-    state x ∙ ap (λ (t : Token). calls_of recover_plan (recovery (me_of t.of t.account))) c.self.view_is
+    state x ∙ ap (λ (t : Token). calls_of recover_steered (recovery (me_of t.of t.account))) c.self.view_is
 
 pub returns-clause-fits : goal.returns-clause-fits
 returns-clause-fits c =

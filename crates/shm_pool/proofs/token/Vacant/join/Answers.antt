@@ -1,22 +1,13 @@
 use Rattle.std.proofs.Common.{refl, ◌≡◌, ℕ, ◌<◌, Bool, true, false, cond, rules, sym, ap, ◌∙◌, subst, []}
-use Rattle.shm_graph.specs.declared.ask.Me.{Me}
-use Rattle.shm_graph.specs.declared.memo.Kind.TheVariants.{Client}
-use Rattle.shm_graph.specs.declared.memo.Memo.{Memo}
-use Rattle.shm_graph.specs.declared.run.Account.{Account}
-use Rattle.shm_graph.specs.declared.run.Start.{Start}
-use Rattle.shm_graph.specs.Agents.{acts, is_gone, recovers}
-use Rattle.shm_graph.specs.Asks.{call_before}
+use Rattle.shm_graph.specs.declared.{ask.Me.Me, memo.{Kind.TheVariants.Client, Memo.Memo}, run.Account.Account}
+use Rattle.shm_graph.specs.{declared.run.Start.Start, Agents.{acts, is_gone, recovers}, Asks.call_before}
 use Rattle.shm_graph.specs.Runs.{account_entered}
 use Rattle.shm_graph.proofs.Memos.MemoSteps.{acts-entered, recovers-entered}
 use Rattle.shm_recover.specs.declared.join.JoinState.{JoinState}
 use Rattle.shm_recover.specs.Join.{IsMember, JoinFits, JoinGives, is_over, is_start, join_control, join_fresh}
-use Rattle.shm_recover.specs.Join.Keeps.{join_begins}
-use Rattle.shm_recover.specs.Leave.{MayLeave}
-use Rattle.shm_pool.specs.Rules.{alone}
-use Rattle.shm_pool.specs.Calls.{Calls, shown}
-use Rattle.shm_pool.proofs.Calling.{acts_stay, live_here}
-use Rattle.shm_pool.proofs.Joining.{joined_may_leave}
-use Rattle.shm_pool.specs.Tokens.{Its, Token, has_left, its, me_of}
+use Rattle.shm_recover.specs.{Join.Keeps.join_begins, Leave.MayLeave}
+use Rattle.shm_pool.specs.{Rules.alone, Calls.{Calls, shown}, Tokens.{Its, Token, has_left, its, me_of}}
+use Rattle.shm_pool.proofs.{Calling.{acts_stay, live_here}, Joining.joined_may_leave}
 use Rattle.shm_pool.proofs.token.Vacant.join.Goals.{After-top-2}
 use Rattle.shm_pool.proofs.token.Vacant.join.Goals as goal
 

@@ -1,8 +1,7 @@
-use Rattle.std.proofs.Common.{sym, subst, ◌<◌}
-use Rattle.std.proofs.lemmas.Bool.{and_from, lt-ltb}
+use Rattle.std.proofs.{Common.{sym, subst, ◌<◌}, lemmas.Bool.{and_from, lt-ltb}}
+use Rattle.shm_words.specs.Layout.{address_limit}
 use Rattle.shm_words.specs.declared.place.Place.TheVariants as place
 use Rattle.shm_words.proofs.Placing.{address_small}
-use Rattle.shm_words.specs.Layout.{address_limit}
 use Rattle.shm_ref.proofs.root_steps.ChangeRootPlan.call.Goals as goal
 
 pub new-requires-clause-slot : goal.new-requires-clause-slot

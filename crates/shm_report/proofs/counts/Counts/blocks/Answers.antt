@@ -1,5 +1,4 @@
-use Rattle.std.proofs.Common.{◌≡◌, ◌+◌, ◌-◌, ◌%◌, refl, ap, ◌∙◌, arith}
-use Rattle.std.proofs.Math.Nat.{add-mod_right}
+use Rattle.std.proofs.{Common.{◌≡◌, ◌+◌, ◌-◌, ◌%◌, refl, ap, ◌∙◌, arith}, Math.Nat.add-mod_right}
 use Rattle.shm_report.proofs.Counting.{page_block, page_end}
 use Rattle.shm_report.proofs.counts.Counts.blocks.Goals as goal
 

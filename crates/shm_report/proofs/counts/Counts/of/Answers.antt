@@ -1,8 +1,6 @@
 use Rattle.std.proofs.Common.{◌≡◌, ◌+◌, ◌*◌, cond, eqb, sym, ap, ◌∙◌, arith}
-use Rattle.shm_words.specs.Headers.{header_of}
-use Rattle.shm_words.specs.Layout.{bodies, total_of}
-use Rattle.shm_graph.specs.declared.spot.Spot.TheVariants.{Head}
-use Rattle.shm_graph.specs.Spots.{see, spot_at}
+use Rattle.shm_words.specs.{Headers.header_of, Layout.{bodies, total_of}}
+use Rattle.shm_graph.specs.{declared.spot.Spot.TheVariants.Head, Spots.{see, spot_at}}
 use Rattle.shm_graph.specs.References.{one_if, sum_below, references, live_count, references_in_all}
 use Rattle.shm_graph.proofs.Spots.Seeing.{classes-see}
 use Rattle.shm_report.specs.Counts.{names_one}

@@ -1,7 +1,5 @@
 use Rattle.std.proofs.Common.{◌≡◌, [], drop}
-use Rattle.shm_report.specs.Report.{named_from}
-use Rattle.shm_report.specs.TableRows.{rows_seen}
-use Rattle.shm_report.specs.ValueNames.{IsNumbered}
+use Rattle.shm_report.specs.{Report.named_from, TableRows.rows_seen, ValueNames.IsNumbered}
 use Rattle.shm_report.proofs.value_names.ValueNames.of_rows.Given as goal
 
 abbrev pub invariant-loop-row : goal.invariant-loop-row

@@ -1,6 +1,5 @@
 use Rattle.std.proofs.Common.{◌≡◌, ◌+◌, ◌≤◌, length}
-use Rattle.std.specs.Prelude.{◌==◌}
-use Rattle.std.specs.List.{slice_split}
+use Rattle.std.specs.{Prelude.◌==◌, List.slice_split}
 use Rattle.shm_script.specs.Drafts.{reading}
 use Rattle.shm_script.proofs.parsing.Draft.take_commands.Given as goal
 

@@ -1,6 +1,5 @@
 use Rattle.std.proofs.Common.{◌≡◌, subst}
-use Rattle.shm_table.specs.RecvKey.Control.{RecvCalls}
-use Rattle.shm_table.specs.Machines.Recv.{recv_control}
+use Rattle.shm_table.specs.{RecvKey.Control.RecvCalls, Machines.Recv.recv_control}
 use Rattle.shm_table.proofs.recv.RecvKeyMachine.take.Goals as goal
 
 pub returns-clause-machine : goal.returns-clause-machine

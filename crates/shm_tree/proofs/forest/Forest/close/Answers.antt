@@ -1,14 +1,9 @@
 use Rattle.std.proofs.Common.{◌≡◌, ℕ, ◌≤◌, ◌^◌, ◌++◌, false, List, sym, subst, Result, Ok, Err}
 use Rattle.std.specs.Prelude.{IfErr, IfOk}
-use Rattle.shm_graph.specs.declared.run.Move.{Move}
-use Rattle.shm_graph.specs.Agents.{steps_made}
-use Rattle.shm_plain.specs.Closings.{IsClosedRun}
-use Rattle.shm_plain.specs.Pools.{Pool, memo_of}
+use Rattle.shm_graph.specs.{declared.run.Move.Move, Agents.steps_made}
+use Rattle.shm_plain.specs.{Closings.IsClosedRun, Pools.{Pool, memo_of}}
 use Rattle.shm_count.specs.declared.answer.EraSpent.{EraSpent}
-use Rattle.shm_tree.specs.Ending.{HasEnded}
-use Rattle.shm_tree.specs.Falling.{AreFalling}
-use Rattle.shm_tree.specs.ForestCalls.{IsClosedForest}
-use Rattle.shm_tree.specs.Forests.{Forested}
+use Rattle.shm_tree.specs.{Ending.HasEnded, Falling.AreFalling, ForestCalls.IsClosedForest, Forests.Forested}
 use Rattle.shm_tree.specs.Keeping.{is_live}
 use Rattle.shm_tree.proofs.forest.Forest.close.Goals as goal
 

@@ -1,13 +1,7 @@
 use Rattle.std.proofs.Common.{◌≡◌, ℕ, ◌+◌, lit≤, sym, true, false, true≢false, refl, ap, subst, []}
-use Rattle.shm_graph.specs.declared.memo.Kind.TheVariants.{Client}
-use Rattle.shm_graph.specs.declared.run.Start.{Start}
-use Rattle.shm_graph.specs.declared.spot.Spot.TheVariants.{Root}
-use Rattle.shm_graph.specs.Agents.{entered, recovers}
-use Rattle.shm_graph.specs.Held.{is_loose}
-use Rattle.shm_graph.specs.Runs.{EraFits, first_memo}
-use Rattle.shm_graph.specs.Views.{own_word}
-use Rattle.shm_plain.specs.Calls.{Did, IsAtWork, Ran}
-use Rattle.shm_plain.specs.Pools.{IsRun, Pool, first_pool, memo_of}
+use Rattle.shm_graph.specs.declared.{memo.Kind.TheVariants.Client, run.Start.Start, spot.Spot.TheVariants.Root}
+use Rattle.shm_graph.specs.{Agents.{entered, recovers}, Held.is_loose, Runs.{EraFits, first_memo}, Views.own_word}
+use Rattle.shm_plain.specs.{Calls.{Did, IsAtWork, Ran}, Pools.{IsRun, Pool, first_pool, memo_of}}
 use Rattle.shm_recover.specs.Join.{JoinGives, join_fresh}
 use Rattle.shm_tree.proofs.Beginning.{joined_dead, joined_falling}
 use Rattle.shm_tree.proofs.Opening.{first_step, opened_forest, opened_versions, some_is, start_is}

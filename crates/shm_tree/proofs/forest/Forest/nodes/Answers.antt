@@ -1,6 +1,5 @@
 use Rattle.std.proofs.Common.{ap, ◌∙◌}
-use Rattle.shm_graph.specs.References.{live_count}
-use Rattle.shm_graph.specs.Spots.{see}
+use Rattle.shm_graph.specs.{References.live_count, Spots.see}
 use Rattle.shm_tree.specs.Forests.{Forested}
 use Rattle.shm_tree.proofs.forest.Forest.nodes.Goals as goal
 

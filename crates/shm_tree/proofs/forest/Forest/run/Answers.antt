@@ -1,9 +1,7 @@
 use Rattle.std.proofs.Common.{◌∙◌, ap, sym, subst}
 use Rattle.shm_graph.specs.declared.run.Start.{Start}
-use Rattle.shm_tree.specs.ForestCalls.{RanLine}
-use Rattle.shm_tree.specs.Forests.{Forested, is_died}
-use Rattle.shm_tree.proofs.Falls.{still_falling}
-use Rattle.shm_tree.proofs.Outcomes.{outcome_forest, outcome_lost, outcome_ran, outcome_swept}
+use Rattle.shm_tree.specs.{ForestCalls.RanLine, Forests.{Forested, is_died}}
+use Rattle.shm_tree.proofs.{Falls.still_falling, Outcomes.{outcome_forest, outcome_lost, outcome_ran, outcome_swept}}
 use Rattle.shm_tree.proofs.forest.Forest.run.Goals as goal
 
 pub invariant_of-self : goal.invariant_of-self

@@ -1,6 +1,5 @@
 use Rattle.std.proofs.Common.{◌≡◌, refl, ap, subst, ◌∙◌, List, false}
-use Rattle.shm_tree.specs.declared.registers.Registers.{Registers}
-use Rattle.shm_tree.specs.Forests.{Forested, HasVersions, version}
+use Rattle.shm_tree.specs.{declared.registers.Registers.Registers, Forests.{Forested, HasVersions, version}}
 use Rattle.shm_tree.specs.Trees.{Tree, size}
 use Rattle.shm_tree.proofs.Sizes.{register_search, register_sized}
 use Rattle.shm_tree.proofs.forest.Forest.size.Goals as goal

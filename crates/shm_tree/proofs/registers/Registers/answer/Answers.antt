@@ -1,13 +1,9 @@
 use Rattle.std.proofs.Common.{ℕ, Bool, sym, subst, true≢false}
 use Rattle.std.specs.Prelude.{Option}
-use Rattle.shm_tree.specs.declared.line.TreeLine.{TreeLine}
+use Rattle.shm_tree.specs.{declared.line.TreeLine.TreeLine, Costing.{CostsLine, FewSet, StopsLine}}
+use Rattle.shm_tree.specs.{CutShort.{DiesHalfDone, IsWordless}, Forests.IsInRange, Working.IfRefused}
 use Rattle.shm_tree.specs.declared.line.TreeLine.TheVariants as lines
-use Rattle.shm_tree.specs.Costing.{CostsLine, FewSet, StopsLine}
-use Rattle.shm_tree.specs.CutShort.{DiesHalfDone, IsWordless}
-use Rattle.shm_tree.specs.Forests.{IsInRange}
-use Rattle.shm_tree.specs.Working.{IfRefused}
-use Rattle.shm_tree.proofs.CutShort.{empty_root, off_from}
-use Rattle.shm_tree.proofs.Moving.{moves_from, moves_to}
+use Rattle.shm_tree.proofs.{CutShort.{empty_root, off_from}, Moving.{moves_from, moves_to}}
 use Rattle.shm_tree.proofs.Refusals.{handed, handed_over}
 use Rattle.shm_tree.proofs.registers.Registers.answer.Goals as goal
 

@@ -1,8 +1,7 @@
 use Rattle.std.proofs.Common.{refl}
-use Rattle.shm_tree.specs.declared.line.TreeLine.TheVariants as lines
 use Rattle.shm_tree.specs.Trees.{Empty}
-use Rattle.shm_tree.proofs.CutShort.{first_off}
-use Rattle.shm_tree.proofs.Moving.{nothing_spare, nothing_tree, put_done}
+use Rattle.shm_tree.specs.declared.line.TreeLine.TheVariants as lines
+use Rattle.shm_tree.proofs.{CutShort.first_off, Moving.{nothing_spare, nothing_tree, put_done}}
 use Rattle.shm_tree.proofs.registers.Registers.clear.Goals as goal
 
 pub replace-requires : goal.replace-requires

@@ -2,13 +2,10 @@ use Rattle.std.proofs.Common.{◌≡◌, ◌∙◌, true, false, ◌+◌, ◌<�
 use Rattle.std.specs.Prelude.{slice_index}
 use Rattle.shm_count.specs.declared.answer.Made.{Made}
 use Rattle.shm_words.specs.declared.geometry.Geometry.{Geometry}
-use Rattle.shm_tree.specs.Bounds.{drop_steps}
-use Rattle.shm_tree.specs.Costing.{copied_steps, copy_steps, sweep_steps}
-use Rattle.shm_tree.specs.Forests.{block_in, version}
-use Rattle.shm_tree.specs.Standing.{IsTree}
-use Rattle.shm_tree.proofs.Building.{ok_any, went_on}
-use Rattle.shm_tree.proofs.Costing.{cleared_costs, copy_costs}
+use Rattle.shm_tree.specs.{Bounds.drop_steps, Costing.{copied_steps, copy_steps, sweep_steps}}
+use Rattle.shm_tree.specs.{Forests.{block_in, version}, Standing.IsTree}
 use Rattle.shm_tree.specs.declared.line.TreeLine.TheVariants as lines
+use Rattle.shm_tree.proofs.{Building.{ok_any, went_on}, Costing.{cleared_costs, copy_costs}}
 use Rattle.shm_tree.proofs.CutShort.{first_off, off_from, root_same, share_off, spare_off}
 use Rattle.shm_tree.proofs.Forests.{registers_named, registers_then, registers_versions, calls_kept, untold}
 use Rattle.shm_tree.proofs.Moving.{made_alone, made_forest, made_kept, made_spare, made_tree, made_versions, moves_after, moves_from, moves_stop, nothing_spare, nothing_tree, put_done, copied_tree}

@@ -1,25 +1,19 @@
-use Rattle.std.proofs.Common.{rules, ◌≡◌, ℕ, true, false, sym, subst, Err, true≢false}
+use Rattle.std.proofs.Common.{rules, ◌≡◌, ℕ, true, false, sym, subst, Err, true≢false, List, ◌+◌, ◌*◌}
 use Rattle.std.specs.Prelude.{Option, Some, None}
-use Rattle.shm_tree.specs.declared.remove.Removed.{Removed}
-use Rattle.shm_tree.specs.Forests.{IsAbsent, IsCleared, IsLopped, IsPruned, KeepsRegisters, root_at, version}
-use Rattle.shm_tree.specs.Working.{Went}
-use Rattle.shm_tree.proofs.Building.{went_on}
-use Rattle.std.proofs.Common.{List, ◌+◌, ◌*◌}
-use Rattle.shm_words.specs.declared.geometry.Geometry.{Geometry}
-use Rattle.shm_tree.specs.Bounds.{drop_steps}
-use Rattle.shm_tree.specs.declared.registers.Registers.{Registers}
-use Rattle.shm_tree.specs.declared.line.TreeLine.TheVariants as lines
+use Rattle.shm_tree.specs.declared.{remove.Removed.Removed, registers.Registers.Registers}
+use Rattle.shm_tree.specs.Forests.{IsAbsent, IsCleared, IsLopped, IsPruned, KeepsRegisters, root_at, version, HasVersions}
+use Rattle.shm_tree.specs.{Working.Went, Bounds.drop_steps}
 use Rattle.shm_tree.specs.Costing.{Costs, Spends, StopsLine, del_steps, pruned_steps, sweep_steps}
-use Rattle.shm_tree.specs.Forests.{HasVersions}
 use Rattle.shm_tree.specs.Trees.{Tree, height, removed}
-use Rattle.shm_tree.proofs.Costing.{part_costs, put_costs, unput_costs}
+use Rattle.shm_tree.specs.declared.line.TreeLine.TheVariants as lines
+use Rattle.shm_tree.proofs.{Building.went_on, Costing.{part_costs, put_costs, unput_costs}}
 use Rattle.shm_tree.proofs.CutShort.{off_from, same_off, spare_off, under_off}
 use Rattle.shm_tree.proofs.Forests.{calls_kept, registers_named, registers_then, registers_versions, untold}
 use Rattle.shm_tree.proofs.Moving.{calls_ok, deleted_all, deleted_some, made_alone, made_forest, made_kept, made_spare, made_tree, moves_after, moves_done, moves_from, moves_stop, moves_to, same_forest, same_kept, same_versions}
 use Rattle.shm_tree.proofs.Refusals.{added_none, all_of, first_of, first_of_three, handed, none_added, none_least, spends_more, spends_of, spends_then}
-use Rattle.shm_tree.proofs.Spares.{rooms_tidy}
-use Rattle.shm_tree.proofs.registers.Registers.del.Goals.{In_ok-pruned, In-Some-None, In-Some-Some}
+use Rattle.shm_tree.proofs.{Spares.rooms_tidy, registers.Registers.del.Goals.{In_ok-pruned, In-Some-None, In-Some-Some}}
 use Rattle.shm_tree.proofs.registers.Registers.del.Goals as goal
+use Rattle.shm_words.specs.declared.geometry.Geometry.{Geometry}
 
 pub pruned-requires : goal.pruned-requires
 pruned-requires c =

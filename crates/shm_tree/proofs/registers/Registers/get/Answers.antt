@@ -1,8 +1,7 @@
 use Rattle.std.proofs.Common.{refl}
-use Rattle.shm_tree.specs.declared.line.TreeLine.TheVariants as lines
-use Rattle.shm_tree.proofs.CutShort.{read_ended, read_off}
 use Rattle.shm_tree.specs.Forests.{version}
-use Rattle.shm_tree.proofs.Costing.{got_costs}
+use Rattle.shm_tree.specs.declared.line.TreeLine.TheVariants as lines
+use Rattle.shm_tree.proofs.{CutShort.{read_ended, read_off}, Costing.got_costs}
 use Rattle.shm_tree.proofs.Moving.{got_versions, read_died, read_moves}
 use Rattle.shm_tree.proofs.registers.Registers.get.Goals as goal
 

@@ -1,9 +1,6 @@
 use Rattle.std.proofs.Common.{◌≡◌, ◌∙◌, refl, true, inl, inr}
-use Rattle.shm_tree.specs.declared.stop.Stop.{Stop}
-use Rattle.shm_tree.specs.Working.{DiedBegun}
-use Rattle.shm_tree.proofs.CutShort.{handed_err}
-use Rattle.shm_tree.proofs.Forests.{told, told_versions}
-use Rattle.shm_tree.proofs.Moving.{moves_done, moves_from}
+use Rattle.shm_tree.specs.{declared.stop.Stop.Stop, Working.DiedBegun}
+use Rattle.shm_tree.proofs.{CutShort.handed_err, Forests.{told, told_versions}, Moving.{moves_done, moves_from}}
 use Rattle.shm_tree.proofs.Refusals.{handed}
 use Rattle.shm_tree.proofs.registers.Registers.put.Goals as goal
 

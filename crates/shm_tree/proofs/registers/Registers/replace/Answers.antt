@@ -1,6 +1,5 @@
 use Rattle.std.proofs.Common.{◌≡◌, ◌∙◌, refl, sym, true≢false}
-use Rattle.shm_tree.specs.declared.stop.Stop.{Stop}
-use Rattle.shm_tree.specs.Working.{DiedBegun}
+use Rattle.shm_tree.specs.{declared.stop.Stop.Stop, Working.DiedBegun}
 use Rattle.shm_tree.proofs.CutShort.{handed_err}
 use Rattle.shm_tree.proofs.Moving.{moves_done, moves_from, moves_still, replaced_forest, replaced_left, replaced_put}
 use Rattle.shm_tree.proofs.Refusals.{handed}

@@ -1,9 +1,6 @@
 use Rattle.std.proofs.Common.{◌+◌, ◌∙◌, sym, inl, inr, true≢false}
-use Rattle.shm_tree.specs.declared.line.TreeAnswer.{TreeAnswer}
-use Rattle.shm_tree.specs.Costing.{call_steps, made_most, sweep_steps}
-use Rattle.shm_tree.proofs.Answering.{alive_died, refused_died}
-use Rattle.shm_tree.proofs.Eras.{spent_stays}
-use Rattle.shm_tree.proofs.Forests.{stopped_on}
+use Rattle.shm_tree.specs.{declared.line.TreeAnswer.TreeAnswer, Costing.{call_steps, made_most, sweep_steps}}
+use Rattle.shm_tree.proofs.{Answering.{alive_died, refused_died}, Eras.spent_stays, Forests.stopped_on}
 use Rattle.shm_tree.proofs.Moving.{alive_is, alive_when, is_over_is, is_over_not, refused_is, refused_when, undone_moves}
 use Rattle.shm_tree.proofs.Refusals.{added_none, all_of, spends_more, spends_then}
 use Rattle.shm_tree.proofs.registers.Registers.run.Goals as goal

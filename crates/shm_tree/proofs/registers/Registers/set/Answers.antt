@@ -1,22 +1,16 @@
-use Rattle.std.proofs.Common.{false, sym, true≢false}
+use Rattle.std.proofs.Common.{false, sym, true≢false, List, ◌+◌}
 use Rattle.shm_count.specs.declared.answer.Made.{Made}
-use Rattle.shm_tree.specs.Forests.{version}
-use Rattle.shm_tree.specs.Trees.{inserted}
-use Rattle.shm_tree.proofs.Building.{went_on}
-use Rattle.std.proofs.Common.{List, ◌+◌}
-use Rattle.shm_words.specs.declared.geometry.Geometry.{Geometry}
-use Rattle.shm_tree.specs.Trees.{Tree, height}
-use Rattle.shm_tree.specs.Bounds.{drop_steps}
+use Rattle.shm_tree.specs.{Forests.version, Trees.{inserted, Tree, height}, Bounds.drop_steps}
+use Rattle.shm_tree.specs.{declared.registers.Registers.Registers, Costing.{StopsLine, planted_steps, sweep_steps}}
 use Rattle.shm_tree.specs.declared.line.TreeLine.TheVariants as lines
-use Rattle.shm_tree.specs.declared.registers.Registers.{Registers}
-use Rattle.shm_tree.specs.Costing.{StopsLine, planted_steps, sweep_steps}
-use Rattle.shm_tree.proofs.Costing.{part_costs, set_costs, set_few}
+use Rattle.shm_tree.proofs.{Building.went_on, Costing.{part_costs, set_costs, set_few}}
 use Rattle.shm_tree.proofs.CutShort.{off_from, spare_off, under_off}
 use Rattle.shm_tree.proofs.Forests.{registers_named, registers_then, registers_versions, calls_kept, untold}
 use Rattle.shm_tree.proofs.Moving.{made_alone, made_forest, made_kept, made_spare, made_tree, made_versions, moves_after, moves_from, moves_stop, put_done}
 use Rattle.shm_tree.proofs.Refusals.{added_none, all_of, first_of, first_of_three, handed, none_added, none_least, refused_kept, spends_more, spends_of, spends_then}
 use Rattle.shm_tree.proofs.Spares.{rooms_tidy}
 use Rattle.shm_tree.proofs.registers.Registers.set.Goals as goal
+use Rattle.shm_words.specs.declared.geometry.Geometry.{Geometry}
 
 pub planted-requires : goal.planted-requires
 planted-requires c =

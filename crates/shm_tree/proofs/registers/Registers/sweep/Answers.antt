@@ -1,9 +1,6 @@
 use Rattle.std.proofs.Common.{◌∙◌, sym, refl, true, true≢false}
-use Rattle.shm_tree.proofs.Building.{looked_none}
-use Rattle.shm_tree.proofs.Costing.{costs_none}
-use Rattle.shm_tree.proofs.Forests.{forest_over, registers_over}
-use Rattle.shm_tree.proofs.Moving.{moves_done, moves_from, moves_stop}
-use Rattle.shm_tree.proofs.Refusals.{handed}
+use Rattle.shm_tree.proofs.{Building.looked_none, Costing.costs_none, Forests.{forest_over, registers_over}}
+use Rattle.shm_tree.proofs.{Moving.{moves_done, moves_from, moves_stop}, Refusals.handed}
 use Rattle.shm_tree.proofs.registers.Registers.sweep.Goals as goal
 
 pub returns-in_err-swept-clause-moves : goal.returns-in_err-swept-clause-moves

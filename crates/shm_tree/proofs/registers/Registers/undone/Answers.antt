@@ -1,6 +1,5 @@
 use Rattle.std.proofs.Common.{refl, inl, inr}
-use Rattle.shm_tree.proofs.Moving.{alive_is, refused_is}
-use Rattle.shm_tree.proofs.Refusals.{spends_of}
+use Rattle.shm_tree.proofs.{Moving.{alive_is, refused_is}, Refusals.spends_of}
 use Rattle.shm_tree.proofs.registers.Registers.undone.Goals as goal
 
 pub returns-in-Ok : goal.returns-in-Ok

@@ -1,14 +1,8 @@
-use Rattle.std.proofs.Common.{◌≡◌, ℕ, ◌<◌, refl, sym, ap, ◌∙◌, subst, inl, inr, arith}
-use Rattle.std.proofs.lemmas.Bool.{cases_lt}
-use Rattle.shm_graph.specs.declared.ask.Me.{Me}
-use Rattle.shm_graph.specs.declared.run.Account.{Account}
-use Rattle.shm_graph.specs.declared.run.Start.{Start}
-use Rattle.shm_graph.specs.Laws.{Outcome}
-use Rattle.shm_graph.specs.Runs.{account_at}
+use Rattle.std.proofs.{Common.{◌≡◌, ℕ, ◌<◌, refl, sym, ap, ◌∙◌, subst, inl, inr, arith}, lemmas.Bool.cases_lt}
+use Rattle.shm_graph.specs.{declared.{ask.Me.Me, run.{Account.Account, Start.Start}}, Laws.Outcome, Runs.account_at}
 use Rattle.shm_graph.specs.Whole.{fits_now, gives_now}
 use Rattle.shm_plain.specs.Pools.{Pool, readied, turn_on, turned}
-use Rattle.shm_work.proofs.Turning.{may_step, ready_is, turned_is}
-use Rattle.shm_work.proofs.plain.PlainPoolWorkplace.step.Given.{Over}
+use Rattle.shm_work.proofs.{Turning.{may_step, ready_is, turned_is}, plain.PlainPoolWorkplace.step.Given.Over}
 use Rattle.shm_work.proofs.plain.PlainPoolWorkplace.step.Goals.{After-step}
 use Rattle.shm_work.proofs.plain.PlainPoolWorkplace.step.Goals as goal
 

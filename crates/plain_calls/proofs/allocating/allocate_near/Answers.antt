@@ -1,36 +1,27 @@
-use Rattle.std.proofs.Common.{◌≡◌, ◌≢◌, ℕ, ◌<◌, true, refl, sym, ap, ◌∙◌, subst, rules, Result}
+use Rattle.std.proofs.Common.{◌≡◌, ◌≢◌, ℕ, ◌<◌, ap, ◌∙◌, subst, rules, Result}
 use Rattle.std.specs.Prelude.{IfOk, IfErr, IfSome}
-use Rattle.shm_count.specs.declared.answer.Made.{Made}
-use Rattle.shm_count.specs.Step.Control.{IsInside}
-use Rattle.shm_graph.specs.declared.ask.Me.{Me}
-use Rattle.shm_graph.specs.declared.memo.Memo.{Memo}
-use Rattle.shm_graph.specs.Held.{is_loose}
-use Rattle.shm_graph.specs.Idle.{IsIdle}
-use Rattle.shm_plain.specs.Calls.{Did, IsAtWork}
-use Rattle.shm_plain.specs.Pools.{memo_of}
-use Rattle.shm_graph.specs.Tells.{happens_along}
-use Rattle.shm_alloc.specs.Alloc.AsPart.{AllocLeaves}
-use Rattle.shm_alloc.specs.Alloc.Events.{alloc_event, own_events}
-use Rattle.shm_alloc.specs.declared.alloc.AllocFault.{AllocFault}
-use Rattle.shm_alloc.specs.declared.point.AllocState.{AllocState}
-use Rattle.shm_alloc.specs.Alloc.Control.{AllocInRange, alloc_control}
-use Rattle.shm_alloc.specs.Alloc.{AllocGives}
-use Rattle.plain_calls.specs.Allocating.{IsAsked}
+use Rattle.shm_count.specs.{declared.answer.Made.Made, Step.Control.IsInside}
 use Rattle.shm_count.specs.Roots.{AreRootsReached, member, root_word}
+use Rattle.shm_count.proofs.RootSpots.{roots_reached}
+use Rattle.shm_graph.specs.{declared.{ask.Me.Me, memo.Memo.Memo}, Held.is_loose, Idle.IsIdle, Tells.happens_along}
+use Rattle.shm_plain.specs.{Calls.{Did, IsAtWork}, Pools.memo_of}
+use Rattle.shm_plain.proofs.Answering.{some_map}
+use Rattle.shm_alloc.specs.Alloc.{AsPart.AllocLeaves, Events.{alloc_event, own_events}}
+use Rattle.shm_alloc.specs.Alloc.{Control.{AllocInRange, alloc_control}, AllocGives}
+use Rattle.shm_alloc.specs.declared.{alloc.AllocFault.AllocFault, point.AllocState.AllocState}
+use Rattle.plain_calls.specs.Allocating.{IsAskedNear}
 use Rattle.plain_calls.proofs.Running.{run_kind}
 use Rattle.plain_calls.proofs.AllocRoots.{alloc_inside, alloc_number, alloc_others, alloc_refused, alloc_root}
-use Rattle.shm_plain.proofs.Answering.{some_map}
-use Rattle.shm_count.proofs.RootSpots.{roots_reached}
-use Rattle.plain_calls.proofs.allocating.allocate.Goals.{In_ok-alloc, After-run}
-use Rattle.plain_calls.proofs.allocating.allocate.Goals as goal
+use Rattle.plain_calls.proofs.allocating.allocate_near.Goals.{In_ok-alloc, After-run}
+use Rattle.plain_calls.proofs.allocating.allocate_near.Goals as goal
 
 knows : (c : In_ok-alloc) → AllocInRange c.in_ok-alloc.alloc
 knows c = search rules
 
-asked : (c : In_ok-alloc) → IsAsked c.args.pool.now.start.geometry c.args.who c.args.refs c.args.plain.now c.in_ok-alloc.alloc
+asked : (c : In_ok-alloc) → IsAskedNear c.args.pool.now.start.geometry c.args.who c.args.refs c.args.plain.now c.args.near c.in_ok-alloc.alloc
 asked c =
     let q = c.in_ok-alloc.ensures.request in
-    record { me = c.in_ok-alloc.ensures.fresh.0 ∙ c.me.ensures.is; point = c.in_ok-alloc.ensures.fresh.1; refs = q.0; count = q.1; plain = q.2; fits = (knows c).request }
+    record { me = c.in_ok-alloc.ensures.fresh.0 ∙ c.me.ensures.is; point = c.in_ok-alloc.ensures.fresh.1; refs = q.0; count = q.1; plain = q.2; fits = (knows c).request; hint = c.in_ok-alloc.ensures.near }
 
 pub run-requires-clause-me : goal.run-requires-clause-me
 run-requires-clause-me c = (asked (goal.at.run-requires-clause-me c).In_ok-alloc).me
@@ -52,7 +43,7 @@ before c = memo_of c.args.pool.now c.args.who
 abbrev after : (c : After-run) → Memo
 after c = memo_of c.run.new.self c.args.who
 
-is : (c : After-run) → IsAsked c.args.pool.now.start.geometry c.args.who c.args.refs c.args.plain.now (alloc c)
+is : (c : After-run) → IsAskedNear c.args.pool.now.start.geometry c.args.who c.args.refs c.args.plain.now c.args.near (alloc c)
 is c = asked (goal.at.After-run c).In_ok-alloc
 
 -- what follows of what it gives
@@ -62,7 +53,7 @@ follows c P f = some_map (AllocGives (alloc c) (before c) (after c) (after c).ca
 pub returns-clause-gives : goal.returns-clause-gives
 returns-clause-gives c =
     let at = (goal.at.returns-clause-gives c).After-run in
-    follows at (λ (a : Result Made AllocFault). (x : AllocState) × IsAsked c.args.pool.now.start.geometry c.args.who c.args.refs c.args.plain.now x × AllocGives x (before at) (after at) (after at).call a)
+    follows at (λ (a : Result Made AllocFault). (x : AllocState) × IsAskedNear c.args.pool.now.start.geometry c.args.who c.args.refs c.args.plain.now c.args.near x × AllocGives x (before at) (after at) (after at).call a)
     (λ a g. (alloc at, is at, g))
 
 pub returns-clause-number : goal.returns-clause-number

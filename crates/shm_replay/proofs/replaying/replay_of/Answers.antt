@@ -2,17 +2,13 @@ use Rattle.std.proofs.Common.{arith, ◌≡◌, true, length, sym, ap, ◌∙◌
 use Rattle.shm_words.specs.declared.geometry.Geometry.{Geometry}
 use Rattle.shm_graph.specs.Runs.{account_at}
 use Rattle.shm_plain.specs.Pools.{Pool, first_pool, memo_of}
-use Rattle.shm_replay.specs.Closings.{AreVisits, HasTold, SameTable}
-use Rattle.shm_replay.specs.Gathered.{logs_by}
-use Rattle.shm_replay.specs.Orders.{IsGivenAll}
+use Rattle.shm_replay.specs.{Closings.{AreVisits, HasTold, SameTable}, Gathered.logs_by, Orders.IsGivenAll}
 use Rattle.shm_replay.specs.Replays.{IsReplay, start_of}
-use Rattle.shm_replay.proofs.Giving.{take_front}
-use Rattle.shm_replay.proofs.Telling.{visits_start}
-use Rattle.shm_replay.proofs.WholeRun.{is_replay}
-use Rattle.shm_replay.proofs.replaying.replay.Goals as goal
+use Rattle.shm_replay.proofs.{Giving.take_front, Telling.visits_start, WholeRun.is_replay}
+use Rattle.shm_replay.proofs.replaying.replay_of.Goals as goal
 
 pub returns : goal.returns
-returns c =
+returns g c =
     let t = c.args.trace.now in
     let p = c.close.result in
     let (q, given, seated, visits, run, tables, told) = c.play.ensures.played in

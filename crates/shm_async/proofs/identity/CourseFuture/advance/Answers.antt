@@ -1,10 +1,10 @@
 use Rattle.std.proofs.Common.{◌≡◌, Option, Some, sym, ap, ◌∙◌, subst}
 use Rattle.shm_async.specs.Polled.{AtPost, Course, IsPolled, course_of}
 use Rattle.shm_async.proofs.Giving.{ready}
-use Rattle.shm_async.proofs.identity.IdentityFuture.advance.Goals as goal
+use Rattle.shm_async.proofs.identity.CourseFuture.advance.Goals as goal
 
 pub returns : goal.returns
-returns c =
+returns g c =
     let s = c.self.inside.script.now in
     let q = c.self.inside.q in
     let site : c.self.inside.site ≡ Some c.in_ok-site.site = (let a = c.take.ensures.value in let b = c.in_ok-site.was in cc) in

@@ -1,17 +1,13 @@
 use Rattle.std.proofs.Common.{List, ap, ◌∙◌}
-use Rattle.shm_graph.specs.declared.run.Move.{Move}
-use Rattle.shm_graph.specs.declared.run.Start.{Start}
+use Rattle.shm_graph.specs.declared.run.{Move.Move, Start.Start}
 use Rattle.shm_plain.specs.Pools.{pool}
-use Rattle.shm_team.specs.declared.team.Ran.{Ran}
-use Rattle.shm_team.specs.Dones.{AreDones}
-use Rattle.shm_team.proofs.Gathering.{dones_back, dones_of, job_there}
-use Rattle.shm_team.specs.Rans.{HasSettled, IsTeamRun}
-use Rattle.shm_team.proofs.Settled.{ok_then, team_run}
-use Rattle.shm_team.proofs.team.run_team.Goals as goal
+use Rattle.shm_team.specs.{declared.team.Ran.Ran, Dones.AreDones, Rans.{HasSettled, IsTeamRun}}
+use Rattle.shm_team.proofs.{Gathering.{dones_back, dones_of, job_there}, Settled.{ok_then, team_run}}
+use Rattle.shm_team.proofs.team.run_team_of.Goals as goal
 
 pub work_all-requires : goal.work_all-requires
 work_all-requires g c =
-    (c.type_bounds.sync-R, (c.type_bounds.sync-G, λ i j l. job_there c.args.trace.now c.in_ok-pool.pool 0 i c.in_ok-pool.jobs.items j c.in_ok-pool.ensures.jobs l))
+    (c.type_bounds.send-A, (c.type_bounds.sync-R, (c.type_bounds.sync-G, λ i j l. job_there c.args.trace.now c.in_ok-pool.pool 0 i c.in_ok-pool.jobs.items j c.in_ok-pool.ensures.jobs l)))
 
 pub settle-requires-clause-clients : goal.settle-requires-clause-clients
 settle-requires-clause-clients g c = ap (λ (s : Start). s.geometry.clients) c.in_ok-pool.ensures.start

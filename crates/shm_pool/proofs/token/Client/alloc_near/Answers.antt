@@ -1,11 +1,7 @@
 use Rattle.std.proofs.Common.{◌∙◌, rules}
-use Rattle.shm_alloc.specs.Alloc.AsPart.{AllocLeaves}
-use Rattle.shm_alloc.specs.Alloc.Control.{AllocInRange, alloc_control}
-use Rattle.shm_alloc.specs.Alloc.Events.{alloc_event}
-use Rattle.shm_pool.proofs.Calling.{live_here}
-use Rattle.shm_pool.proofs.Named.{rests_by}
-use Rattle.shm_pool.proofs.token.Client.alloc.Goals.{In_ok-alloc}
-use Rattle.shm_pool.proofs.token.Client.alloc.Goals as goal
+use Rattle.shm_alloc.specs.Alloc.{AsPart.AllocLeaves, Control.{AllocInRange, alloc_control}, Events.alloc_event}
+use Rattle.shm_pool.proofs.{Calling.live_here, Named.rests_by, token.Client.alloc_near.Goals.In_ok-alloc}
+use Rattle.shm_pool.proofs.token.Client.alloc_near.Goals as goal
 
 knows : (c : In_ok-alloc) → AllocInRange c.in_ok-alloc.alloc
 knows c = search rules
@@ -21,7 +17,7 @@ returns-clause-called c =
     let q = c.in_ok-alloc.ensures.request in
     record {
       machine = c.in_ok-alloc.alloc;
-      asked = record { of = c.in_ok-alloc.ensures.fresh.0 ∙ c.me.ensures.is; point = c.in_ok-alloc.ensures.fresh.1; refs = q.0; count = q.1; plain = q.2 };
+      asked = record { of = c.in_ok-alloc.ensures.fresh.0 ∙ c.me.ensures.is; point = c.in_ok-alloc.ensures.fresh.1; refs = q.0; count = q.1; plain = q.2; hint = c.in_ok-alloc.ensures.near };
       done = c.run.ensures.done;
       rests = rests_by alloc_control alloc_event AllocLeaves c.in_ok-alloc.alloc c.args.self.now c.run.new.self c.args.life.now.left c.run.new.life.left c.run.result c.run.ensures.done;
       effect = c.run.ensures.effect;

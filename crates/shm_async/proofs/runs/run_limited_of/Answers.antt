@@ -1,7 +1,7 @@
 use Rattle.std.proofs.Common.{◌*◌, ap}
 use Rattle.shm_graph.specs.declared.run.Start.{Start}
 use Rattle.shm_async.proofs.LimitedRun.{limited_back, limited_run}
-use Rattle.shm_async.proofs.runs.run_limited.Goals as goal
+use Rattle.shm_async.proofs.runs.run_limited_of.Goals as goal
 
 pub settle-requires-clause-clients : goal.settle-requires-clause-clients
 settle-requires-clause-clients g c = ap (λ (s : Start). s.geometry.clients) c.in_ok-pool.ensures.start

@@ -1,0 +1,8 @@
+use Rattle.shm_alloc.specs.Turning.{turned_all, turned_none}
+use Rattle.shm_alloc.proofs.answers.search_goes_to_each.Goals as goal
+
+pub returns-clause-plain : goal.returns-clause-plain
+returns-clause-plain c n j = turned_none n j
+
+pub returns-clause-each : goal.returns-clause-each
+returns-clause-each c n d k l = turned_all n d k l
