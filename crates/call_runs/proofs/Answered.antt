@@ -12,10 +12,8 @@ use Rattle.shm_alloc.specs.{declared.{alloc.AllocFault.AllocFault, point.AllocSt
 use Rattle.shm_queue.specs.{declared.answer.PeekFault.PeekFault, Keeping.IsLeft}
 use Rattle.shm_queue.specs.declared.answer.PeekFault.TheVariants as peek
 use Rattle.shm_ref.specs.{declared.answer.{Busy.Busy, NotHeld.NotHeld}, OnlyRead.OnlyRead}
-use Rattle.plain_calls.specs.Allocating.{IsAsked}
-use Rattle.plain_calls.proofs.Running.{Said}
-use Rattle.table_calls.specs.Running.{IsOpen}
-use Rattle.table_calls.proofs.Opens.{open_queues}
+use Rattle.shm_client.specs.{Allocating.IsAsked, Running.IsOpen}
+use Rattle.shm_client.proofs.{Running.Said, Opens.open_queues}
 use Rattle.call_runs.specs.declared.standing.Known.{Known}
 use Rattle.call_runs.specs.Known.{After, IsKnown, bare, dying, found, held, kept, received, released, seeing, settled, told, unsettled}
 use Rattle.call_runs.proofs.Knowing.{after_ran, known_bare, known_dying, known_free, known_held, known_kept, known_unsettled, known_found}

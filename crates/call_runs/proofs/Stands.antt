@@ -6,7 +6,7 @@ use Rattle.shm_words.specs.Layout.{GeometryFits}
 use Rattle.shm_graph.specs.{declared.{memo.Memo.Memo, run.Start.Start}, Agents.{acts, last_agent, recovers}}
 use Rattle.shm_graph.specs.{Held.is_loose, Idle.IsIdle, Runs.{fell_by, first_memo}}
 use Rattle.shm_plain.specs.{Calls.IsAtWork, Pools.{Pool, memo_of}}
-use Rattle.plain_calls.specs.Clear.{IsClear}
+use Rattle.shm_client.specs.Clear.{IsClear}
 use Rattle.call_runs.specs.declared.standing.{Known.Known, Standing.{Standing, TheVariants.{New, Works, Fallen, Lost}}}
 use Rattle.call_runs.specs.Known.{After, IsKnown, IsSo, Stand, begun, joined_known, pick, placed_first, placed_second, stood}
 

@@ -8,7 +8,7 @@ ghost use Rattle.call_runs.specs.Known.{Stand, begun};
 use crate::row::{Row, refusal};
 use crate::run::Run;
 use crate::standing::{JOINED, Standing};
-use plain_calls::{joined, step_join};
+use shm_client::{joined, step_join};
 use shm_graph::Life;
 use shm_plain::PlainPool;
 use shm_words::Geometry;

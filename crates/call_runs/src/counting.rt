@@ -31,7 +31,7 @@ pub fn allocate(
     ensures { IfOk result (After client.who pool.old pool.new) }
 {
     let refs = row.small(1, 255)?;
-    match plain_calls::allocate(pool, client.who, refs, row.from(2), life) {
+    match shm_client::allocate(pool, client.who, refs, row.from(2), life) {
         Ok(answer) => {
             tell(rt, &answer)?;
             Ok(told(&answer, client.known.kept()))

@@ -9,7 +9,7 @@ use crate::seeing::check;
 use crate::standing::{Client, JOINED, Known, Standing};
 use crate::telling::{tell, tell_pool};
 use crate::{counting, latches, queues};
-use plain_calls::{die, mend_fallen, recover};
+use shm_client::{die, mend_fallen, recover};
 use shm_graph::Life;
 use shm_plain::PlainPool;
 use std::io;
@@ -124,7 +124,7 @@ fn join(rt: &HostRuntime, run: &mut Run, row: &Row) -> io::Result<()>
 {
     let who = row.small(0, run.pool.geometry().clients())?;
     check(matches!(pick(run.first, run.second, who), Standing::New))?;
-    check(plain_calls::join(&mut run.pool, who, &mut run.life))?;
+    check(shm_client::join(&mut run.pool, who, &mut run.life))?;
     println!(rt; "joined")?;
     place(
         &mut run.first,

@@ -3,11 +3,11 @@
 ghost use Rattle.std.specs.Prelude.{◌≡◌, ◌≢◌, ℕ, true, IfOk, IfSome};
 ghost use Rattle.shm_words.specs.Layout.{GeometryFits};
 ghost use Rattle.shm_script.specs.Ranges.{LineFits};
-ghost use Rattle.table_calls.specs.Running.{AreOpen, IsFew, IsOpen};
+ghost use Rattle.shm_client.specs.Running.{AreOpen, IsFew, IsOpen};
 
 use crate::row::refusal;
 use crate::seeing::check;
-use plain_calls::{join, joined};
+use shm_client::{command, join, joined};
 use shm_calls::Calls;
 use shm_count::EraSpent;
 use shm_graph::Life;
@@ -18,7 +18,6 @@ use shm_script::{Answer, Line};
 use shm_words::Geometry;
 use std::alloc::Global;
 use std::io;
-use table_calls::command;
 
 /// A pool for tables of one or two identities, which they have joined.
 pub fn opened(alloc: Global, geometry: Geometry, life: &mut Life) -> io::Result<PlainPool>

@@ -1,7 +1,7 @@
 //! Rows that run the commands of a trace on a pool for tables.
 
 ghost use Rattle.std.specs.Prelude.{◌≡◌, IfOk};
-ghost use Rattle.table_calls.specs.Running.{AreOpen, IsFew};
+ghost use Rattle.shm_client.specs.Running.{AreOpen, IsFew};
 
 use crate::row::{Row, refusal};
 use crate::tables::{answered, closed, opened};

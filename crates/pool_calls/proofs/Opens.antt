@@ -8,8 +8,8 @@ use Rattle.shm_recover.specs.Join.{JoinGives, join_fresh}
 use Rattle.shm_script.specs.{declared.{line.Line.Line, log.Answer.Answer}, Ranges.LineFits}
 use Rattle.shm_script.specs.declared.line.Line.TheVariants as line
 use Rattle.shm_table.specs.{Command.{command_of, Operates.CommandLeaves}, TableTasks.LineMay}
-use Rattle.table_calls.specs.Running.{RunLeaves}
-use Rattle.table_calls.proofs.RunKeeps.{RunKeeps, run_keeps}
+use Rattle.shm_client.specs.Running.{RunLeaves}
+use Rattle.shm_client.proofs.RunKeeps.{RunKeeps, run_keeps}
 use Rattle.shm_pool.specs.{declared.reply.Reply.{Reply, TheVariants.{Died, Done}}, Called.{HasCommanded, Rests}}
 use Rattle.shm_pool.specs.Tokens.{Acting, me_of}
 use Rattle.pool_calls.specs.Tables.{IsOpen}

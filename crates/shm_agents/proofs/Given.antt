@@ -7,8 +7,7 @@ use Rattle.shm_graph.specs.declared.{memo.{Memo.Memo, Step.Step}, run.Account.Ac
 use Rattle.shm_graph.specs.Agents.{acts, acts_by, ended, entered, fallen, is_acting, last_agent, stepped, with_last}
 use Rattle.shm_graph.specs.{Changes.asked_spot, Runs.{account_after, account_died, account_entered, is_dead}}
 use Rattle.shm_graph.proofs.Memos.MemoSteps.{acts-entered, agents_after, ends_agent, steps_died, steps_entered, steps_on}
-use Rattle.shm_plain.specs.Tracks.{kind_next}
-use Rattle.shm_work.specs.Working.{ready_account}
+use Rattle.shm_plain.specs.{Tracks.kind_next, Working.ready_account}
 use Rattle.shm_agents.specs.TurnsLeft.{deaths, turns_given}
 
 -- an agent that acts isn't dead

@@ -9,8 +9,7 @@ use Rattle.shm_graph.specs.{Agents.{acts, acts_by, last_agent, steps_made}, Laws
 use Rattle.shm_graph.specs.{Runs.{Stood, account_after, account_entered, first_account}, Views.own_word}
 use Rattle.shm_graph.specs.Whole.{fits_now, gives_now}
 use Rattle.shm_graph.proofs.Memos.MemoSteps.{last-append}
-use Rattle.shm_plain.specs.Tracks.{kind_next}
-use Rattle.shm_work.specs.Working.{IsWorkOf, MayWork, ready_account}
+use Rattle.shm_plain.specs.{Tracks.kind_next, Working.{IsWorkOf, MayWork, ready_account}}
 use Rattle.shm_calls.specs.declared.or.Or.TheVariants.{First, Second}
 use Rattle.shm_count.specs.declared.answer.EraSpent.{EraSpent}
 use Rattle.shm_recover.specs.Join.{JoinGives, join_fresh, Keeps.join_begins}

@@ -7,7 +7,7 @@ use Rattle.shm_graph.specs.declared.{ask.{Life.Life, Turn.{Turn, TheVariants.{Mo
 use Rattle.shm_graph.specs.{declared.{memo.Step.Step, run.{Account.Account, Start.Start}}, Laws.{is_died, turn_of}}
 use Rattle.shm_graph.specs.{Runs.Stood, Whole.{fits_now, gives_now}}
 use Rattle.shm_graph.specs.Laws as laws
-use Rattle.shm_work.specs.Working.{IsWorkOf, MayWork, Worked, ready_account}
+use Rattle.shm_plain.specs.Working.{IsWorkOf, MayWork, Worked, ready_account}
 use Rattle.shm_plain.proofs.Calling.{answered_is, lives}
 use Rattle.shm_calls.specs.declared.or.Or.TheVariants.{First, Second}
 use Rattle.shm_count.specs.declared.answer.EraSpent.{EraSpent}

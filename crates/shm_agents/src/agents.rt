@@ -16,7 +16,7 @@ use shm_calls::Or;
 use shm_graph::{Life, Me, Turn};
 use shm_script::{Answer, End, Entry, Line, Log, Script};
 use shm_table::command_maps;
-use shm_work::Workplace;
+use shm_plain::Workplace;
 use std::alloc::{AllocError, Global};
 use std::marker::Model;
 

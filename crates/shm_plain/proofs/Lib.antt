@@ -6,3 +6,4 @@ pub mod StillTable
 pub mod Lanes
 pub mod Answering
 pub mod Called
+pub mod PlaceTurning

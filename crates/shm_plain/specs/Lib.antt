@@ -3,3 +3,6 @@ pub mod Pools
 pub mod Calls
 pub mod Closings
 pub mod Lanes
+pub mod Working
+pub mod Turned
+pub mod Standing

@@ -4,7 +4,7 @@ use crate::play::Play;
 use shm_agents::agents::{Agents, Standing};
 use shm_graph::Me;
 use shm_script::{Log, Script};
-use shm_work::Workplace;
+use shm_plain::Workplace;
 use std::alloc::{AllocError, Global};
 use std::marker::Model;
 

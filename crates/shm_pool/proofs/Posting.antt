@@ -6,8 +6,7 @@ use Rattle.shm_graph.specs.declared.{memo.Fate.TheVariants.{Acts, Died, Ended}, 
 use Rattle.shm_graph.specs.Agents.{acts, acts_by, ended, is_acting, last_agent, stepped, with_last}
 use Rattle.shm_graph.specs.{Changes.asked_spot, Runs.{account_after, account_died, account_entered, fell_by, is_dead}}
 use Rattle.shm_graph.proofs.Memos.MemoSteps.{acts-died, agents_after, ends_agent, fell-died, last-with_last, memo_agents, with_some}
-use Rattle.shm_plain.specs.Tracks.{kind_next}
-use Rattle.shm_work.specs.Working.{ready_account}
+use Rattle.shm_plain.specs.{Tracks.kind_next, Working.ready_account}
 use Rattle.shm_pool.specs.Posts.{Knows, account_seen}
 
 -- ---- what begins

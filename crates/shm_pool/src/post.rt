@@ -5,14 +5,14 @@ ghost use Rattle.shm_words.specs.Layout.{total_of};
 ghost use Rattle.shm_graph.specs.{Agents.{acts, last_agent}, Runs.{Stood, account_died, fell_by, first_account}};
 ghost use Rattle.shm_pool.specs.{Rules.{IsAlone, alone}, Posts.{IsPosted, Knows, account_seen}};
 ghost use Rattle.shm_pool.specs.Tokens.{IsOut, IsSeated};
-ghost use Rattle.shm_work.specs.Working.{MayWork, ready_account};
+ghost use Rattle.shm_plain.specs.Working.{MayWork, ready_account};
 
 use crate::pool::SharedPool;
 use crate::rule::{Place, Top};
 use crate::steps::{note_client, note_death, note_recoverer, step_place};
 use crate::token::{Corpse, Vacant};
 use shm_graph::{Life, Machine, Start, Turn};
-use shm_work::Workplace;
+use shm_plain::Workplace;
 use std::marker::Model;
 
 /// An identity at work in a pool that threads share. Its agents come one after the other: a client, and after a death a recoverer. Each of

@@ -7,8 +7,7 @@ use Rattle.std.specs.Prelude.{◌==◌, ◌&&◌, ◌⊎◌, Option, Some, None,
 use Rattle.std.specs.Option.{is_some}
 use Rattle.shm_graph.specs.{declared.{ask.Me.Me, run.{Account.Account, Start.Start}}, Runs.{account_at, first_account}}
 use Rattle.shm_count.specs.Roots.{member}
-use Rattle.shm_plain.specs.Pools.{Pool, IsOf}
-use Rattle.shm_work.specs.Working.{IsWorkOf}
+use Rattle.shm_plain.specs.{Pools.{Pool, IsOf}, Working.IsWorkOf}
 use Rattle.shm_script.specs.{declared.line.Item.Item, Values.{Scripted, Traced}}
 use Rattle.shm_agents.specs.declared.agents.Standing.{Standing, TheVariants.{AtWork, Gone, Dead}}
 use Rattle.shm_agents.specs.Agents.{Playing, Stands, is_at_work, is_client}

@@ -5,7 +5,7 @@ use Rattle.std.specs.Prelude.{Some}
 use Rattle.shm_graph.specs.{declared.ask.Me.Me, Agents.acts, Laws.step_of}
 use Rattle.shm_graph.specs.Runs.{account_at, account_died, account_entered, changed}
 use Rattle.shm_plain.specs.{Pools.{Pool, IsOf, after_fall, memo_of, readied, turn_on, turned}, Tracks.kind_next}
-use Rattle.shm_work.specs.Plain.{IsTurned}
+use Rattle.shm_plain.specs.Turned.{IsTurned}
 use Rattle.shm_agents.specs.Work.{Work, work_control}
 use Rattle.shm_replay.specs.Turns.{worked}
 

@@ -14,8 +14,8 @@ use Rattle.shm_count.specs.declared.answer.ShareFault.TheVariants as share
 use Rattle.shm_ref.specs.{declared.answer.SetFault.SetFault, DropRoot.{Control.dropping, DropLeaves}}
 use Rattle.shm_ref.specs.SetRef.{Control.setting, SetLeaves}
 use Rattle.shm_ref.specs.declared.answer.SetFault.TheVariants as set
-use Rattle.plain_calls.specs.Allocating.{IsAsked}
-use Rattle.plain_calls.proofs.Running.{MachineLeft, PlanLeft, plan_done}
+use Rattle.shm_client.specs.Allocating.{IsAsked}
+use Rattle.shm_client.proofs.Running.{MachineLeft, PlanLeft, plan_done}
 use Rattle.shm_tree.specs.declared.{node.Side.{Side, TheVariants.{Left, Right}}, stop.Stop.Stop}
 use Rattle.shm_tree.specs.Causes.{AllocRefused, DropRefused, SetRefused, ShareRefused, StopCause, Within}
 use Rattle.shm_tree.specs.{Keeping.{HasNode, HasTree, IsStill, child_of}, Standing.{Stands, word_of}}

@@ -26,7 +26,7 @@ use Rattle.shm_recover.specs.TakeBack.Laws.{back_laws}
 use Rattle.shm_alone.specs.{GiveEnds.none_over, LeaveEnds.{leave_alone, leave_few, leave_left, leave_ends}}
 use Rattle.shm_alone.specs.RecoverEnds.{recover_alone, recover_few, recover_left, recover_ends}
 use Rattle.shm_alone.proofs.Lasting.{Lasts, alone_few, answers_alone, calls_last, left_few}
-use Rattle.plain_calls.proofs.Fallen.{fallen_first, fallen_fits, fallen_told, may_begin}
+use Rattle.shm_client.proofs.Fallen.{fallen_first, fallen_fits, fallen_told, may_begin}
 use Rattle.shm_tree.specs.{Ending.{HasEnded, HasParted, IsRevived}, Working.IsWorking}
 
 -- ---- the own era

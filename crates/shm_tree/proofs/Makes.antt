@@ -18,7 +18,7 @@ use Rattle.shm_alloc.specs.declared.{alloc.AllocFault.AllocFault, point.AllocSta
 use Rattle.shm_alloc.specs.Alloc.{Control.tag_asked, AllocGives, IsPrepared, MadeGives, goal_of, more_stored}
 use Rattle.shm_alloc.specs.declared.alloc.AllocFault.TheVariants as fault
 use Rattle.shm_alloc.proofs.AllocBound.{alloc_bound}
-use Rattle.plain_calls.specs.Allocating.{IsAsked}
+use Rattle.shm_client.specs.Allocating.{IsAsked}
 use Rattle.shm_tree.specs.{declared.node.Content.Content, Bounds.make_steps, Causes.AllocRefused}
 use Rattle.shm_tree.specs.{Keeping.{IsMade, IsStill, KeepsNodes, is_live, made_in}, Standing.{IsNode, word_of}}
 use Rattle.shm_tree.specs.Working.{DiedIn, HasRoom, IsSameLatch, IsWorking, Reaches}

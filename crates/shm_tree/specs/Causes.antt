@@ -10,7 +10,7 @@ use Rattle.shm_count.specs.declared.answer.ShareFault.TheVariants as share
 use Rattle.shm_ref.specs.{declared.answer.SetFault.SetFault, DropRoot.{Control.dropping, DropLeaves}}
 use Rattle.shm_ref.specs.SetRef.{Control.setting, SetLeaves}
 use Rattle.shm_ref.specs.declared.answer.SetFault.TheVariants as set
-use Rattle.plain_calls.specs.Allocating.{IsAsked}
+use Rattle.shm_client.specs.Allocating.{IsAsked}
 use Rattle.shm_tree.specs.declared.stop.Stop.{Stop}
 use Rattle.shm_tree.specs.declared.stop.Stop.TheVariants as stop
 

@@ -14,7 +14,7 @@ ghost use Rattle.shm_tree.specs.declared.stop.Stop.TheVariants as stop;
 
 use crate::node::{Content, Side};
 use crate::stop::Stop;
-use plain_calls::allocate;
+use shm_client::allocate;
 use shm_alloc::AllocFault;
 use shm_count::Made;
 use shm_graph::Life;

@@ -13,7 +13,7 @@ use crate::counting::{block_in, live_blocks, size_of};
 use crate::line::{TreeAnswer, TreeLine, TreeTurn};
 use crate::registers::{NONE, Registers};
 use crate::stop::Stop;
-use plain_calls::joined;
+use shm_client::joined;
 use shm_count::EraSpent;
 use shm_graph::Life;
 use shm_plain::PlainClosed;

@@ -18,8 +18,8 @@ use Rattle.shm_table.specs.{Enter.Laws.enter_laws, FetchHead.Laws.fetch_head_law
 use Rattle.shm_table.specs.{Get.Laws.get_laws, Locate.Laws.locate_laws, OpenTable.Laws.open_laws, Put.Laws.put_laws}
 use Rattle.shm_table.specs.{PutRoot.Laws.put_root_laws, RecvKey.Laws.recv_laws, Replace.Laws.replace_laws}
 use Rattle.shm_table.specs.{SendKey.Laws.send_key_laws, TakeHead.Laws.take_head_laws}
-use Rattle.table_calls.specs.Running.{MapSo, MayRun}
-use Rattle.table_calls.proofs.RunBegins.{run_begins, run_fresh}
+use Rattle.shm_client.specs.Running.{MapSo, MayRun}
+use Rattle.shm_client.proofs.RunBegins.{run_begins, run_fresh}
 
 -- what is owed of a command
 pub laws : Laws command_control CommandFits CommandGives

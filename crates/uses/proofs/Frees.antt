@@ -4,7 +4,7 @@ use Rattle.std.specs.Prelude.{None, Some, slice_index}
 use Rattle.shm_graph.specs.{declared.memo.Memo.Memo, Agents.recovers, Held.is_loose}
 use Rattle.shm_plain.specs.{Calls.{IsAtWork, Ran}, Pools.{IsRun, Pool, memo_of}}
 use Rattle.shm_count.specs.Waiting.{LeavesQueues, LeavesWaiting}
-use Rattle.plain_calls.specs.Clear.{IsClear}
+use Rattle.shm_client.specs.Clear.{IsClear}
 use Rattle.uses.specs.Blocks.{HasRun, IsFree, IsHolding}
 
 -- whether the pool is for tables, the zero-count blocks, and what waits in queues are as they were

@@ -4,7 +4,7 @@ use Rattle.shm_graph.specs.declared.{memo.Memo.Memo, spot.Spot.{Spot, TheVariant
 use Rattle.shm_graph.specs.{Agents.recovers, Spots.see}
 use Rattle.shm_plain.specs.{Calls.IsAtWork, Pools.{IsRun, Pool, memo_of}}
 use Rattle.shm_count.specs.{declared.answer.Made.Made, Roots.root_word, Tear.Memos.Knows}
-use Rattle.plain_calls.specs.Clear.{IsClear}
+use Rattle.shm_client.specs.Clear.{IsClear}
 use Rattle.uses.specs.declared.memory.Pair.{Pair}
 
 -- c is a client between two calls, in a pool for single calls; it holds no latch, no count came to 0, and nothing waits in its queues: each call may be made, and it may leave

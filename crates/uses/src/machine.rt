@@ -9,7 +9,7 @@ ghost use Rattle.uses.specs.Compare.{CompareMay, comparing, compare_plan, Laws.{
 ghost use Rattle.uses.specs.declared.stop.Stop.TheVariants as stop;
 
 use crate::stop::Stop;
-use plain_calls::{allocate, joined};
+use shm_client::{allocate, joined};
 use shm_calls::{Calls, Plan, Task};
 use shm_graph::{Life, Machine, Me};
 use shm_plain::PlainPool;

@@ -8,7 +8,7 @@ ghost use Rattle.uses.specs.Blocks.{AreRooted, AreSameRoots, HasRun, IsFree, IsH
 ghost use Rattle.uses.specs.declared.stop.Stop.TheVariants as stop;
 
 use crate::stop::Stop;
-use plain_calls::{allocate, joined};
+use shm_client::{allocate, joined};
 use shm_count::Made;
 use shm_graph::Life;
 use shm_plain::{PlainClosed, PlainPool};

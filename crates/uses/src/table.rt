@@ -7,11 +7,11 @@ ghost use Rattle.shm_plain.specs.{Calls.IsAtWork, Pools.{IsRun, memo_of}};
 ghost use Rattle.shm_count.specs.Roots.{member};
 ghost use Rattle.shm_script.specs.declared.line.Line.TheVariants as line;
 ghost use Rattle.shm_table.specs.Command.Maps.{MapSoFar};
-ghost use Rattle.table_calls.specs.Running.{IsOpen, MapSo, MayRun};
+ghost use Rattle.shm_client.specs.Running.{IsOpen, MapSo, MayRun};
 ghost use Rattle.uses.specs.declared.stop.Stop.TheVariants as stop;
 
 use crate::stop::Stop;
-use plain_calls::{die, join, joined, recover};
+use shm_client::{command, die, join, joined, recover};
 use shm_count::EraSpent;
 use shm_graph::{Life, Me, Turn};
 use shm_plain::PlainPool;
@@ -19,7 +19,6 @@ use shm_script::{Answer, Line};
 use shm_table::{Command, command_maps};
 use shm_words::Geometry;
 use std::alloc::Global;
-use table_calls::command;
 
 /// Makes a pool for tables, of two clients, that both have joined.
 pub fn two_clients(alloc: Global, geometry: Geometry, life: &mut Life) -> Result<PlainPool, Stop>

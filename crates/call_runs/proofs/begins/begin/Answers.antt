@@ -2,7 +2,7 @@ use Rattle.std.proofs.Common.{◌≡◌, ◌≢◌, ◌<◌, ℕ, refl, sym, ap,
 use Rattle.shm_words.specs.declared.geometry.Geometry.{Geometry}
 use Rattle.shm_graph.specs.{declared.run.Start.Start, Runs.first_memo}
 use Rattle.shm_plain.specs.Pools.{memo_of}
-use Rattle.plain_calls.proofs.QueueReady.{clear_join}
+use Rattle.shm_client.proofs.QueueReady.{clear_join}
 use Rattle.call_runs.proofs.Stands.{known_joined, stand_begun}
 use Rattle.call_runs.proofs.begins.begin.Goals as goal
 

@@ -3,7 +3,7 @@ use Rattle.shm_graph.specs.declared.ask.Me.{Me}
 use Rattle.shm_plain.specs.Pools.{memo_of}
 use Rattle.shm_count.specs.{Roots.member, Step.Control.step_control}
 use Rattle.shm_ref.specs.RootSteps.{ChangingMay, changing, changing_plan}
-use Rattle.plain_calls.proofs.Running.{plan_may, plan_said}
+use Rattle.shm_client.proofs.Running.{plan_may, plan_said}
 use Rattle.call_runs.proofs.Answered.{lowers}
 use Rattle.call_runs.proofs.counting.change.Goals as goal
 

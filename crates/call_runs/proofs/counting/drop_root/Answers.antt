@@ -3,7 +3,7 @@ use Rattle.shm_graph.specs.declared.ask.Me.{Me}
 use Rattle.shm_plain.specs.Pools.{memo_of}
 use Rattle.shm_count.specs.Roots.{member}
 use Rattle.shm_ref.specs.{DropRoot.{Control.{drop_parts, dropping}, drop_plan}, RootTasks.DropMay}
-use Rattle.plain_calls.proofs.Running.{plan_may, plan_said}
+use Rattle.shm_client.proofs.Running.{plan_may, plan_said}
 use Rattle.call_runs.proofs.Answered.{settles}
 use Rattle.call_runs.proofs.counting.drop_root.Goals as goal
 

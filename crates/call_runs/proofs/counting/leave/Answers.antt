@@ -2,7 +2,7 @@ use Rattle.std.proofs.Common.{refl}
 use Rattle.shm_plain.specs.Pools.{memo_of}
 use Rattle.shm_count.specs.Roots.{member}
 use Rattle.shm_recover.specs.{Leave.{Control.leaving, leave_plan}, LeaveTask.LeaveMay}
-use Rattle.plain_calls.proofs.Running.{plan_may}
+use Rattle.shm_client.proofs.Running.{plan_may}
 use Rattle.call_runs.proofs.Knowing.{after_ran}
 use Rattle.call_runs.proofs.counting.leave.Goals as goal
 

@@ -2,7 +2,7 @@ use Rattle.shm_graph.specs.declared.ask.Me.{Me}
 use Rattle.shm_plain.specs.Pools.{memo_of}
 use Rattle.shm_count.specs.{Roots.member, Step.Machines.up_control}
 use Rattle.shm_ref.specs.RootSteps.{RaisingMay, raising, raising_plan}
-use Rattle.plain_calls.proofs.Running.{plan_may, plan_said}
+use Rattle.shm_client.proofs.Running.{plan_may, plan_said}
 use Rattle.call_runs.proofs.Answered.{bares}
 use Rattle.call_runs.proofs.counting.raise.Goals as goal
 

@@ -4,7 +4,7 @@ use Rattle.shm_graph.specs.declared.ask.Me.{Me}
 use Rattle.shm_plain.specs.Pools.{memo_of}
 use Rattle.shm_count.specs.Roots.{member}
 use Rattle.shm_ref.specs.{SetRef.{Control.{set_parts, setting}, set_plan}, RootTasks.SetMay}
-use Rattle.plain_calls.proofs.{Running.{plan_may, plan_said}, Reaching.reached_whole}
+use Rattle.shm_client.proofs.{Running.{plan_may, plan_said}, Reaching.reached_whole}
 use Rattle.call_runs.proofs.Answered.{settles}
 use Rattle.call_runs.proofs.latches.empty_ref.Goals as goal
 

@@ -5,7 +5,7 @@ use Rattle.shm_plain.specs.Pools.{memo_of}
 use Rattle.shm_calls.specs.Words.{word_control}
 use Rattle.shm_count.specs.Roots.{member}
 use Rattle.shm_ref.specs.{Hold.{Control.holding, hold_plan}, LatchTasks.HoldMay}
-use Rattle.plain_calls.proofs.Running.{plan_may, plan_said}
+use Rattle.shm_client.proofs.Running.{plan_may, plan_said}
 use Rattle.call_runs.proofs.Answered.{holds}
 use Rattle.call_runs.proofs.latches.hold.Goals as goal
 

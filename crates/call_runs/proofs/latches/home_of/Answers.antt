@@ -5,7 +5,7 @@ use Rattle.shm_plain.specs.Pools.{memo_of}
 use Rattle.shm_calls.specs.Words.{word_control}
 use Rattle.shm_count.specs.Roots.{member}
 use Rattle.shm_ref.specs.{HomeOf.{finding, home_of_plan}, LatchTasks.HomeOfMay}
-use Rattle.plain_calls.proofs.Running.{plan_may, plan_said}
+use Rattle.shm_client.proofs.Running.{plan_may, plan_said}
 use Rattle.call_runs.proofs.Answered.{finds}
 use Rattle.call_runs.proofs.latches.home_of.Goals as goal
 

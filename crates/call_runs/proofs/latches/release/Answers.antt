@@ -3,7 +3,7 @@ use Rattle.shm_plain.specs.Pools.{memo_of}
 use Rattle.shm_calls.specs.Words.{word_control}
 use Rattle.shm_count.specs.Roots.{member}
 use Rattle.shm_ref.specs.{Release.{release_plan, releasing}, LatchTasks.ReleaseMay}
-use Rattle.plain_calls.proofs.Running.{plan_may, plan_said}
+use Rattle.shm_client.proofs.Running.{plan_may, plan_said}
 use Rattle.call_runs.specs.Known.{told}
 use Rattle.call_runs.proofs.Answered.{releases, some_held}
 use Rattle.call_runs.proofs.latches.release.Goals as goal

@@ -3,7 +3,7 @@ use Rattle.shm_graph.specs.declared.ask.Me.{Me}
 use Rattle.shm_plain.specs.Pools.{memo_of}
 use Rattle.shm_count.specs.Roots.{member}
 use Rattle.shm_ref.specs.{SetHome.{home_parts, home_plan, homing}, RootTasks.HomeMay}
-use Rattle.plain_calls.proofs.{Running.{plan_may, plan_said}, Reaching.home_unread}
+use Rattle.shm_client.proofs.{Running.{plan_may, plan_said}, Reaching.home_unread}
 use Rattle.call_runs.specs.Known.{told}
 use Rattle.call_runs.proofs.Answered.{unsettles}
 use Rattle.call_runs.proofs.latches.set_home.Goals as goal

@@ -2,7 +2,7 @@ use Rattle.std.proofs.Common.{refl, ap, ◌∙◌}
 use Rattle.shm_graph.specs.declared.ask.Me.{Me}
 use Rattle.shm_plain.specs.Pools.{memo_of}
 use Rattle.shm_count.specs.{Roots.member, ShareTask.ShareMay, UpRoot.{Control.{rooting, rooting_parts}, rooting_plan}}
-use Rattle.plain_calls.proofs.Running.{plan_may, plan_said}
+use Rattle.shm_client.proofs.Running.{plan_may, plan_said}
 use Rattle.call_runs.specs.Known.{told}
 use Rattle.call_runs.proofs.Answered.{keeps}
 use Rattle.call_runs.proofs.latches.share.Goals as goal

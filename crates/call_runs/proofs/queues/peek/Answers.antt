@@ -4,7 +4,7 @@ use Rattle.shm_graph.specs.declared.ask.Me.{Me}
 use Rattle.shm_plain.specs.Pools.{memo_of}
 use Rattle.shm_count.specs.Roots.{member}
 use Rattle.shm_queue.specs.{QueueTasks.PeekMay, Peek.{Control.{peek_parts, peeking}, peek_plan}}
-use Rattle.plain_calls.proofs.Running.{plan_may, plan_said}
+use Rattle.shm_client.proofs.Running.{plan_may, plan_said}
 use Rattle.call_runs.specs.Known.{told}
 use Rattle.call_runs.proofs.Answered.{peeks}
 use Rattle.call_runs.proofs.queues.peek.Goals as goal

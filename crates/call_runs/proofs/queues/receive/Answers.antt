@@ -4,7 +4,7 @@ use Rattle.shm_graph.specs.declared.ask.Me.{Me}
 use Rattle.shm_plain.specs.Pools.{memo_of}
 use Rattle.shm_count.specs.Roots.{member}
 use Rattle.shm_queue.specs.{QueueTasks.ReceiveMay, Receive.{Control.{receive_parts, receiving}, receive_plan}}
-use Rattle.plain_calls.proofs.Running.{plan_may, plan_said}
+use Rattle.shm_client.proofs.Running.{plan_may, plan_said}
 use Rattle.call_runs.proofs.Answered.{receives}
 use Rattle.call_runs.proofs.queues.receive.Goals as goal
 

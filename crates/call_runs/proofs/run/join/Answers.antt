@@ -1,8 +1,8 @@
 use Rattle.std.proofs.{Common.{◌≡◌, true, sym, ap, ◌∙◌, subst}, lemmas.Bool.true≢false}
 use Rattle.shm_graph.specs.{declared.memo.Memo.Memo, Agents.acts}
 use Rattle.shm_plain.specs.{Pools.memo_of, Tracks.kind_next}
-use Rattle.plain_calls.specs.Clear.{IsClear}
-use Rattle.plain_calls.proofs.JoinLatch.{clear_joining}
+use Rattle.shm_client.specs.Clear.{IsClear}
+use Rattle.shm_client.proofs.JoinLatch.{clear_joining}
 use Rattle.call_runs.specs.{declared.standing.Standing.{Standing, TheVariants.{New, Works}}, Known.{IsSo, joined_known}}
 use Rattle.call_runs.proofs.{Stands.{known_joined, pick_so, stand_placed}, run.join.Goals.{in-New, in_default}}
 use Rattle.call_runs.proofs.run.join.Goals as goal

@@ -4,7 +4,7 @@ use Rattle.shm_words.specs.{declared.geometry.Geometry.Geometry, Layout.{address
 use Rattle.shm_words.specs.declared.place.Place.TheVariants as place
 use Rattle.shm_graph.specs.{declared.{run.Start.Start, spot.Spot.TheVariants.Era}, Views.own_word}
 use Rattle.shm_plain.specs.Pools.{memo_of}
-use Rattle.table_calls.proofs.Opens.{all_after, era_below, era_read, open_after}
+use Rattle.shm_client.proofs.Opens.{all_after, era_below, era_read, open_after}
 use Rattle.call_runs.proofs.tables.answered.Goals as goal
 
 pub word-requires : goal.word-requires

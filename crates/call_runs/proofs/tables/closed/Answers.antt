@@ -1,6 +1,6 @@
 use Rattle.std.proofs.Common.{ap, arith}
 use Rattle.shm_words.specs.declared.geometry.Geometry.{Geometry}
-use Rattle.plain_calls.proofs.QueueReady.{one_not_zero}
+use Rattle.shm_client.proofs.QueueReady.{one_not_zero}
 use Rattle.call_runs.proofs.tables.closed.Goals as goal
 
 pub goes-requires-then-clients-eq2 : goal.goes-requires-then-clients-eq2

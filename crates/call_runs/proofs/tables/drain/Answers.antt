@@ -2,8 +2,7 @@ use Rattle.std.proofs.Common.{refl}
 use Rattle.shm_plain.specs.Pools.{memo_of}
 use Rattle.shm_count.specs.Roots.{member}
 use Rattle.shm_queue.specs.{Drain.{Control.{drain_parts, draining}, drain_plan}, QueueTasks.DrainMay}
-use Rattle.plain_calls.proofs.Running.{plan_may, plan_said}
-use Rattle.table_calls.proofs.Opens.{open_other}
+use Rattle.shm_client.proofs.{Running.{plan_may, plan_said}, Opens.open_other}
 use Rattle.call_runs.proofs.Answered.{drains}
 use Rattle.call_runs.proofs.tables.drain.Goals as goal
 

@@ -1,5 +1,5 @@
 use Rattle.std.proofs.Common.{sym, subst}
-use Rattle.table_calls.specs.Running.{IsOpen}
+use Rattle.shm_client.specs.Running.{IsOpen}
 use Rattle.call_runs.proofs.tables.goes.Goals.{then-clients-eq2+in-Some-Ok, else-clients-eq2}
 use Rattle.call_runs.proofs.tables.goes.Goals as goal
 

@@ -2,8 +2,7 @@ use Rattle.std.proofs.Common.{refl}
 use Rattle.shm_plain.specs.Pools.{memo_of}
 use Rattle.shm_count.specs.Roots.{member}
 use Rattle.shm_recover.specs.{Leave.{Control.leaving, leave_plan}, LeaveTask.LeaveMay}
-use Rattle.plain_calls.proofs.Running.{plan_may}
-use Rattle.table_calls.proofs.Opens.{open_other}
+use Rattle.shm_client.proofs.{Running.plan_may, Opens.open_other}
 use Rattle.call_runs.proofs.tables.leave.Goals as goal
 
 pub run-requires-clause-may : goal.run-requires-clause-may

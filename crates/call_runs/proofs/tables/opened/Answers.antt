@@ -1,9 +1,9 @@
 use Rattle.std.proofs.Common.{◌≡◌, ◌<◌, refl, sym, ap, ◌∙◌, subst, arith, rules, true, length, inl, inr}
 use Rattle.shm_graph.specs.{declared.run.Start.Start, Agents.acts, Runs.first_memo}
 use Rattle.shm_plain.specs.{Pools.memo_of, Tracks.kind_next}
-use Rattle.plain_calls.proofs.{Passing.ready_new, QueueReady.{one_not_zero, zero_not_one}}
-use Rattle.table_calls.specs.Running.{AreOpen, IsOpen}
-use Rattle.table_calls.proofs.Opens.{all_of_one, all_of_two, open_join, open_other}
+use Rattle.shm_client.proofs.{Passing.ready_new, QueueReady.{one_not_zero, zero_not_one}}
+use Rattle.shm_client.proofs.Opens.{all_of_one, all_of_two, open_join, open_other}
+use Rattle.shm_client.specs.Running.{AreOpen, IsOpen}
 use Rattle.call_runs.proofs.tables.opened.Goals.{then-clients-eq2+in_ok-check, else-clients-eq2}
 use Rattle.call_runs.proofs.tables.opened.Goals as goal
 

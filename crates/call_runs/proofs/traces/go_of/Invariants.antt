@@ -1,5 +1,5 @@
 use Rattle.std.proofs.Common.{◌≡◌}
-use Rattle.table_calls.specs.Running.{AreOpen}
+use Rattle.shm_client.specs.Running.{AreOpen}
 use Rattle.call_runs.proofs.traces.go_of.Given as goal
 
 abbrev pub invariant-loop-script : goal.invariant-loop-script

@@ -2,7 +2,7 @@ use Rattle.std.proofs.Common.{◌<◌, Bool, sym, ap, ◌∙◌, subst}
 use Rattle.shm_graph.specs.{declared.{memo.Kind.TheVariants.Recoverer, run.Account.Account}, Agents.{acts, last_agent}}
 use Rattle.shm_graph.specs.Runs.{account_entered, fell_by}
 use Rattle.shm_graph.proofs.Memos.MemoSteps.{acts-died, acts-entered, fell-died}
-use Rattle.shm_work.specs.Working.{ready_account}
+use Rattle.shm_plain.specs.Working.{ready_account}
 use Rattle.shm_pool.specs.{Posts.account_seen, Rules.alone}
 use Rattle.shm_pool.proofs.Posting.{dead_ready}
 use Rattle.shm_pool.proofs.post.note_ready.Goals as goal

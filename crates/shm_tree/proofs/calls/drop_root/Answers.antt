@@ -8,7 +8,7 @@ use Rattle.shm_count.specs.{Roots.{member, root_word}, Tear.Events.frees}
 use Rattle.shm_ref.specs.{declared.drop_root.DropState.DropState, DropRoot.Control.{drop_parts, dropping, drop_steered}}
 use Rattle.shm_ref.specs.{DropRoot.{DropLeaves, drop_plan}, RootTasks.DropMay}
 use Rattle.shm_ref.proofs.RefusedDrops.{spent_some}
-use Rattle.plain_calls.proofs.Running.{plan_may}
+use Rattle.shm_client.proofs.Running.{plan_may}
 use Rattle.shm_tree.specs.{Keeping.IsStill, Working.{IsSameLatch, IsSpent, IsWorking, Reaches}, Falling.AreFalling}
 use Rattle.shm_tree.proofs.Alive.{went_alive, went_dead}
 use Rattle.shm_tree.proofs.Answering.{Answered, alive_died, cause_died, emptied_then, reaches_then, refused_died, within_before, plan_answered}

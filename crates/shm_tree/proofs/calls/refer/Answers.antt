@@ -9,7 +9,7 @@ use Rattle.shm_count.specs.Roots.{member}
 use Rattle.shm_ref.specs.{declared.{answer.SetFault.SetFault, set_ref.SetState.SetState}, RootTasks.SetMay}
 use Rattle.shm_ref.specs.SetRef.{Control.{set_parts, setting, set_steered}, set_plan}
 use Rattle.shm_ref.specs.declared.answer.SetFault.TheVariants as fault
-use Rattle.plain_calls.proofs.{Reaching.{reached_small, reached_whole}, Running.{MachineLeft, plan_may}}
+use Rattle.shm_client.proofs.{Reaching.{reached_small, reached_whole}, Running.{MachineLeft, plan_may}}
 use Rattle.shm_tree.specs.{Bounds.refer_steps, Keeping.side_word, Falling.{AreFalling, IsUnnamed}}
 use Rattle.shm_tree.proofs.{Alive.went_alive, Answering.{Answered, plan_answered}}
 use Rattle.shm_tree.proofs.Refers.{full_within, set_cause, set_full, set_latch, set_reaches, set_refers, set_refused, set_spent, set_within, set_works, spent_within}

@@ -7,7 +7,7 @@ use Rattle.shm_count.specs.{declared.{up_root.RootingState.RootingState, answer.
 use Rattle.shm_count.specs.{ShareTask.ShareMay, UpRoot.Control.{rooting, rooting_parts, rooting_steered}}
 use Rattle.shm_count.specs.UpRoot.{rooting_plan}
 use Rattle.shm_count.specs.declared.answer.ShareFault.TheVariants as fault
-use Rattle.plain_calls.proofs.{Reaching.reached_small, Running.{plan_may, MachineLeft}}
+use Rattle.shm_client.proofs.{Reaching.reached_small, Running.{plan_may, MachineLeft}}
 use Rattle.shm_tree.proofs.{Alive.went_alive, Answering.{Answered, plan_answered}}
 use Rattle.shm_tree.proofs.Shares.{share_cause, share_latch, share_reaches, share_room, share_shared, share_still, share_works}
 use Rattle.shm_tree.proofs.{CutShort.unanswered, SureCalls.share_within, Anytime.always_falls, Harmless.share_keeps}

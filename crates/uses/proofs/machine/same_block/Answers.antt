@@ -4,7 +4,7 @@ use Rattle.shm_graph.specs.{declared.{ask.Me.Me, memo.Memo.Memo}, Core.core}
 use Rattle.shm_plain.specs.{Calls.{Did, IsAtWork}, Pools.memo_of}
 use Rattle.shm_plain.proofs.Answering.{some_map}
 use Rattle.shm_count.specs.Roots.{member, root_word}
-use Rattle.plain_calls.proofs.Running.{PlanLeft, plan_may, plan_said}
+use Rattle.shm_client.proofs.Running.{PlanLeft, plan_may, plan_said}
 use Rattle.uses.specs.declared.machine.CompareState.{CompareState}
 use Rattle.uses.specs.Compare.{CompareMay, compare_plan, comparing, root_of}
 use Rattle.uses.proofs.machine.same_block.Goals.{After-run}

@@ -1,7 +1,7 @@
 use Rattle.std.proofs.{Common.{◌≡◌, ◌<◌, ℕ, refl, sym, ap, ◌∙◌, subst, rules, Ok, Some, inl, inr}, lemmas.Bool.cases_eq}
 use Rattle.shm_graph.specs.declared.{memo.{Memo.Memo, Status.TheVariants.Gone}, run.Start.Start}
 use Rattle.shm_plain.specs.Pools.{memo_of}
-use Rattle.plain_calls.proofs.QueueReady.{clear_join}
+use Rattle.shm_client.proofs.QueueReady.{clear_join}
 use Rattle.uses.proofs.memory.closed_pair.Goals as goal
 
 pub make_pair-requires : goal.make_pair-requires

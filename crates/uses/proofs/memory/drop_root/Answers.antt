@@ -4,7 +4,7 @@ use Rattle.shm_plain.specs.Pools.{memo_of}
 use Rattle.shm_plain.proofs.Calling.{still_kind}
 use Rattle.shm_count.specs.Roots.{member, root_word}
 use Rattle.shm_ref.specs.DropRoot.{Control.{drop_parts, dropping}, drop_plan}
-use Rattle.plain_calls.proofs.Running.{plan_done}
+use Rattle.shm_client.proofs.Running.{plan_done}
 use Rattle.uses.proofs.{Frees.{holds_still, queues_rests}, Names.root_named}
 use Rattle.uses.proofs.memory.drop_root.Goals as goal
 

@@ -4,7 +4,7 @@ use Rattle.shm_plain.proofs.Calling.{still_kind}
 use Rattle.shm_calls.specs.Words.{word_control}
 use Rattle.shm_count.specs.Roots.{member}
 use Rattle.shm_ref.specs.Release.{release_plan, releasing}
-use Rattle.plain_calls.proofs.Running.{plan_done}
+use Rattle.shm_client.proofs.Running.{plan_done}
 use Rattle.uses.proofs.{Done.answered, Frees.{holds_no_more, waiting_rests}, Names.{root_named, still_known}}
 use Rattle.uses.proofs.memory.give_back.Goals as goal
 

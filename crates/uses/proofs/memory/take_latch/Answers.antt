@@ -5,7 +5,7 @@ use Rattle.shm_plain.proofs.Calling.{still_kind}
 use Rattle.shm_calls.specs.Words.{word_control}
 use Rattle.shm_count.specs.Roots.{member}
 use Rattle.shm_ref.specs.Hold.{Control.holding, hold_plan}
-use Rattle.plain_calls.proofs.Running.{plan_done}
+use Rattle.shm_client.proofs.Running.{plan_done}
 use Rattle.uses.proofs.{Done.renamed, Frees.{holds_now, waiting_rests}}
 use Rattle.uses.proofs.memory.take_latch.Goals as goal
 

@@ -6,8 +6,8 @@ use Rattle.shm_plain.proofs.Calling.{answered_is, lives, still_working, went_giv
 use Rattle.shm_count.specs.Roots.{member}
 use Rattle.shm_table.specs.Command.{CommandCall, CommandFits, CommandGives, MayStand, command_control, command_effect, command_of}
 use Rattle.shm_table.specs.Command.Maps.{MapSoFar}
-use Rattle.table_calls.proofs.{RunBegins.{run_fresh, run_latch, run_stands}, RunEvents.run_leaves, RunKeeps.run_keeps}
-use Rattle.table_calls.proofs.RunMaps.{run_maps}
+use Rattle.shm_client.proofs.{RunBegins.{run_fresh, run_latch, run_stands}, RunEvents.run_leaves, RunKeeps.run_keeps}
+use Rattle.shm_client.proofs.RunMaps.{run_maps}
 use Rattle.uses.proofs.Attempts.{acts_still, answered_so, attempts_first, cut_so, first_is, first_of, fits_begun, laws}
 use Rattle.uses.proofs.table.attempt.Goals.{In-Died, In-Done}
 use Rattle.uses.proofs.table.attempt.Goals as goal

@@ -1,10 +1,10 @@
 use Rattle.std.proofs.Common.{sym, ap, ◌∙◌, subst, arith}
 use Rattle.shm_graph.specs.{declared.memo.Memo.Memo, Agents.recovers, Held.is_loose}
 use Rattle.shm_plain.specs.Pools.{Pool, memo_of}
-use Rattle.plain_calls.proofs.QueueReady.{one_not_zero, zero_not_one}
+use Rattle.shm_client.proofs.QueueReady.{one_not_zero, zero_not_one}
+use Rattle.shm_client.specs.Running.{MapSo}
 use Rattle.shm_script.specs.declared.line.Line.TheVariants as line
 use Rattle.shm_table.specs.Command.Maps.{MapSoFar}
-use Rattle.table_calls.specs.Running.{MapSo}
 use Rattle.uses.proofs.Attempts.{fall_other, so_after, work_other}
 use Rattle.uses.proofs.table.put_copy_die.Goals as goal
 

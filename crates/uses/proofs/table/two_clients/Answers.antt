@@ -1,9 +1,8 @@
 use Rattle.std.proofs.Common.{◌≡◌, ◌<◌, true, refl, ap, rules, arith, length, Ok, Some}
 use Rattle.shm_graph.specs.{declared.run.Start.Start, Agents.acts, Runs.first_memo}
 use Rattle.shm_plain.specs.{Pools.memo_of, Tracks.kind_next}
-use Rattle.plain_calls.proofs.{Passing.ready_new, QueueReady.{one_not_zero, zero_not_one}}
-use Rattle.table_calls.specs.Running.{IsOpen}
-use Rattle.table_calls.proofs.Opens.{open_join, open_other}
+use Rattle.shm_client.proofs.{Passing.ready_new, QueueReady.{one_not_zero, zero_not_one}, Opens.{open_join, open_other}}
+use Rattle.shm_client.specs.Running.{IsOpen}
 use Rattle.uses.proofs.table.two_clients.Goals as goal
 
 pub returns-then-join-clause-first : goal.returns-then-join-clause-first

@@ -1,7 +1,7 @@
 use Rattle.std.proofs.Common.{◌≡◌, ℕ, ◌<◌, true, false, sym, ap, ◌∙◌, subst, arith}
 use Rattle.shm_graph.specs.{declared.run.{Account.Account, Start.Start}, Laws.step_of, Runs.{Stood, account_after}}
 use Rattle.shm_graph.specs.Whole.{Learns, fits_now, gives_now}
-use Rattle.shm_work.specs.Working.{ready_account}
+use Rattle.shm_plain.specs.Working.{ready_account}
 use Rattle.shm_pool.specs.{Calls.ClientStepped, Posts.{Knows, account_seen}, Rules.alone, Tokens.{Its, Token}}
 use Rattle.shm_pool.proofs.{Posting.{ready_who, seen_who, stepped_knows}, Seating.seated_on}
 use Rattle.shm_pool.proofs.post.PostWorkplace.step.{Given.Over, Goals.{After-top-2, After-step_place}}

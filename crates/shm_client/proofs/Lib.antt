@@ -1,0 +1,16 @@
+pub mod FirstJoin
+pub mod Fallen
+pub mod JoinEvents
+pub mod AllocRoots
+pub mod Passing
+pub mod Running
+pub mod Reaching
+pub mod JoinLatch
+pub mod QueueReady
+pub mod Falling
+pub mod Cut
+pub mod RunBegins
+pub mod RunEvents
+pub mod RunKeeps
+pub mod RunMaps
+pub mod Opens

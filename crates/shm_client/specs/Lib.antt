@@ -1,0 +1,3 @@
+pub mod Allocating
+pub mod Clear
+pub mod Running
