@@ -22,7 +22,7 @@ for page in ["README.md", *sorted(glob.glob("docs/**/*.md", recursive=True))]:
     for part in re.findall(r"\*\*Wrong ideas\*\*:(.*?)(?:\n\n|$)", text, flags=re.S):
         found += [f"{page}: no edit {name}" for name in re.findall(r"\b[a-z0-9]+(?:_[a-z0-9]+)+\b", part) if name not in edits and name not in words]
     for path in set(re.findall(r"\b(?:crates|docs|examples|tools)/[A-Za-z0-9_/.-]*[A-Za-z0-9_]", text)):
-        if path.rstrip("/") not in files and not any(f.startswith(path) for f in tree) and not re.search(r"\b[A-Z]{4,}\b", path):
+        if "/out/" not in path and path.rstrip("/") not in files and not any(f.startswith(path) for f in tree) and not re.search(r"\b[A-Z]{4,}\b", path):
             found.append(f"{page}: no file {path}")
 print("\n".join(found) if found else "each name of the pages stands in the tree")
 sys.exit(1 if found else 0)

@@ -4,13 +4,13 @@
     python3 tools/refuse.py [FOLDER]
 
 It is run by hand, at the top of the repository, once `rt run` has left the programs crates/cxlshm/out/cxlshm and
-crates/program_runs/out/program_runs (or FOLDER holds them). Requests are calls of the C library's malloc and realloc, numbered from 1 as the
+crates/t_program/out/t_program (or FOLDER holds them). Requests are calls of the C library's malloc and realloc, numbered from 1 as the
 program makes them. Each number is refused alone, and then with all later ones.
 
 - `cxlshm`, for each word of the command line and each kind of input: it has to end with status 6 and nothing written. Where one number alone is
   refused, it may also write what it always writes: the kit's Vec asks for less where it was refused more than it needs, and where a thread can't be
   made the caller does its work.
-- rows `want CALL` of program_runs, for calls of the libraries: each has to answer that it was refused, and a refused `SharedPool::close` has to
+- rows `want CALL` of t_program, for calls of the libraries: each has to answer that it was refused, and a refused `SharedPool::close` has to
   close when it is called again with the pool and the tokens that it gave back.
 
 It prints a line for each case: how many requests there are, and how each number ended. The status is 1 where one ended otherwise.
@@ -131,7 +131,7 @@ def call_case(shim, program, call, given, refused):
 def main():
     folder = sys.argv[1] if len(sys.argv) > 1 else ""
     program = f"{folder}/cxlshm" if folder else "crates/cxlshm/out/cxlshm"
-    rows = f"{folder}/program_runs" if folder else "crates/program_runs/out/program_runs"
+    rows = f"{folder}/t_program" if folder else "crates/t_program/out/t_program"
     with tempfile.TemporaryDirectory() as made:
         shim = build(made)
         image = run(shim, [program, "replay", "--image"], PUT, 0, 0)[1]

@@ -27,7 +27,7 @@ tells_same a t t2 u u2 e f k = subst (λ (x : ℕ). Tells a x u2) e (subst (λ (
 
 module _ (me : Me) where
   -- after t segments of others and u blocks in use, each of the trails answers these and those that it shows
-  abbrev Counts : AllocTrails → ℕ → ℕ → Type 0
+  abbrev pub Counts : AllocTrails → ℕ → ℕ → Type 0
   Counts f t u = (tr : Trail) (a : Result Made AllocFault) → f tr a → Tells a (t + taken_in me tr) (u + used_in me tr)
 
   -- the answer itself, where nothing is asked any more
@@ -55,7 +55,7 @@ module _ (me : Me) where
   -- ---- the making of a block answers no such numbers
 
   -- whatever was counted before, the trails answer no other numbers: they answer none
-  abbrev Never : AllocTrails → Type 0
+  abbrev pub Never : AllocTrails → Type 0
   Never f = (t u : ℕ) → Counts f t u
 
   -- one pair, and what follows
@@ -98,7 +98,7 @@ module _ (me : Me) where
     reference_never (suc n) i e k b = never_asked (Store (b + 2 + i) 0) (λ _. reference_trail me q n (i + 1) e k b) (λ _. reference_never n (i + 1) e k b)
 
     -- the tag
-    block_never : (e k b : ℕ) → Never (block_trail me q e k b)
+    pub block_never : (e k b : ℕ) → Never (block_trail me q e k b)
     block_never e k b = never_asked (Store (b + 1) (tag_asked me.geometry.wide q me.who)) (λ _. reference_trail me q q.refs 0 e k b) (λ _. reference_never q.refs 0 e k b)
 
 -- ---- what each pair counts

@@ -2,3 +2,4 @@ pub mod AllocBound
 pub mod AllocCounting
 pub mod MadeBlocks
 pub mod MadeRoots
+pub mod Searched

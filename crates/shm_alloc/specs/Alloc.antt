@@ -15,6 +15,7 @@ pub mod Tells
 pub mod Keeps
 pub mod Laws
 pub mod Counts
+pub mod Seen
 pub mod Carrying
 pub mod AsPart
 use Rattle.std.specs.Prelude.{Bool, if◌then◌else◌, true, ◌≡◌, ◌≢◌, ℕ, ◌+◌, ◌-◌, ◌/◌, ◌^◌, ◌<◌, ◌≤◌, ◌==◌, Some, None, Result, Ok, Err, List, [], ◌∷◌, ◌++◌, slice_index}

@@ -2,3 +2,4 @@ pub mod Alloc
 pub mod BlockPlaces
 pub mod Operating
 pub mod Turning
+pub mod Hints

@@ -1,6 +1,6 @@
 -- where a search goes by its hint: it stays in the pool, the segment and the page, whatever the hint
-use Rattle.std.proofs.Common.{◌≡◌, ℕ, ◌+◌, ◌-◌, ◌*◌, ◌/◌, ◌%◌, ◌<◌, ◌≤◌, refl, ap, ◌∙◌, arith, Bool, true, false}
-use Rattle.std.proofs.{Math.Nat.add-mul-mod_self_right, lemmas.Bool.{ltb-true, ltb-false}}
+use Rattle.std.proofs.Common.{◌≡◌, ℕ, ◌+◌, ◌-◌, ◌*◌, ◌/◌, ◌%◌, ◌<◌, ◌≤◌, refl, sym, ap, ◌∙◌, arith, Bool, true, false}
+use Rattle.std.proofs.{Math.Nat.add-mul-mod_self_right, lemmas.Bool.{eqb-true, ltb-true, ltb-false}}
 use Rattle.std.proofs.lemmas.Nat.{mod_below, mod-mul-add, div-add-mod'}
 use Rattle.std.specs.Prelude.{◌==◌, nat_lt, if◌then◌else◌}
 use Rattle.shm_graph.specs.declared.ask.Me.{Me}
@@ -23,6 +23,18 @@ turned_below n d j l = go (d == 0)
 pub turned_none : (n j : ℕ) → turned n 0 j ≡ j
 unfolding turned
 turned_none n j = refl
+
+-- a number of them is where the count begins
+pub turned_first : (n d : ℕ) → d < n → turned n d 0 ≡ d
+unfolding turned
+turned_first n d l = go (d == 0) (eqb-true d 0)
+  where
+    zeros : 0 + d ≡ 0 * n + d
+    zeros = omega arith
+
+    go : (b : Bool) → (b ≡ true → d ≡ 0) → (if b then 0 else (0 + d) % n) ≡ d
+    go true e = sym (e refl)
+    go false e = ap (λ x. x % n) zeros ∙ mod-mul-add 0 n d l
 
 -- one more on both sides
 one_on : (a b x : ℕ) → a + b ≡ x → x + 1 ≡ a + (b + 1)

@@ -6,14 +6,16 @@
 pub mod alloc;
 pub mod answers;
 pub mod events;
+pub mod hint;
 pub mod lasting;
 pub mod point;
 pub mod request;
 pub mod starts;
 
 pub use alloc::{Alloc, AllocFault, TooLarge};
-pub use answers::{alloc_bound, alloc_trails, search_goes_to_each};
+pub use answers::{alloc_bound, alloc_trails, search_finds_none, search_goes_to_each};
 pub use events::alloc_own_events;
+pub use hint::Hint;
 pub use lasting::{alloc_in_call, alloc_keeps, alloc_lasts, alloc_least_root, made_may_be_raised};
 pub use point::{AllocNext, AllocPoint, AllocState, Goal, Search};
 pub use request::{Near, Request};

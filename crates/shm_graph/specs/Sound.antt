@@ -1,5 +1,5 @@
 -- what a pool that is at work promises in any state: the part of the invariant that speaks for itself
-use Rattle.std.specs.Prelude.{◌≡◌, ◌≢◌, ℕ, ◌+◌, ◌%◌, ◌<◌, true, false, []}
+use Rattle.std.specs.Prelude.{◌≡◌, ◌≢◌, ℕ, ◌+◌, ◌%◌, ◌<◌, ◌≤◌, true, false, []}
 use Rattle.shm_words.specs.{declared.geometry.Geometry.Geometry, Headers.header_of, Tags.tag_author}
 use Rattle.shm_graph.specs.declared.spot.Spot.{Spot}
 use Rattle.shm_graph.specs.declared.spot.Spot.TheVariants.{Status, Redo, RedoMore, Hold, Latch, Home, Era, Root, Tail, QueueHead, Slot, Segment, Page, Unused, Head, Tag, Body}
@@ -20,7 +20,7 @@ pub record IsGone (g : Geometry) (w : Spot → ℕ) (v : View) (c : ℕ) : Type 
   pub sends : (r : ℕ) → r < g.clients → r ≢ c → w (Tail c r) < w (QueueHead c r) + 8 → targets g w v (Slot c r (w (Tail c r) % 8)) ≡ 0
   pub takes : (s : ℕ) → s < g.clients → s ≢ c → w (QueueHead s c) < w (Tail s c) → targets g w v (Slot s c (w (QueueHead s c) % 8)) ≢ 0
 
--- Memos show what the words say; words of pages without a class are 0; counts are numbers of references; eras are in order; queues agree with what was sent and received; who is gone has nothing left; and no word is two identities' to store
+-- Memos show what the words say; words of pages without a class are 0; counts are numbers of references; eras are in order, and own eras at least 1; queues agree with what was sent and received; who is gone has nothing left; and no word is two identities' to store
 pub record IsSound (g : Geometry) (w : Spot → ℕ) (v : View) : Type 0 where
   pub mine : (c : ℕ) → c < g.clients → (p : Spot) → owner_is c p ≡ true → own_word (v.own c) p ≡ w p
   pub state : (c : ℕ) → c < g.clients → status_word (v.status c) ≡ w (Status c)
@@ -32,6 +32,7 @@ pub record IsSound (g : Geometry) (w : Spot → ℕ) (v : View) : Type 0 where
   pub unused : (a : ℕ) → w (Unused a) ≡ 0
   pub count : CountSound g (λ s q. w (Page s q)) (λ b. header_of (w (Head b))) (targets g w v) (held_overs v)
   pub era : EraSound g.clients (λ b. header_of (w (Head b))) (λ i j. w (Era i j)) (ons v)
+  pub own : (c : ℕ) → c < g.clients → 1 ≤ w (Era c c)
   pub op : (c : ℕ) → c < g.clients → OpTie g (λ s q. w (Page s q)) (w (Redo c)) (w (RedoMore c)) (w (Era c c)) (words_of g.wide w) (v.op c)
   pub looks : (c : ℕ) → c < g.clients → LooksSound (λ a. targets g w v (Home a)) (λ b i. targets g w v (Body b i)) (λ b. tag_author g.wide (w (Tag b))) (v.latch c) (named_by (targets g w v) (λ s r. w (Tail s r)) (λ s r. w (QueueHead s r)) c) [] (v.looks c)
   pub parts : (c d : ℕ) → c < g.clients → d < g.clients → is_loose (v.part c) ≡ is_loose (v.part d)

@@ -1,20 +1,16 @@
 -- the replay of a trace
-use Rattle.std.specs.{Prelude.{◌≡◌, ℕ, ◌<◌, ◌==◌, if◌then◌else◌, true, List, [], ◌∷◌}, List.AllByRecursion}
+use Rattle.std.specs.{Prelude.{◌≡◌, ℕ, ◌<◌, List}, List.AllByRecursion}
 use Rattle.std.specs.FinMap as finmap
 use Rattle.shm_graph.specs.{declared.{run.Start.Start, table.Entry.Entry}, Spots.see, Tables.{IsTable, map_of}}
 use Rattle.shm_plain.specs.{Pools.{Pool, first_pool}, Closings.IsClosedRun}
-use Rattle.shm_script.specs.{Logged.{Logged, Table, fold_of}, Values.Traced}
+use Rattle.shm_script.specs.{Logged.Logged, Values.Traced}
+pub use Rattle.shm_script.specs.Logged.{fold_in}
 use Rattle.shm_agents.specs.Logs.{AreLogs, AreUnspent}
 use Rattle.shm_replay.specs.{Orders.IsGivenAll, Closings.AreVisits}
 
 -- the pool of a trace: of its format and its sizes, made for tables, and its first eras are 1
 abbrev pub start_of : Traced → Start
 start_of t = record { geometry = record { clients = t.clients; segments = t.segments; wide = t.wide }; first_era = 1; tables = true }
-
--- the map that the log of an identity leaves; the empty one where no log is of it
-abbrev pub fold_in : List Logged → ℕ → Table
-fold_in [] c = finmap.empty
-fold_in (l ∷ ls) c = if l.client == c then fold_of l else fold_in ls c
 
 -- The closed pool p is what the run of the trace leaves, and these are its logs: its turns are those that the trace gives, and then each identity is visited; no command was refused for a spent era; each map of the table that its words hold is the fold of the identity's log
 pub record IsReplay (t : Traced) (p : Pool) (ls : List Logged) : Type 0 where

@@ -1,5 +1,5 @@
 -- Logs without where they lie in memory, and what a log makes of a map.
-use Rattle.std.specs.{Prelude.{ℕ, List, [], ◌∷◌}, Ordering.nat_cmp}
+use Rattle.std.specs.{Prelude.{ℕ, List, [], ◌∷◌, ◌==◌, if◌then◌else◌}, Ordering.nat_cmp}
 use Rattle.std.specs.FinMap as map
 use Rattle.shm_script.specs.declared.{line.Line.Line, log.{Answer.Answer, Entry.Entry, End.End}}
 use Rattle.shm_script.specs.declared.line.Line.TheVariants as lines
@@ -31,3 +31,8 @@ folded (e ∷ es) m = folded es (table_after e.line e.answer m)
 -- the map that a log leaves, from the empty one
 abbrev pub fold_of : Logged → Table
 fold_of l = folded l.entries map.empty
+
+-- the map that the log of an identity leaves; the empty one where no log is of it
+abbrev pub fold_in : List Logged → ℕ → Table
+fold_in [] c = map.empty
+fold_in (l ∷ ls) c = if l.client == c then fold_of l else fold_in ls c

@@ -81,10 +81,10 @@ faulty_more me (Some f) tr t h = shows_more me (fault_answer f) tr t h
 
 -- ---- allocations and count steps
 
-pub alloc_shows : (me : Me) (q : Request) (f : AllocFault) (tr t : Trail) → alloc_trail me q t (Err f) → Shows me (fault_answer (made_fault f)) (tr ++ t)
-alloc_shows me q (alloc.EraSpent e) tr t h = shows_later me (answer.EraSpent e) tr t (alloc_era me q t e h)
-alloc_shows me q alloc.RootsFull tr t h = shows_later me answer.RootsFull tr t (alloc_roots me q t h)
-alloc_shows me q (alloc.Full s b) tr t h = (tr, t, [], ap (λ (u : Trail). tr ++ u) (sym (append-nil t)), (q, h))
+pub alloc_shows : (me : Me) (q : Request) (f : AllocFault) (tr t : Trail) → q.near ≡ record { segment = 0; page = 0; index = 0 } → alloc_trail me q t (Err f) → Shows me (fault_answer (made_fault f)) (tr ++ t)
+alloc_shows me q (alloc.EraSpent e) tr t near h = shows_later me (answer.EraSpent e) tr t (alloc_era me q t e h)
+alloc_shows me q alloc.RootsFull tr t near h = shows_later me answer.RootsFull tr t (alloc_roots me q t h)
+alloc_shows me q (alloc.Full s b) tr t near h = (tr, t, [], ap (λ (u : Trail). tr ++ u) (sym (append-nil t)), (q, near, h))
 
 pub step_shows : (me : Me) (own : Me) (slot : ℕ) (x : Aim) (f : UpFault) (tr t : Trail) → own ≡ me → step_trail own slot x t (Err f) → Shows me (fault_answer (raised_fault f)) (tr ++ t)
 step_shows me own slot x (up.EraSpent e) tr t k h = shows_later me (answer.EraSpent e) tr t (subst (λ y. LoadsEra y e t) k (step_era own slot x t e h))

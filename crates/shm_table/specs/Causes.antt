@@ -17,10 +17,10 @@ LoadsEra me e tr = Contains tr (pair (Load (address me.geometry (place.Era me.wh
 abbrev pub LoadsRoot : Me → ℕ → Trail → Type 0
 LoadsRoot me j tr = (n : ℕ) × (n ≢ 0) × Contains tr (pair (Load (address me.geometry (place.Root me.who j))) n)
 
--- The era that was spent was read; each own root was read and names a block; a full count was read in a header of the block that is answered; where no block was free, a part of the trail is that of a whole allocation that answers these numbers
+-- The era that was spent was read; each own root was read and names a block; a full count was read in a header of the block that is answered; where no block was free, a part of the trail is that of a whole allocation without a hint that answers these numbers
 abbrev pub Shows : Me → Answer → Trail → Type 0
 Shows me (answer.EraSpent e) tr = LoadsEra me e tr
 Shows me answer.RootsFull tr = (j : ℕ) → j < 16 → LoadsRoot me j tr
 Shows me (answer.CountFull b n) tr = ReadsCount b n tr
-Shows me (answer.Full s b) tr = (before : Trail) × (middle : Trail) × (after : Trail) × (tr ≡ before ++ (middle ++ after)) × ((q : Request) × alloc_trail me q middle (Err (alloc.Full s b)))
+Shows me (answer.Full s b) tr = (before : Trail) × (middle : Trail) × (after : Trail) × (tr ≡ before ++ (middle ++ after)) × ((q : Request) × (q.near ≡ record { segment = 0; page = 0; index = 0 }) × alloc_trail me q middle (Err (alloc.Full s b)))
 Shows me a tr = Unit {0}

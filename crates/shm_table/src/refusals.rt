@@ -125,8 +125,8 @@ pub fn taken_back()
 
 /// What the whole trail of a command shows of its refusals. The era that is answered as spent was read as the own era. Where all roots were set,
 /// each own root was read and named a block. A count that is answered as full was read in a header of the block that is answered. Where no block
-/// was free, a part of the trail is that of a whole allocation that found none, and the numbers are those of the segments of others and of the
-/// blocks in use that it shows.
+/// was free, a part of the trail is that of a whole allocation without a hint that found none, and the numbers are those of the segments of others
+/// and of the blocks in use that it shows.
 pub fn refusal_trails()
     ensures put { (me : AMe) (key n : ℕ) (tr : Trail) (a : AnAnswer) → plan_trail put_plan (putting me key n) tr a → Shows me a tr }
     ensures copy { (me : AMe) (key b other : ℕ) (tr : Trail) (a : AnAnswer) → plan_trail copy_plan (copying me key b other) tr a → Shows me a tr }
@@ -136,5 +136,5 @@ pub fn refusal_trails()
     ensures spent { (me : AMe) (e : ℕ) (tr : Trail) → Shows me (answer.EraSpent e) tr → Contains tr (pair (Load (address me.geometry (place.Era me.who me.who))) e) }
     ensures roots { (me : AMe) (tr : Trail) → Shows me answer.RootsFull tr → (j : ℕ) → j < 16 → (n : ℕ) × (n ≢ 0) × Contains tr (pair (Load (address me.geometry (place.Root me.who j))) n) }
     ensures count { (me : AMe) (b n : ℕ) (tr : Trail) → Shows me (answer.CountFull b n) tr → ReadsCount b n tr }
-    ensures full { (me : AMe) (s b : ℕ) (tr : Trail) → me.who < me.geometry.clients → Shows me (answer.Full s b) tr → (before middle after : Trail) × (tr ≡ before ++ (middle ++ after)) × ((q : ARequest) × alloc_trail me q middle (Err (alloc_fault.Full s b))) × (s ≡ taken_in me middle) × (b ≡ used_in me middle) }
+    ensures full { (me : AMe) (s b : ℕ) (tr : Trail) → me.who < me.geometry.clients → Shows me (answer.Full s b) tr → (before middle after : Trail) × (tr ≡ before ++ (middle ++ after)) × ((q : ARequest) × (q.near ≡ record { segment = 0; page = 0; index = 0 }) × alloc_trail me q middle (Err (alloc_fault.Full s b))) × (s ≡ taken_in me middle) × (b ≡ used_in me middle) }
 {}

@@ -102,6 +102,7 @@ module _ (g : Geometry) (w : Spot → ℕ) (v : View) (h : HeldAt g w v) where
         unused = h.unused;
         count = h.count;
         era = h.era;
+        own = λ c l. (h.own c l).some;
         op = h.op;
         looks = h.looks;
         parts = h.parts;

@@ -206,7 +206,7 @@ module _ (me : Me) where
   put_shows p t a = along_plan put_plan (λ p tr. (p.me ≡ me) × Faulty me p.refused tr) (Shows me) (λ p tr t b k h. go p p.point tr t b k h) p t a
     where
       made : (p : PutState) (y : PutPoint) (f : AllocFault) (tr t : Trail) → p.me ≡ me → put_part.asks (put_call_at p y) t (First (Err f)) → Shows me (fault_answer (made_fault f)) (tr ++ t)
-      made p put.Make f tr t k h = subst (λ x. Shows x (fault_answer (made_fault f)) (tr ++ t)) k (alloc_shows p.me (value_request p.number) f tr t h)
+      made p put.Make f tr t k h = subst (λ x. Shows x (fault_answer (made_fault f)) (tr ++ t)) k (alloc_shows p.me (value_request p.number) f tr t refl h)
       made p put.Put f tr t k h = absurd h
       made p put.Drop f tr t k h = absurd h
 

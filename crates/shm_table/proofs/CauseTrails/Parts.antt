@@ -144,7 +144,7 @@ module _ (me : Me) where
   open_shows p t a is = along_plan open_plan (λ p tr. p.me ≡ me) Opened (λ p tr t b k h. go p p.point tr t b k h) p t a is
     where
       made : (p : OpenState) (y : OpenPoint) (f : AllocFault) (tr t : Trail) → p.me ≡ me → (open_plan.part (record p { point = y })).asks (open_call_at p y) t (Second (First (Err f))) → Shows me (fault_answer (made_fault f)) (tr ++ t)
-      made p open_point.Make f tr t k h = subst (λ x. Shows x (fault_answer (made_fault f)) (tr ++ t)) k (alloc_shows p.me directory_request f tr t h)
+      made p open_point.Make f tr t k h = subst (λ x. Shows x (fault_answer (made_fault f)) (tr ++ t)) k (alloc_shows p.me directory_request f tr t refl h)
       made p open_point.Look f tr t k h = absurd h
       made p open_point.Name f tr t k h = absurd h
       made p open_point.Drop f tr t k h = absurd h
@@ -181,7 +181,7 @@ module _ (me : Me) where
   enter_shows p t a is = along_plan enter_plan (λ p tr. p.me ≡ me) EnteredSo (λ p tr t b k h. go p p.point tr t b k h) p t a is
     where
       made : (p : EnterState) (y : EnterPoint) (f : AllocFault) (tr t : Trail) → p.me ≡ me → (enter_part p y).asks (enter_call_at p y) t (First (Err f)) → Shows me (fault_answer (made_fault f)) (tr ++ t)
-      made p enter.Make f tr t k h = subst (λ x. Shows x (fault_answer (made_fault f)) (tr ++ t)) k (alloc_shows p.me (entry_request p.key) f tr t h)
+      made p enter.Make f tr t k h = subst (λ x. Shows x (fault_answer (made_fault f)) (tr ++ t)) k (alloc_shows p.me (entry_request p.key) f tr t refl h)
       made p enter.Value f tr t k h = absurd h
       made p enter.Next f tr t k h = absurd h
       made p enter.Link f tr t k h = absurd h

@@ -31,5 +31,5 @@ returns-clause-count c me b n tr h = h
 
 pub returns-clause-full : goal.returns-clause-full
 returns-clause-full c me s b tr who (before, middle, after, split, found) =
-    let counts = alloc_counts me found.0 who middle s b found.1 in
+    let counts = alloc_counts me found.0 who middle s b found.2 in
     (before, middle, after, split, found, counts.0, counts.1)

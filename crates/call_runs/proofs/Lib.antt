@@ -1,4 +1,0 @@
-pub mod Knowing
-pub mod Answered
-pub mod Stands
-pub mod Naming

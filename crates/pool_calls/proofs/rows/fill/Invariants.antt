@@ -1,6 +1,0 @@
-use Rattle.std.proofs.Common.{◌≡◌}
-use Rattle.shm_pool.specs.Called.{Rests}
-use Rattle.pool_calls.proofs.rows.fill.Given as goal
-
-abbrev pub invariant-loop-made : goal.invariant-loop-made
-invariant-loop-made l = (l.client.of ≡ l.initial.client.of) × Rests l.client

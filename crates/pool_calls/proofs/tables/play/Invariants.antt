@@ -1,5 +1,0 @@
-use Rattle.pool_calls.specs.Tables.{IsOpen, Stays}
-use Rattle.pool_calls.proofs.tables.play.Given as goal
-
-abbrev pub invariant-loop-round : goal.invariant-loop-round
-invariant-loop-round l = Stays l.initial.client l.client × IsOpen l.client

@@ -1,7 +1,0 @@
-use Rattle.std.proofs.Common.{sym, subst}
-use Rattle.pool_calls.specs.Clients.{AllFirst}
-use Rattle.pool_calls.proofs.FirstTokens.{all_first}
-use Rattle.pool_calls.proofs.team.run_two.Goals as goal
-
-pub pop_of-requires : goal.pop_of-requires
-pop_of-requires g c = subst (AllFirst c.in_ok-pool.pool) (sym c.in_ok-pool.ensures.tokens) (all_first c.in_ok-pool.pool 0 c.args.geometry.clients)

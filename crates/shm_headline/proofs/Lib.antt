@@ -1,0 +1,9 @@
+pub mod Committed
+pub mod Named
+pub mod Exact
+pub mod Moves
+pub mod Led
+pub mod Steps
+pub mod Working
+pub mod Going
+pub mod Deaths

@@ -1,0 +1,5 @@
+pub mod Answered
+pub mod Knowing
+pub mod Naming
+pub mod Plans
+pub mod Stands

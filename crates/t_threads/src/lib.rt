@@ -1,0 +1,12 @@
+//! Tests of what runs on threads or is polled: clients of a pool that threads share, one that dies between two word steps, traces run by clients
+//! beside each other, clients as futures that are polled by hand, and corpses that go through a morgue.
+#![tactic(auto)]
+
+#[cfg(test)]
+mod morgue;
+#[cfg(test)]
+mod polls;
+#[cfg(test)]
+mod pools;
+#[cfg(test)]
+mod team;

@@ -1,0 +1,205 @@
+//! A put, whose client is polled, and given up between two polls.
+
+ghost use Rattle.std.specs.Prelude.{◌≡◌, ◌≤◌, IfSome, true};
+ghost use Rattle.shm_script.specs.Ranges.{ScriptFits};
+ghost use Rattle.shm_pool.specs.Tokens.{token_first};
+
+use shm_async::{Finish, IdentityFuture, Token, run_async, run_limited};
+use shm_audit::{Verdict, audit, write_image};
+use shm_pool::{SharedPool, Vacant};
+use shm_script::{End, Script, Trace, parse};
+use shm_words::Geometry;
+use std::alloc::{AllocError, AllocGlobal, Global};
+use std::random::RandomSource;
+use std::sync::Wait;
+use std::test::Fail;
+use t_pool::team::pop_of;
+
+/// How a client was polled: how many polls it took, unless it was given up, and what it gave.
+#[derive(Drop)]
+struct Polled {
+    ready: bool,
+    polls: u32,
+    finish: Finish,
+}
+
+/// Polls the client of a script with `q` turns each, `limit` times at most, and gives it up then.
+fn poll_client(
+    alloc: Global,
+    pool: &SharedPool,
+    token: Vacant,
+    script: &Script,
+    q: u32,
+    limit: u32,
+) -> Option<Polled>
+    requires turns { 1 ≤ q }
+    requires token { token ≡ token_first pool.now token.account.who }
+    requires era { pool.now.start.first_era ≡ 1 }
+    requires tables { pool.now.start.tables ≡ true }
+    requires client { script.now.client ≡ token.account.who }
+    requires script { ScriptFits pool.now.start.geometry.clients script.now }
+{
+    let mut future = match IdentityFuture::new(alloc, pool, token, script, q) {
+        Ok(future) => future,
+        Err(_) => return None,
+    };
+    for polls in 0..limit {
+        if let Some(finish) = future.advance() {
+            return Some(Polled {
+                ready: true,
+                polls,
+                finish,
+            });
+        }
+    }
+    let finish = future.cancel()?;
+    Some(Polled {
+        ready: false,
+        polls: limit,
+        finish,
+    })
+}
+
+/// The same of the first script of a trace, whose client is the last one of the pool.
+fn poll_trace(
+    alloc: Global,
+    trace: &Trace,
+    q: u32,
+    limit: u32,
+) -> Result<Option<Polled>, AllocError>
+    requires { 1 ≤ q }
+{
+    let Ok(geometry) = Geometry::new(trace.clients, trace.segments) else {
+        return Ok(None);
+    };
+    let (pool, mut all) = SharedPool::make(alloc, geometry, 1, true)?;
+    let (Some(token), Some(script)) = (pop_of(&pool, &mut all), trace.scripts.first()) else {
+        return Ok(None);
+    };
+    // for the proof: its scripts are in their ranges
+    trace.in_grammar();
+    if script.client != token.client() {
+        return Ok(None);
+    }
+    Ok(poll_client(alloc, &pool, token, script, q, limit))
+}
+
+/// Whether a put with these lives, polled with `q` turns each and given up after `limit` polls, took so many polls, and ended so; and whether a corpse was left.
+fn is_polled(
+    alloc: Global,
+    text: &[u8],
+    turns: (u32, u32),
+    ready: Option<u32>,
+    end: End,
+    corpse: bool,
+) -> Result<bool, AllocError>
+    requires { 1 ≤ turns.0 }
+{
+    let Ok(trace) = parse(alloc, text) else {
+        return Ok(false);
+    };
+    let Some(polled) = poll_trace(alloc, &trace, turns.0, turns.1)? else {
+        return Ok(false);
+    };
+    let in_time = match ready {
+        Some(polls) => polled.ready && polled.polls == polls,
+        None => !polled.ready,
+    };
+    let left = matches!(polled.finish.token, Token::Corpse(_)) == corpse;
+    Ok(in_time && left && polled.finish.log.end == end)
+}
+
+const PUT: &[u8] = b"pool 1 1\nclient 0\nput 5 77\n";
+
+const DIES: &[u8] = b"pool 1 1\nclient 0\nlife 88 5 5\nput 5 77\n";
+
+const UNDONE: End = End::Died {
+    finished: 0,
+    done: false,
+};
+
+const DONE: End = End::Died {
+    finished: 0,
+    done: true,
+};
+
+// a join takes one word step, the put of a first key 105, whose 87th decides it, and the leaving 19: 125 turns in all
+#[test]
+fn a_put_is_ready_at_the_18th_poll_of_seven(rt: HostRuntime) -> Result<(), Fail> {
+    assert!(rt; is_polled(rt.alloc(), PUT, (7, 100), Some(17), End::Ended, false)?);
+    assert!(rt; is_polled(rt.alloc(), PUT, (125, 1), Some(0), End::Ended, false)?);
+    Ok(())
+}
+
+// 88 word steps and a death, twice 5 and a death, and a recovery: 210 turns, as an independent implementation counts them
+#[test]
+fn a_client_that_dies_is_recovered_in_its_polls(rt: HostRuntime) -> Result<(), Fail> {
+    assert!(rt; is_polled(rt.alloc(), DIES, (1, 1_000), Some(209), DONE, false)?);
+    Ok(())
+}
+
+#[test]
+fn a_client_is_given_up(rt: HostRuntime) -> Result<(), Fail> {
+    assert!(rt; is_polled(rt.alloc(), PUT, (8, 11), None, DONE, true)?);
+    assert!(rt; is_polled(rt.alloc(), PUT, (87, 1), None, UNDONE, true)?);
+    assert!(rt; is_polled(rt.alloc(), PUT, (7, 0), None, UNDONE, false)?);
+    Ok(())
+}
+
+/// What a trace of one client leaves that is polled with `q` turns each, and cut after `limit` polls if there is a limit: how the client
+/// ended, and how many live blocks there are, and references.
+fn poll_run<R: Wait + RandomSource + AllocGlobal>(
+    rt: &R,
+    text: &[u8],
+    q: u32,
+    limit: Option<u32>,
+) -> Result<Option<(End, u64, u64)>, AllocError>
+    requires turns { (1 ≤ q) × (q ≤ 1000000) }
+    requires polls { IfSome limit (λ n. (1 ≤ n) × (n ≤ 1000000)) }
+{
+    let alloc = rt.alloc();
+    let Ok(trace) = parse(alloc, text) else {
+        return Ok(None);
+    };
+    let Ok(geometry) = Geometry::new(1, 1) else {
+        return Ok(None);
+    };
+    let polled = match limit {
+        None => run_async(rt, alloc, &trace, q)?,
+        Some(limit) => run_limited(rt, alloc, &trace, q, limit)?,
+    };
+    let Some(log) = polled.logs.first() else {
+        return Ok(None);
+    };
+    let words = polled.closed.words();
+    if words.len() != geometry.total() as usize {
+        return Ok(None);
+    }
+    let image = write_image(alloc, geometry, words)?;
+    Ok(match audit(alloc, image.as_slice()) {
+        Ok(Verdict::Clean { live, refs }) => Some((log.end, live as u64, refs as u64)),
+        _ => None,
+    })
+}
+
+// what a replay of these traces leaves too: the put's value, its table and the home of the client
+#[test]
+fn an_executor_polls_a_trace(rt: HostRuntime) -> Result<(), Fail> {
+    assert_eq!(rt; poll_run(&rt, PUT, 7, None)?, Some((End::Ended, 3, 3)));
+    assert_eq!(rt;
+        poll_run(&rt, PUT, 1_000_000, None)?,
+        Some((End::Ended, 3, 3))
+    );
+    assert_eq!(rt; poll_run(&rt, DIES, 1, None)?, Some((DONE, 3, 3)));
+    Ok(())
+}
+
+// what a replay with the life lines 88 and 87 leaves, and one without; and with `life 88 5 5` the second recoverer is cut
+#[test]
+fn a_client_is_cut_after_so_many_polls(rt: HostRuntime) -> Result<(), Fail> {
+    assert_eq!(rt; poll_run(&rt, PUT, 8, Some(11))?, Some((DONE, 3, 3)));
+    assert_eq!(rt; poll_run(&rt, PUT, 87, Some(1))?, Some((UNDONE, 1, 1)));
+    assert_eq!(rt; poll_run(&rt, PUT, 125, Some(1))?, Some((End::Ended, 3, 3)));
+    assert_eq!(rt; poll_run(&rt, DIES, 49, Some(2))?, Some((DONE, 3, 3)));
+    Ok(())
+}

@@ -1,5 +1,0 @@
-use Rattle.shm_tree.specs.ScriptTexts.{IsScript}
-use Rattle.tree_runs.proofs.lives.Given as goal
-
-abbrev pub invariant-loop-steps : goal.invariant-loop-steps
-invariant-loop-steps l = IsScript l.script

@@ -1,6 +1,0 @@
-use Rattle.std.proofs.Common.{◌*◌}
-use Rattle.uses.proofs.Polls.{IsPolling}
-use Rattle.uses.proofs.polled.play.Given as goal
-
-abbrev pub invariant-loop : goal.invariant-loop
-invariant-loop l = IsPolling l.pool l.script l.q (l.q * l.counter) l.future

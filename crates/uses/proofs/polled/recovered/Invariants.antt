@@ -1,8 +1,0 @@
-use Rattle.uses.proofs.Polls.{IsRescuing}
-use Rattle.uses.proofs.polled.recovered.Given as goal
-
-abbrev pub invariant-loop-given : goal.invariant-loop-given
-invariant-loop-given l = IsRescuing l.pool l.fn.corpse.account.who l.future
-
-abbrev pub decreases-loop-given : goal.decreases-loop-given
-decreases-loop-given l = l.future.life.left
