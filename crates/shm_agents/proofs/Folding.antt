@@ -12,7 +12,7 @@ use Rattle.shm_script.specs.Logged.{Table, folded, table_after}
 use Rattle.shm_script.specs.declared.log.Answer.TheVariants as answer
 use Rattle.shm_script.specs.declared.line.Line.TheVariants as line
 use Rattle.shm_table.specs.{declared.answer.PutFault.PutFault, Command.{CommandGives, command_of}}
-use Rattle.shm_table.specs.Command.Laws.{copies_give, dels_give, gets_give, puts_give, recvs_give, sends_give}
+use Rattle.shm_table.specs.Proved.Command.Laws.{copies_give, dels_give, gets_give, puts_give, recvs_give, sends_give}
 use Rattle.shm_table.specs.{Commands.CommandCause, CopyKey.{Control.copying, CopyLeaves}, Del.Control.deleting}
 use Rattle.shm_table.specs.{Del.DelLeaves, Get.{Control.getting, GetLeaves, Visited}, Put.{Control.putting, PutLeaves}}
 use Rattle.shm_table.specs.{PutRoot.IsEraSpent, RecvKey.{Control.receiving_key, ItemTaken, ReceivedIn, RecvLeaves}}

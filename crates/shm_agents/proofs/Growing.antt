@@ -67,10 +67,6 @@ begun_end line [] b = refl
 begun_end line (x ∷ []) b = refl
 begun_end line (x ∷ y ∷ begun) b = ap (λ (zs : List (List (List ℕ))). x ∷ zs) (begun_end line (y ∷ begun) b)
 
-pub told_rest : (line : List ℕ) (tr : List Seen) (finished : Bool) (told : List LoggedLine) → (rest : List LoggedLine) × (told_by line tr finished told ≡ told ++ rest)
-told_rest [] tr finished told = ([], sym (append-nil told))
-told_rest (x ∷ xs) tr finished told = (record { line = x ∷ xs; trail = tr; finished = finished } ∷ [], refl)
-
 -- ---- the log
 
 module _ (me : Me) (s : Scripted) (life life' : ℕ) (as_long : life' ≡ life) (agents agents' : List Agent) (begun begun' : List (List (List ℕ))) (told told' : List LoggedLine) (l : Logged) (began : (n : ℕ) (f : Fate) → BeganWith agents n f → BeganWith agents' n f)

@@ -13,12 +13,12 @@ use Rattle.shm_graph.specs.{Views.own_word, Whole.{fits_now, gives_now}}
 use Rattle.shm_graph.specs.declared.memo.Fate.TheVariants as fate
 use Rattle.shm_graph.proofs.{Machines.TellsAlong.after_all-append, Memos.MemoSteps.{agents_after, recovers-entered}}
 use Rattle.shm_calls.specs.{declared.or.Or.TheVariants.{First, Second}, CallsControl.{calls_control, calls_of}}
-use Rattle.shm_calls.specs.{CallsKeep.calls_begin, Either.or_control}
+use Rattle.shm_calls.specs.{Proved.CallsKeep.calls_begin, Either.or_control}
 use Rattle.shm_count.specs.{declared.answer.EraSpent.EraSpent, Steady.SameTable}
 use Rattle.shm_recover.specs.{Join.join_control, Leave.Control.{leave_parts, leave_steered}}
 use Rattle.shm_recover.specs.Machines.Recovering.{RecoverGives}
 use Rattle.shm_recover.specs.Recover.Control.{recover_line, recover_parts, recovering as recover_state, recover_steered}
-use Rattle.shm_recover.specs.Recover.{recover_plan, Laws.recover_begin}
+use Rattle.shm_recover.specs.{Recover.recover_plan, Proved.Recover.Laws.recover_begin}
 use Rattle.shm_recover.proofs.Steady.{recover_steady}
 use Rattle.shm_script.specs.Values.{Scripted}
 use Rattle.shm_table.specs.Command.{command_control}

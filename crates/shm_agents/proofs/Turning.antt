@@ -12,7 +12,7 @@ use Rattle.shm_graph.proofs.Memos.MemoSteps.{last-append}
 use Rattle.shm_plain.specs.{Tracks.kind_next, Working.{IsWorkOf, MayWork, ready_account}}
 use Rattle.shm_calls.specs.declared.or.Or.TheVariants.{First, Second}
 use Rattle.shm_count.specs.declared.answer.EraSpent.{EraSpent}
-use Rattle.shm_recover.specs.Join.{JoinGives, join_fresh, Keeps.join_begins}
+use Rattle.shm_recover.specs.{Join.{JoinGives, join_fresh}, Proved.Join.Keeps.join_begins}
 use Rattle.shm_script.specs.{declared.{line.Line.Line, log.{Answer.Answer, Entry.Entry}}, Ranges.LineFits}
 use Rattle.shm_script.specs.Values.{Scripted}
 use Rattle.shm_script.specs.declared.log.End.TheVariants as end

@@ -6,7 +6,7 @@ use Rattle.shm_script.specs.declared.{line.Line.Line, log.{Answer.Answer, Entry.
 use Rattle.shm_script.specs.declared.line.Line.TheVariants as line
 use Rattle.shm_script.specs.declared.log.Answer.TheVariants as answer
 use Rattle.shm_table.specs.Command.{CommandCall, CommandGives, command_effect, command_of}
-use Rattle.shm_table.specs.Command.Laws.{copies_give, dels_give, gets_give, puts_give, recvs_give, sends_give}
+use Rattle.shm_table.specs.Proved.Command.Laws.{copies_give, dels_give, gets_give, puts_give, recvs_give, sends_give}
 use Rattle.shm_table.specs.{CopyKey.{Control.copying, CopyLeaves}, Del.{Control.deleting, DelLeaves}}
 use Rattle.shm_table.specs.{Get.{Control.getting, GetLeaves}, Put.{Control.putting, PutLeaves}}
 use Rattle.shm_table.specs.{RecvKey.{Control.receiving_key, RecvLeaves}, SendKey.{Control.sending_key, SendKeyLeaves}}

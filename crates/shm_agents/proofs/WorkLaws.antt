@@ -4,27 +4,30 @@ use Rattle.std.specs.{Prelude.{Some, slice_get}, List.AllByRecursion}
 use Rattle.shm_words.specs.Layout.{GeometryFits}
 use Rattle.shm_graph.specs.{declared.{ask.Me.Me, memo.Memo.Memo}, Laws.Laws}
 use Rattle.shm_calls.specs.{CallsControl.calls_control, CallsFit.{CallsFits, CallsGives}}
-use Rattle.shm_calls.specs.{CallsKeep.{calls_begin, calls_laws}, Either.{OrFits, OrGives, or_control, or_laws}}
-use Rattle.shm_calls.specs.Plans.{PlanLaws}
-use Rattle.shm_ref.specs.DropRoots.Laws.{roots_laws}
-use Rattle.shm_recover.specs.{FinishTakes.Laws.finish_laws, GiveUp.Laws.give_laws, Mend.Laws.mend_laws}
-use Rattle.shm_recover.specs.Recover.{Control.{recover_parts, recover_steered}, recover_plan, Laws.recover_laws}
-use Rattle.shm_recover.specs.{Scan.Laws.scan_laws, TakeBack.Laws.back_laws, Join.{JoinFits, JoinGives, join_control}}
-use Rattle.shm_recover.specs.{Join.Keeps.join_laws, Leave.Control.{leave_parts, leaving as leave_state, leave_steered}}
-use Rattle.shm_recover.specs.Leave.{leave_plan, Gone.idle_may_leave, Laws.{leave_begin, leave_laws}}
+use Rattle.shm_calls.specs.Proved.{CallsKeep.{calls_begin, calls_laws}, Either.or_laws}
+use Rattle.shm_calls.specs.{Either.{OrFits, OrGives, or_control}, Plans.PlanLaws}
+use Rattle.shm_ref.specs.Proved.DropRoots.Laws.{roots_laws}
+use Rattle.shm_recover.specs.Proved.{FinishTakes.Laws.finish_laws, GiveUp.Laws.give_laws, Mend.Laws.mend_laws}
+use Rattle.shm_recover.specs.Proved.{Recover.Laws.recover_laws, Scan.Laws.scan_laws, TakeBack.Laws.back_laws}
+use Rattle.shm_recover.specs.Proved.{Join.Keeps.join_laws, Leave.{Gone.idle_may_leave, Laws.{leave_begin, leave_laws}}}
+use Rattle.shm_recover.specs.Recover.{Control.{recover_parts, recover_steered}, recover_plan}
+use Rattle.shm_recover.specs.Join.{JoinFits, JoinGives, join_control}
+use Rattle.shm_recover.specs.Leave.{Control.{leave_parts, leaving as leave_state, leave_steered}, leave_plan}
 use Rattle.shm_script.specs.{declared.{line.Line.Line, log.Entry.Entry}, Ranges.LineFits}
 use Rattle.shm_script.specs.declared.line.Line.TheVariants as line
-use Rattle.shm_table.specs.Command.{CommandFits, CommandGives, MayStand, command_control, command_of, Laws.command_laws}
-use Rattle.shm_table.specs.{Commands.MayCommand, CopyKey.{Control.{copy_parts, copying}, copy_plan}}
-use Rattle.shm_table.specs.{CopyKey.Laws.{copy_begin, copy_laws}, Del.{Control.{del_parts, deleting}, del_plan}}
-use Rattle.shm_table.specs.{Del.Laws.{del_begin, del_laws}, Enter.Laws.enter_laws, FetchHead.Laws.fetch_head_laws}
-use Rattle.shm_table.specs.{Fetch.Laws.fetch_laws, Get.{Control.{get_parts, getting}, get_plan}}
-use Rattle.shm_table.specs.{Get.Laws.{get_begin, get_laws}, Locate.{MayLocate, Laws.locate_laws}}
-use Rattle.shm_table.specs.{OpenTable.Laws.open_laws, Put.{Control.{put_parts, putting}, put_plan, Laws.put_laws}}
-use Rattle.shm_table.specs.PutRoot.{Control.put_root_parts, put_root_plan, Laws.put_root_laws}
-use Rattle.shm_table.specs.RecvKey.{Control.{receiving_key, recv_parts}, recv_plan, Laws.{recv_begin, recv_laws}}
-use Rattle.shm_table.specs.{Replace.Laws.replace_laws, SendKey.{Control.{send_key_parts, sending_key}, send_key_plan}}
-use Rattle.shm_table.specs.{SendKey.Laws.{send_key_begin, send_key_laws}, TakeHead.Laws.take_head_laws}
+use Rattle.shm_table.specs.Command.{CommandFits, CommandGives, MayStand, command_control, command_of}
+use Rattle.shm_table.specs.Proved.{Command.Laws.command_laws, CopyKey.Laws.{copy_begin, copy_laws}}
+use Rattle.shm_table.specs.Proved.{Del.Laws.{del_begin, del_laws}, Enter.Laws.enter_laws}
+use Rattle.shm_table.specs.Proved.{FetchHead.Laws.fetch_head_laws, Fetch.Laws.fetch_laws}
+use Rattle.shm_table.specs.Proved.{Get.Laws.{get_begin, get_laws}, Locate.Laws.locate_laws, OpenTable.Laws.open_laws}
+use Rattle.shm_table.specs.Proved.{Put.Laws.put_laws, PutRoot.Laws.put_root_laws, RecvKey.Laws.{recv_begin, recv_laws}}
+use Rattle.shm_table.specs.Proved.{Replace.Laws.replace_laws, SendKey.Laws.{send_key_begin, send_key_laws}}
+use Rattle.shm_table.specs.{Proved.TakeHead.Laws.take_head_laws, Commands.MayCommand}
+use Rattle.shm_table.specs.{CopyKey.{Control.{copy_parts, copying}, copy_plan}, Del.Control.{del_parts, deleting}}
+use Rattle.shm_table.specs.{Del.del_plan, Get.{Control.{get_parts, getting}, get_plan}, Locate.MayLocate}
+use Rattle.shm_table.specs.{Put.{Control.{put_parts, putting}, put_plan}, PutRoot.Control.put_root_parts}
+use Rattle.shm_table.specs.{PutRoot.put_root_plan, RecvKey.{Control.{receiving_key, recv_parts}, recv_plan}}
+use Rattle.shm_table.specs.SendKey.{Control.{send_key_parts, sending_key}, send_key_plan}
 use Rattle.shm_agents.specs.{Agents.{IsReady, behind}, Work.{WorkFits, WorkGives, commanding, leaving, work_control}}
 
 -- ---- the laws

@@ -14,9 +14,9 @@ ghost use Rattle.shm_agents.specs.Work as work;
 use crate::work::{Work, commanding, joining, leaving, recovering};
 use shm_calls::Or;
 use shm_graph::{Life, Me, Turn};
+use shm_plain::Workplace;
 use shm_script::{Answer, End, Entry, Line, Log, Script};
 use shm_table::command_maps;
-use shm_plain::Workplace;
 use std::alloc::{AllocError, Global};
 use std::marker::Model;
 

@@ -14,7 +14,7 @@ use Rattle.shm_alloc.specs.declared.request.Request.{Request}
 use Rattle.shm_alloc.specs.Alloc.Control.{class_asked, tag_asked, header_made, redo_asked, segment_at, page_at, index_at}
 use Rattle.shm_alloc.specs.Alloc.Asks.{AllocTrails, alloc_trail, root_trail, segment_trail, page_trail, header_trail, headers_trail, class_trail, block_trail, reference_trail, plain_trail, live_trail, more_trail, first_trail, commit_trail, slot_trail, close_trail}
 use Rattle.shm_alloc.specs.Alloc.Counts.{load_taken, claim_taken, load_used, taken_by, used_by, taken_in, used_in}
-use Rattle.shm_alloc.specs.Turning.{segment_below, page_below, index_below}
+use Rattle.shm_alloc.specs.Proved.Turning.{segment_below, page_below, index_below}
 
 -- the numbers in the answer of an allocation that found no free block
 abbrev pub Tells : Result Made AllocFault → ℕ → ℕ → Type 0

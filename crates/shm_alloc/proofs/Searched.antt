@@ -13,7 +13,7 @@ use Rattle.shm_alloc.specs.declared.request.Request.{Request}
 use Rattle.shm_alloc.specs.Alloc.Asks.{AllocTrails, alloc_trail, root_trail, segment_trail, page_trail, header_trail, headers_trail, class_trail, block_trail}
 use Rattle.shm_alloc.specs.Alloc.Control.{class_asked, segment_at, page_at, index_at}
 use Rattle.shm_alloc.specs.Alloc.Seen.{Finds, IsSeenTaken, IsSeenOwn, IsSeenOther, IsSeenClassed, AreSeenUsed, IsSeenFull, HasNoneFree}
-use Rattle.shm_alloc.specs.Turning.{turned_all}
+use Rattle.shm_alloc.specs.Proved.Turning.{turned_all}
 use Rattle.shm_alloc.proofs.AllocCounting.{Never, block_never}
 
 -- the pairs of one trail are in another

@@ -2,21 +2,9 @@
 pub mod Control
 pub mod Asks
 pub mod Events
-pub mod Steps
-pub mod SearchSteps
-pub mod SearchSegments
-pub mod SearchPages
-pub mod MakingSteps
-pub mod Live
-pub mod Going
-pub mod Ranges
 pub mod Passing
-pub mod Tells
-pub mod Keeps
-pub mod Laws
 pub mod Counts
 pub mod Seen
-pub mod Carrying
 pub mod AsPart
 use Rattle.std.specs.Prelude.{Bool, if◌then◌else◌, true, ◌≡◌, ◌≢◌, ℕ, ◌+◌, ◌-◌, ◌/◌, ◌^◌, ◌<◌, ◌≤◌, ◌==◌, Some, None, Result, Ok, Err, List, [], ◌∷◌, ◌++◌, slice_index}
 use Rattle.std.specs.List.{Contains}

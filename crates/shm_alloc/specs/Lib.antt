@@ -1,5 +1,3 @@
 pub mod Alloc
-pub mod BlockPlaces
-pub mod Operating
-pub mod Turning
 pub mod Hints
+pub mod Proved

@@ -4,9 +4,9 @@ ghost use Rattle.std.specs.Prelude.{◌≡◌, ◌≢◌, ◌<◌, ◌≤◌, �
 ghost use Rattle.shm_words.specs.Layout.{GeometryFits};
 ghost use Rattle.shm_graph.specs.Laws.{turn_of};
 ghost use Rattle.shm_alloc.specs.Alloc.Control.{PointFits, alloc_ask, alloc_control, alloc_next, answer_of, point_of};
-ghost use Rattle.shm_alloc.specs.Alloc.{AsPart.AllocLeaves, Events.alloc_event, AllocFits, AllocGives, Laws.alloc_laws};
-ghost use Rattle.shm_alloc.specs.{Operating.{AllocMay, alloc_operation}, declared.point.AllocPoint.TheVariants.Era};
-ghost use Rattle.shm_alloc.specs.declared.point.AllocNext.TheVariants.{Point};
+ghost use Rattle.shm_alloc.specs.Alloc.{AsPart.AllocLeaves, Events.alloc_event, AllocFits, AllocGives};
+ghost use Rattle.shm_alloc.specs.Proved.{Alloc.Laws.alloc_laws, Operating.{AllocMay, alloc_operation}};
+ghost use Rattle.shm_alloc.specs.declared.point.{AllocPoint.TheVariants.Era, AllocNext.TheVariants.Point};
 
 use crate::point::{AllocNext, AllocPoint, AllocState};
 use crate::request::{Near, Request};

@@ -18,8 +18,8 @@ const NONE: Near = Near {
 /// What a client remembers of its allocations of one class, so that the next one begins where a free block is likely.
 ///
 /// The next search begins behind the block that was made last. Once an eighth as many blocks were made as lie before the farthest one in
-/// segments of the client, it begins at the pool's first block again, where blocks may have been freed. So a client takes about an eighth more
-/// room than one without hints, and looks at eight blocks in use for each that it makes, or fewer, where one of nine is free.
+/// segments of the client, it begins at the pool's first block again, where blocks may have been freed. What a client gains in word steps it pays
+/// in room: it takes pages and segments that are still free before it sees each block that was freed (docs/TIMES.md).
 ///
 /// Nothing that is proved of an allocation asks for a good hint. It belongs to one client: a new one begins with none.
 #[derive(Drop)]

@@ -32,7 +32,7 @@ pub struct Request {
 
 /// Which of `count` is number `index`, where they are counted from number `first` on, and behind the last one from the first on.
 #[inline(always)]
-#[tactic(auto, unfolding(crate::specs::Alloc::Control::turned), using(crate::specs::Turning::turned_below))]
+#[tactic(auto, unfolding(crate::specs::Alloc::Control::turned), using(crate::specs::Proved::Turning::turned_below))]
 pub(crate) fn turned(count: u16, first: u16, index: u16) -> u16
     requires { index < count }
     ensures is { result ≡ control.turned count first index }

@@ -6,7 +6,7 @@ use Rattle.shm_graph.specs.declared.{ask.Me.Me, spot.Spot.Spot, memo.Memo.Memo, 
 use Rattle.shm_graph.specs.{Asks.{Trail, call_before}, Events.Event, Laws.{Control, Laws}, Runs.{Leads, first_state}}
 use Rattle.shm_graph.specs.{Spots.see, Tells.{Tells, machine_steps}, Whole.fits_now}
 use Rattle.shm_calls.specs.{declared.calls.Calls.Calls, CallsControl.{calls_control, calls_does, calls_of}}
-use Rattle.shm_calls.specs.{CallsFit.{CallsFits, CallsGives}, CallsKeep.{calls_laws, calls_tells}}
+use Rattle.shm_calls.specs.{CallsFit.{CallsFits, CallsGives}, Proved.CallsKeep.{calls_laws, calls_tells}}
 use Rattle.shm_calls.specs.Plans.{PlanLaws, Planned}
 use Rattle.shm_plain.specs.{Pools.{Pool, IsOf, IsRun, MayStep, memo_of, readied}, Calls.{Ran, Took, state_of, words}}
 use Rattle.shm_plain.proofs.{OwnTurns.leads_after, Turning.ready_run}

@@ -16,3 +16,4 @@ pub mod LowerEnds
 pub mod MendEnds
 pub mod JoinEnds
 pub mod RecoverEnds
+pub mod Proved

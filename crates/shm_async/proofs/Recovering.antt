@@ -1,7 +1,7 @@
 -- word steps of a recovery that is polled
 use Rattle.std.proofs.Common.{◌≡◌, ℕ, zero, suc, ◌+◌, ◌<◌, ◌≤◌, ◌⊎◌, Bool, true, false, [], ◌∷◌, inl, inr, refl, sym, ap, ◌∙◌, subst, arith, true≢false}
 use Rattle.std.specs.Prelude.{None, Some, Ok, Err}
-use Rattle.shm_calls.specs.{CallsFit.{CallsFits, CallsGives}, CallsKeep.calls_laws}
+use Rattle.shm_calls.specs.{CallsFit.{CallsFits, CallsGives}, Proved.CallsKeep.calls_laws}
 use Rattle.shm_count.specs.{declared.answer.EraSpent.EraSpent, Steady.SameTable as SameMap}
 use Rattle.shm_graph.specs.declared.{ask.{Life.Life, Me.Me, Turn.{Turn, TheVariants.{More, Done}}}, memo.Memo.Memo}
 use Rattle.shm_graph.specs.declared.{memo.{Status.TheVariants.Gone, Step.Step}, run.Account.Account}
@@ -9,10 +9,10 @@ use Rattle.shm_graph.specs.{declared.spot.Spot.TheVariants.Era, Agents.{acts, st
 use Rattle.shm_graph.specs.{Changes.asked_spot, Laws.{Laws, Stays, is_died, is_some, step_of}}
 use Rattle.shm_graph.specs.{Runs.{account_after, account_at}, Views.own_word, Whole.{fits_now, gives_now}}
 use Rattle.shm_graph.proofs.{Machines.Composing.{none_of, some_of}, Memos.MemoSteps.steps_on}
-use Rattle.shm_ref.specs.DropRoots.Laws.{roots_laws}
-use Rattle.shm_recover.specs.{FinishTakes.Laws.finish_laws, GiveUp.Laws.give_laws, Machines.Recovering.recover}
-use Rattle.shm_recover.specs.{Mend.Laws.mend_laws, Recover.{Control.recover_parts, Laws.recover_laws, recover_plan}}
-use Rattle.shm_recover.specs.{Scan.Laws.scan_laws, TakeBack.Laws.back_laws}
+use Rattle.shm_ref.specs.Proved.DropRoots.Laws.{roots_laws}
+use Rattle.shm_recover.specs.Proved.{FinishTakes.Laws.finish_laws, GiveUp.Laws.give_laws, Mend.Laws.mend_laws}
+use Rattle.shm_recover.specs.Proved.{Recover.Laws.recover_laws, Scan.Laws.scan_laws, TakeBack.Laws.back_laws}
+use Rattle.shm_recover.specs.{Machines.Recovering.recover, Recover.{Control.recover_parts, recover_plan}}
 use Rattle.shm_recover.proofs.Steady.{recover_steady}
 use Rattle.shm_replay.specs.Closings.{SameTable}
 use Rattle.shm_pool.specs.{Endings.Answer, Rescues.{RecoverMachine, Rescuing, account_of}, Tokens.Its}

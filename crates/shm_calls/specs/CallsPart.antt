@@ -4,8 +4,8 @@ use Rattle.std.proofs.Common.{sym, subst}
 use Rattle.shm_graph.specs.{declared.memo.Memo.Memo, Laws.Control, Tells.happens_along}
 use Rattle.shm_calls.specs.{declared.calls.Calls.Calls, CallsControl.{calls_control, calls_of, calls_does}}
 use Rattle.shm_calls.specs.CallsFit.{CallsFits, CallsGives, PlanGives}
-use Rattle.shm_calls.specs.{CallsKeep.{calls_begin, calls_laws, calls_tells}, Parts.{Part, PartLaws}, Placed.placed}
-use Rattle.shm_calls.specs.Plans.{Planned, PlanLaws, plan_trail}
+use Rattle.shm_calls.specs.Proved.{CallsKeep.{calls_begin, calls_laws, calls_tells}, Placed.placed}
+use Rattle.shm_calls.specs.{Parts.{Part, PartLaws}, Plans.{Planned, PlanLaws, plan_trail}}
 
 module _ {P C B A : Type 0} (k : Control C B) (q : Planned P C B A) where
   -- the machine before its first word step, of a plan before its first call, where what is known then is so

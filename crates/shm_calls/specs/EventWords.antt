@@ -2,13 +2,12 @@
 use Rattle.std.proofs.Common.{◌≡◌, ℕ, Bool, false, refl, sym, ap, subst, ◌<◌, List, [], ◌∷◌, ◌++◌, length}
 use Rattle.std.specs.List.{filter}
 use Rattle.shm_words.specs.Layout.{total_of}
-use Rattle.shm_graph.specs.declared.{ask.{Ask.Ask, Me.Me}, memo.{Memo.Memo, Step.Step}, spot.Spot.Spot}
+use Rattle.shm_graph.specs.declared.{ask.{Ask.Ask, Me.Me}, memo.Memo.Memo, spot.Spot.Spot}
 use Rattle.shm_graph.specs.{Asks.{Trail, at_of, seen_of, pair}, Blocks.classes, Events.Event}
-use Rattle.shm_graph.specs.{Laws.{Frame, Stands, event_by, event_on, framed}, Spots.spot_at}
+use Rattle.shm_graph.specs.{Laws.{Frame, Stands, event_on, framed}, Spots.spot_at}
 use Rattle.shm_graph.specs.{Tells.{Tells, happens_along, is_event}, Trails.{Answers, Asked}}
 use Rattle.shm_calls.specs.{declared.word.Word.Word, Parts.{Part, PartLaws}, Placed.{PlacedKeeps, PlacedLaws}}
 use Rattle.shm_calls.specs.Words.{IsKept, WordGives, word_control, word_gave}
-use Rattle.shm_calls.specs.WordSteps.{IsThere, KindKept, Makes, kept_there}
 
 -- the step is this event, by the word found
 abbrev pub IsEvent : Me → Ask → Memo → (ℕ → Event) → Type 0
@@ -87,16 +86,3 @@ module _ (first : Bool) (me : Me) (a : Ask) (does : ℕ → Event) (after : Memo
         ends = λ m rs r t n h g held same. ends m rs r t n h g;
         asked = λ m rs r t n h g. (n, ([], (g.asked, (refl, refl))));
       }
-
--- a word step of a kind, with its event at the spot
-pub event_in : (first : Bool) (me : Me) (a : Ask) (does : ℕ → Event) (after : Memo → ℕ → Memo → Type 0) (m : Memo) (p : Spot) → at_of a < total_of me.geometry → IsThere first me a after m p → ((t : Step) → t.me ≡ me → event_by m t a p ≡ does t.seen)
-    → KindKept first me a after m p → Makes first me a after m p → IsEventWord first me a does after (record { me = me; ask = a; over = false }) m
-event_in first me a does after m p inside there event kind makes =
-    record {
-      made = refl;
-      inside = inside;
-      kept = kept_there first me a after m p there kind makes;
-      told = λ w r f st same.
-          subst (λ (q : Spot). event_on (r me.who) (framed me a f (seen_of a (w q))) q ≡ does (seen_of a (w q))) (sym (there w r f st same))
-          (subst (λ (x : Memo). event_by x (framed me a f (seen_of a (w p))) a p ≡ does (seen_of a (w p))) (sym same) (event (framed me a f (seen_of a (w p))) refl));
-    }

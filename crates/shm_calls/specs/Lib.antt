@@ -4,16 +4,13 @@ pub mod Steering
 pub mod Plans
 pub mod CallsControl
 pub mod CallsFit
-pub mod CallsKeep
 pub mod CallsPart
 pub mod Either
 pub mod Words
-pub mod WordSteps
 pub mod EventWords
-pub mod CallTells
 pub mod MappedParts
 pub mod Grown
 pub mod MadeStays
 pub mod Deciding
 pub mod Tasks
-pub mod EitherOperates
+pub mod Proved

@@ -1,7 +1,6 @@
 -- parts: a machine as larger machines call it, with what it needs at its begin and what it leaves in the end
 use Rattle.std.specs.Prelude.{◌≡◌, ℕ, Bool, List, []}
-use Rattle.shm_graph.specs.{declared.{ask.Me.Me, memo.Memo.Memo}, Agents.recovers, Asks.Trail, Events.Event}
-use Rattle.shm_graph.specs.Laws.{Control}
+use Rattle.shm_graph.specs.{declared.memo.Memo.Memo, Agents.recovers, Asks.Trail, Events.Event, Laws.Control}
 pub use Rattle.shm_graph.specs.Operations.{IsHeld}
 use Rattle.shm_graph.specs.Tells.{happens_along, Tells}
 use Rattle.shm_calls.specs.Placed.{PlacedLaws}
@@ -27,16 +26,3 @@ module _ {S A : Type 0} (first : Bool) (k : Control S A) (p : Part S A) where
 -- a part that needs more, and leaves less
 abbrev pub weaker : {S A : Type 0} → Part S A → (S → Memo → Type 0) → (S → Memo → Memo → Trail → List Event → A → Type 0) → Part S A
 weaker p needs leaves = record { fits = p.fits; gives = p.gives; does = p.does; needs = needs; leaves = leaves; asks = p.asks }
-
-pub weaker_laws : {S A : Type 0} (first : Bool) (k : Control S A) (p : Part S A) (needs : S → Memo → Type 0) (leaves : S → Memo → Memo → Trail → List Event → A → Type 0)
-    → ((m : S) (r : Memo) → needs m r → p.needs m r)
-    → ((m : S) (rs r : Memo) (t : Trail) (es : List Event) (a : A) → needs m rs → p.leaves m rs r t es a → IsHeld (k.me m) r → recovers r ≡ recovers rs → leaves m rs r t es a)
-    → PartLaws first k p → PartLaws first k (weaker p needs leaves)
-weaker_laws first k p needs leaves more less l =
-    record {
-      placed = l.placed;
-      tells = l.tells;
-      begins = λ m r n. l.begins m r (more m r n);
-      ends = λ m rs r t a n g held same. less m rs r t (happens_along k p.does m t) a n (l.ends m rs r t a (more m rs n) g held same) held same;
-      asked = λ m rs r t a n g. l.asked m rs r t a (more m rs n) g;
-    }

@@ -4,10 +4,9 @@ use Rattle.std.specs.Prelude.{Some, not}
 use Rattle.shm_words.specs.Layout.{total_of}
 use Rattle.shm_graph.specs.{declared.{ask.{Ask.Ask, Me.Me}, spot.Spot.Spot, memo.Memo.Memo}, Spots.spot_at}
 use Rattle.shm_graph.specs.{Blocks.classes, Asks.{Trail, at_of, seen_of, pair}, Changes.memo_on}
-use Rattle.shm_graph.specs.{Events.{Event, Nothing}, Laws.{Control, Frame, framed, Stands, KeptAt, Laws, event_on}}
+use Rattle.shm_graph.specs.{Events.{Event, Nothing}, Laws.{Control, Frame, framed, Stands, KeptAt, event_on}}
 use Rattle.shm_graph.specs.{Tells.{Tells, happens_along}, Trails.{Answers, Asked}}
-use Rattle.shm_calls.specs.{declared.word.Word.Word, Parts.{Part, PartLaws}}
-use Rattle.shm_calls.specs.Placed.{MayStand, PlacedKeeps, PlacedLaws, from_placed}
+use Rattle.shm_calls.specs.{declared.word.Word.Word, Parts.{Part, PartLaws}, Placed.{MayStand, PlacedKeeps, PlacedLaws}}
 
 abbrev pub word_control : Control Word ℕ
 word_control =
@@ -68,9 +67,6 @@ word_placed first =
       keeps = word_keeps first;
     }
 
-pub word_laws : Laws word_control (WordFits true) (WordGives true)
-word_laws = from_placed word_control (WordFits true) (WordGives true) (word_placed true)
-
 -- what holds after a kept step holds of what it gave
 pub word_gave : (first : Bool) (m : Word) (r0 r : Memo) (tr : Trail) (n : ℕ) (after : ℕ → Memo → Type 0) → WordGives first m r0 r tr n → IsKept first m.me m.ask r0 after → after n r
 word_gave first m r0 r tr n after g kept =
@@ -124,8 +120,3 @@ module _ (first : Bool) (me : Me) (a : Ask) (after : Memo → ℕ → Memo → T
         ends = λ m rs r t n h g held same. ends m rs r t n h g;
         asked = λ m rs r t n h g. (n, ([], (g.asked, (refl, refl))));
       }
-
--- what follows from what holds after it holds after it too
-pub word_more : (first : Bool) (me : Me) (a : Ask) (after more : Memo → ℕ → Memo → Type 0) (m : Word) (r : Memo) → ((n : ℕ) (x : Memo) → after r n x → more r n x) → IsWord first me a after m r → IsWord first me a more m r
-word_more first me a after more m r then h =
-    record { made = h.made; inside = h.inside; kept = λ w rs f s may same. let k = h.kept w rs f s may same in record { told = k.told; step = k.step; fits = then _ _ k.fits }; quiet = h.quiet }

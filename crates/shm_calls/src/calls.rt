@@ -2,7 +2,7 @@
 
 ghost use Rattle.std.specs.Prelude.{◌≡◌};
 ghost use Rattle.shm_calls.specs.{CallsControl.{calls_control, calls_of}, CallsFit.{CallsFits, CallsGives}};
-ghost use Rattle.shm_calls.specs.CallsKeep.{calls_laws};
+ghost use Rattle.shm_calls.specs.Proved.CallsKeep.{calls_laws};
 
 use crate::plan::Plan;
 use shm_graph::{Ask, Machine, Me, Site, Turn};

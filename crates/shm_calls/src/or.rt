@@ -1,6 +1,6 @@
 //! One of two machines, and one of two answers.
 
-ghost use Rattle.shm_calls.specs.Either.{or_control, OrFits, OrGives, or_laws};
+ghost use Rattle.shm_calls.specs.{Either.{or_control, OrFits, OrGives}, Proved.Either.or_laws};
 
 use shm_graph::{Ask, Machine, Me, Site, Turn};
 

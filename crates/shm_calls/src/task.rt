@@ -3,8 +3,8 @@
 ghost use Rattle.std.specs.Prelude.{◌≡◌};
 ghost use Rattle.shm_graph.specs.declared.memo.Memo.{Memo as AMemo};
 ghost use Rattle.shm_calls.specs.{CallsControl.{calls_does, calls_of}, Either.{OrLeaves, OrNeeds, or_does}};
-ghost use Rattle.shm_calls.specs.EitherOperates.{OrRests, or_operation};
-ghost use Rattle.shm_calls.specs.Tasks.{CallsLeave, CallsMay, TaskLaws, calls_operation};
+ghost use Rattle.shm_calls.specs.Proved.{EitherOperates.{OrRests, or_operation}, Tasks.calls_operation};
+ghost use Rattle.shm_calls.specs.Tasks.{CallsLeave, CallsMay, TaskLaws};
 
 use crate::calls::Calls;
 use crate::or::Or;

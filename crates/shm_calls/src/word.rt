@@ -2,7 +2,7 @@
 
 ghost use Rattle.std.specs.Prelude.{◌≡◌, true, false};
 ghost use Rattle.shm_graph.specs.declared.ask.Ask.TheVariants.{Load, Store, Exchange};
-ghost use Rattle.shm_calls.specs.Words.{word_control, WordFits, WordGives, word_laws};
+ghost use Rattle.shm_calls.specs.{Words.{word_control, WordFits, WordGives}, Proved.Words.word_laws};
 
 use shm_graph::{Ask, Machine, Me, Site, Turn};
 

@@ -8,7 +8,7 @@ use Rattle.shm_graph.specs.{Agents.{acts, entered, steps_made}, Runs.{MayBegin, 
 use Rattle.shm_graph.proofs.{Memos.MemoSteps.steps_entered, States.FirstHeld.{at-accounts_from, length-accounts_from}}
 use Rattle.shm_recover.specs.declared.join.JoinPoint.{JoinPoint, TheVariants.{Over, Start as Begun}}
 use Rattle.shm_recover.specs.{declared.join.JoinState.JoinState, Join.{JoinFits, is_over, is_start, join_fresh}}
-use Rattle.shm_recover.specs.Join.Keeps.{join_begins}
+use Rattle.shm_recover.specs.Proved.Join.Keeps.{join_begins}
 use Rattle.shm_plain.specs.{Calls.Ran, Pools.{Pool, first_pool, memo_of, readied, MayStep}, Tracks.kind_next}
 use Rattle.shm_plain.proofs.Turning.{ready_memo}
 

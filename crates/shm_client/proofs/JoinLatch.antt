@@ -9,10 +9,6 @@ use Rattle.shm_count.specs.Roots.{member}
 use Rattle.shm_client.specs.Clear.{IsClear}
 use Rattle.shm_client.proofs.{Passing.ready_new, QueueReady.clear_join}
 
--- it holds none
-pub none_joining : (me : Me) (s : Start) (c : ℕ) (p : Pool) (m : Memo) (tr : Trail) → IsRun p → c < p.start.geometry.clients → memo_of p c ≡ first_memo s c → JoinGives (join_fresh me) (memo_of (readied p c) c) m tr tt → m.latch ≡ None
-none_joining me s c p m tr run l e h = ap (λ (x : Memo). x.latch) h.rest ∙ ap (λ (x : Memo). x.latch) (ready_new s c p (rw run.held.accounts l) e)
-
 -- and nothing waits, in a pool for single calls
 pub clear_joining : (g : Geometry) (s : Start) (c : ℕ) (p : Pool) (m : Memo) (tr : Trail) → IsRun p → c < p.start.geometry.clients → s.tables ≡ false → memo_of p c ≡ first_memo s c → JoinGives (join_fresh (member g c)) (memo_of (readied p c) c) m tr tt → IsClear m
 clear_joining g s c p m tr run l single e h = clear_join s g c (memo_of (readied p c) c) m tr single (ready_new s c p (rw run.held.accounts l) e) h

@@ -12,7 +12,7 @@ use Rattle.shm_graph.proofs.Spots.{Fixed.fixed_is_at, Seeing.see_there, Spotting
 use Rattle.shm_graph.proofs.States.FirstHeld.{same_everywhere}
 use Rattle.shm_plain.specs.{Calls.{IsAtWork, Ran}, Pools.{Pool, IsRun, memo_of}}
 use Rattle.shm_count.specs.{Roots.member, Waiting.LeavesQueues}
-use Rattle.shm_recover.specs.{Join.{JoinGives, join_fresh}, Leave.{MayLeave, Gone.idle_may_leave}}
+use Rattle.shm_recover.specs.{Join.{JoinGives, join_fresh}, Leave.MayLeave, Proved.Leave.Gone.idle_may_leave}
 use Rattle.shm_script.specs.{declared.line.Line.Line, Ranges.LineFits}
 use Rattle.shm_script.specs.declared.line.Line.TheVariants as line
 use Rattle.shm_table.specs.{Commands.MayCommand, Locate.MayLocate, Staying.Ended}
@@ -83,23 +83,11 @@ open_queues c p q h work kind left dying =
 
 -- ---- what they may do
 
-pub open_may_leave : (c : ℕ) (p : Pool) → IsOpen c p → MayLeave (member p.start.geometry c) (memo_of p c)
-open_may_leave c p h = idle_may_leave (member p.start.geometry c) (memo_of p c) (record { geometry = h.work.geometry; who = h.work.who }) h.work.idle h.latch h.dying h.unsent h.untaken
-
 may_command : (c key : ℕ) (p : Pool) → IsOpen c p → key < 2 ^ 32 → MayCommand (member p.start.geometry c) key (memo_of p c)
 may_command c key p h small = record { geometry = h.work.geometry; who = h.work.who; idle = h.work.idle; client = h.client; none = h.latch; table = h.table; small = small }
 
 may_locate : (c a : ℕ) (p : Pool) → IsOpen c p → a < p.start.geometry.clients → MayLocate (member p.start.geometry c) a (memo_of p c)
 may_locate c a p h author = record { geometry = h.work.geometry; who = h.work.who; author = author; idle = h.work.idle; none = h.latch; table = h.table }
-
--- each command of a line in range
-pub open_may_run : (c : ℕ) (p : Pool) (l : Line) → IsOpen c p → LineFits p.start.geometry.clients c l → MayRun (member p.start.geometry c) l (memo_of p c)
-open_may_run c p (line.Put key n) h fits = (may_command c key p h fits.0, fits.1)
-open_may_run c p (line.Copy key a other) h fits = record { command = may_command c key p h fits.0; author = fits.1 }
-open_may_run c p (line.Del key) h fits = record { geometry = h.work.geometry; who = h.work.who; idle = h.work.idle; client = h.client; none = h.latch; table = h.table }
-open_may_run c p (line.Get a key) h fits = may_locate c a p h fits.0
-open_may_run c p (line.Send to key) h fits = record { locate = may_locate c c p h h.work.who; client = h.client; to = fits.0; other = λ e. fits.1 (sym e); none = h.unsent to }
-open_may_run c p (line.Recv from key) h fits = record { command = may_command c key p h fits.2; from = fits.0; other = fits.1; none = h.untaken from }
 
 -- ---- the own era
 

@@ -8,7 +8,7 @@ use Rattle.shm_steps.specs.Raising.{is_read}
 use Rattle.shm_plain.specs.{Calls.IsAtWork, Pools.{Pool, IsRun, memo_of}}
 use Rattle.shm_plain.proofs.Called.{ready}
 use Rattle.shm_count.specs.Roots.{member}
-use Rattle.shm_ref.specs.ReadParts.{reached_room}
+use Rattle.shm_ref.specs.Proved.ReadParts.{reached_room}
 
 module _ (p : Pool) (c : ℕ) (work : IsAtWork c p) (run : IsRun p) (b : ℕ) (reach : is_reached c (memo_of p c) b ≡ true) where
   between : IsReady (member p.start.geometry c) (memo_of p c)

@@ -1,21 +1,22 @@
 -- the command of a line begins where the memo is as it asks
 use Rattle.std.proofs.Common.{◌≡◌, ℕ, true, refl, None, []}
 use Rattle.shm_graph.specs.declared.{ask.Me.Me, memo.Memo.Memo}
-use Rattle.shm_calls.specs.{CallsKeep.calls_begin, Plans.PlanLaws}
+use Rattle.shm_calls.specs.{Proved.CallsKeep.calls_begin, Plans.PlanLaws}
 use Rattle.shm_script.specs.declared.line.Line.{Line}
 use Rattle.shm_script.specs.declared.line.Line.TheVariants as line
 use Rattle.shm_table.specs.{Command.{CommandFits, MayStand, command_control, command_of}, Commands.MayCommand}
-use Rattle.shm_table.specs.CopyKey.{Control.{copy_parts, copying}, copy_plan, Laws.{copy_begin, copy_laws}}
-use Rattle.shm_table.specs.Del.{Control.{del_parts, deleting}, del_plan, Laws.{del_begin, del_laws}}
-use Rattle.shm_table.specs.{Enter.Laws.enter_laws, FetchHead.Laws.fetch_head_laws, Fetch.Laws.fetch_laws}
-use Rattle.shm_table.specs.Get.{Control.{get_parts, getting}, get_plan, Laws.{get_begin, get_laws}}
-use Rattle.shm_table.specs.{Locate.Laws.locate_laws, OpenTable.Laws.open_laws, Put.Control.{put_parts, putting}}
-use Rattle.shm_table.specs.{Put.{put_plan, Laws.put_laws}, PutRoot.{Control.put_root_parts, put_root_plan}}
-use Rattle.shm_table.specs.{PutRoot.Laws.put_root_laws, RecvKey.{Control.{receiving_key, recv_parts}, recv_plan}}
-use Rattle.shm_table.specs.{RecvKey.Laws.{recv_begin, recv_laws}, Replace.Laws.replace_laws}
+use Rattle.shm_table.specs.CopyKey.{Control.{copy_parts, copying}, copy_plan}
+use Rattle.shm_table.specs.Proved.{CopyKey.Laws.{copy_begin, copy_laws}, Del.Laws.{del_begin, del_laws}}
+use Rattle.shm_table.specs.Proved.{Enter.Laws.enter_laws, FetchHead.Laws.fetch_head_laws, Fetch.Laws.fetch_laws}
+use Rattle.shm_table.specs.Proved.{Get.Laws.{get_begin, get_laws}, Locate.Laws.locate_laws, OpenTable.Laws.open_laws}
+use Rattle.shm_table.specs.Proved.{Put.Laws.put_laws, PutRoot.Laws.put_root_laws, RecvKey.Laws.{recv_begin, recv_laws}}
+use Rattle.shm_table.specs.Proved.{Replace.Laws.replace_laws, SendKey.Laws.{send_key_begin, send_key_laws}}
+use Rattle.shm_table.specs.{Proved.TakeHead.Laws.take_head_laws, Del.{Control.{del_parts, deleting}, del_plan}}
+use Rattle.shm_table.specs.{Get.{Control.{get_parts, getting}, get_plan}, Put.{Control.{put_parts, putting}, put_plan}}
+use Rattle.shm_table.specs.PutRoot.{Control.put_root_parts, put_root_plan}
+use Rattle.shm_table.specs.RecvKey.{Control.{receiving_key, recv_parts}, recv_plan}
 use Rattle.shm_table.specs.SendKey.{Control.{send_key_parts, sending_key}, send_key_plan}
-use Rattle.shm_table.specs.{SendKey.Laws.{send_key_begin, send_key_laws}, TableTasks.{IsAtTable, LineMay}}
-use Rattle.shm_table.specs.TakeHead.Laws.{take_head_laws}
+use Rattle.shm_table.specs.TableTasks.{IsAtTable, LineMay}
 use Rattle.shm_client.specs.Running.{MayRun}
 
 -- the laws of what commands that bring a value block share

@@ -4,10 +4,9 @@ use Rattle.shm_graph.specs.{declared.{ask.Me.Me, memo.Memo.Memo}, Asks.Trail, Ev
 use Rattle.shm_calls.specs.CallsControl.{calls_of}
 use Rattle.shm_script.specs.declared.{line.Line.Line, log.Answer.Answer}
 use Rattle.shm_script.specs.declared.line.Line.TheVariants as line
-use Rattle.shm_table.specs.Command.{CommandGives, command_control, command_does, command_of}
-use Rattle.shm_table.specs.Command.Events.{copies_happen, dels_happen, gets_happen, puts_happen, recvs_happen, sends_happen}
-use Rattle.shm_table.specs.Command.Operates.{CommandLeaves}
-use Rattle.shm_table.specs.Command.Laws.{copies_give, dels_give, gets_give, puts_give, recvs_give, sends_give}
+use Rattle.shm_table.specs.Command.{CommandGives, command_control, command_does, command_of, Operates.CommandLeaves}
+use Rattle.shm_table.specs.Proved.Command.Events.{copies_happen, dels_happen, gets_happen, puts_happen, recvs_happen, sends_happen}
+use Rattle.shm_table.specs.Proved.Command.Laws.{copies_give, dels_give, gets_give, puts_give, recvs_give, sends_give}
 use Rattle.shm_table.specs.{CopyKey.{Control.{copying, copy_steered}, CopyLeaves}, Del.Control.{deleting, del_steered}}
 use Rattle.shm_table.specs.{Del.DelLeaves, Get.{Control.{getting, get_steered}, GetLeaves}}
 use Rattle.shm_table.specs.Put.{Control.{putting, put_steered}, PutLeaves}

@@ -8,7 +8,7 @@ use Rattle.shm_count.specs.declared.answer.{ShareFault.ShareFault, UpFault.{UpFa
 use Rattle.shm_count.specs.declared.{point.Aim.TheVariants.Up, up_root.RootingPoint.RootingPoint}
 use Rattle.shm_count.specs.declared.up_root.{RootingPoint.TheVariants.{Era, Look, Step}, RootingState.RootingState}
 use Rattle.shm_count.specs.{Refusing.ReadsCount, Step.{Control.first_point, Asks.point_trail, Machines.up_answer}}
-use Rattle.shm_count.specs.Step.{BeforeExchange.first_asked, Refusing.first_reads}
+use Rattle.shm_count.specs.Proved.Step.{BeforeExchange.first_asked, Refusing.first_reads}
 use Rattle.shm_count.specs.UpRoot.Control.{RootingAnswer, rooting_call, rooting_turns, taken_up}
 use Rattle.shm_count.specs.UpRoot.{rooting_part, rooting_plan}
 use Rattle.shm_count.specs.declared.answer.ShareFault.TheVariants as share

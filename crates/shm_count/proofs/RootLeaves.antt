@@ -14,11 +14,11 @@ use Rattle.shm_graph.proofs.{Spots.Spotting.same_spot_self, StepKinds.Loads.choi
 use Rattle.shm_laws.specs.HeaderExchanges.{dying_after}
 use Rattle.shm_steps.proofs.MemoCommits.{known_lowered, lowered_is}
 use Rattle.shm_count.specs.declared.point.{Aim.TheVariants.Down, Half.TheVariants.First}
-use Rattle.shm_count.specs.{DownLeaves.{count_less, one_less, joined, kept_lowered}, Step.Parts.lasting_not}
-use Rattle.shm_count.specs.Step.{Control.header_after, begun, set_memo, slot_memo, closed_memo, Done, Memos.closed_part}
-use Rattle.shm_count.specs.Roots.{rest, RootLowered}
-use Rattle.shm_count.specs.Retaining.{slots_forgotten, slots_sifted, named_same, named_sifted, value_sifted}
-use Rattle.shm_count.specs.Tear.Memos.{is_slot_word}
+use Rattle.shm_count.specs.Proved.{DownLeaves.{count_less, one_less, joined, kept_lowered}, Step.Parts.lasting_not}
+use Rattle.shm_count.specs.Proved.Step.Memos.{closed_part}
+use Rattle.shm_count.specs.Proved.Retaining.{slots_forgotten, slots_sifted, named_same, named_sifted, value_sifted}
+use Rattle.shm_count.specs.Step.{Control.header_after, begun, set_memo, slot_memo, closed_memo, Done}
+use Rattle.shm_count.specs.{Roots.{rest, RootLowered}, Tear.Memos.is_slot_word}
 use Rattle.shm_count.proofs.RootMemos.{op_done, word_done}
 
 -- no partition is read from a root

@@ -15,9 +15,9 @@ use Rattle.shm_graph.specs.declared.memo.Op.TheVariants as op
 use Rattle.shm_count.specs.declared.{answer.UpFault.{UpFault, TheVariants.{EraSpent, CountFull}}, point.Aim.Aim}
 use Rattle.shm_count.specs.declared.point.{Aim.TheVariants.{Up, Down, Change}, Half.{Half, TheVariants.{First, Second}}}
 use Rattle.shm_count.specs.Step.Control.{PartFits, header_after, last_era, raises, value_after}
-use Rattle.shm_count.specs.Step.Cores.{is_set, set_op}
 use Rattle.shm_count.specs.Step.{AtFirst, Done, Refused, Rows, begun, closed_memo, is_row, set_memo, slot_memo}
-use Rattle.shm_count.specs.{Step.{Machines.is_change, Memos.closed_part}, Roots.root_word}
+use Rattle.shm_count.specs.{Step.Machines.is_change, Proved.Step.{Cores.{is_set, set_op}, Memos.closed_part}}
+use Rattle.shm_count.specs.Roots.{root_word}
 
 -- ---- what a step that is done says of the memo
 

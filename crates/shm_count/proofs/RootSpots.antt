@@ -18,12 +18,13 @@ use Rattle.shm_graph.proofs.Spots.{SpotPlaces.spot-place, Spotting.same_spot_sel
 use Rattle.shm_steps.specs.{Conditions.IsHere, Raising.is_read}
 use Rattle.shm_steps.proofs.Cores.{room_least}
 use Rattle.shm_count.specs.declared.{answer.UpFault.UpFault, point.Aim.{Aim, TheVariants.{Up, Down, Change}}}
-use Rattle.shm_count.specs.{declared.point.Half.TheVariants.{First, Second}, Step.Beginning.begins_slot}
+use Rattle.shm_count.specs.{declared.point.Half.TheVariants.{First, Second}, Proved.Step.Beginning.begins_slot}
+use Rattle.shm_count.specs.Proved.Step.{Going.begins, Memos.closed_part}
 use Rattle.shm_count.specs.Step.Control.{AimFits, AimSmall, IsInside, block_at, last_era, raises, value_after}
 use Rattle.shm_count.specs.Step.{CanAim, CanStep, Done, HasPut, StepFits, StepGives, closed_memo, set_memo, slot_memo}
-use Rattle.shm_count.specs.{Step.{Going.begins, Memos.closed_part}, Roots.{AreRootsReached, member, root_step}}
+use Rattle.shm_count.specs.Roots.{AreRootsReached, member, root_step}
 use Rattle.shm_count.proofs.RootMemos.{StepLeft, up_done, down_done, change_done, left_done, left_refused}
-pub use Rattle.shm_count.specs.Idles.{is_here}
+pub use Rattle.shm_count.specs.Proved.Idles.{is_here}
 
 -- ---- it begins
 

@@ -1,10 +1,5 @@
 -- the commit test as a plan: what is known before each load, and what is left
-pub mod Control
-pub mod StepTrail
-pub mod Shown
-pub mod Laws
-pub mod Machines
-use Rattle.std.specs.Prelude.{◌≡◌, ◌≢◌, ℕ, ◌+◌, ◌<◌, ◌≤◌, Bool, true, not, nat_lt, if◌then◌else◌, Option, Some, None, List, []}
+use Rattle.std.specs.Prelude.{◌≡◌, ◌≢◌, ℕ, ◌+◌, ◌<◌, ◌≤◌, true, nat_lt, if◌then◌else◌, Option, Some, None, List, []}
 use Rattle.std.specs.List.{Contains}
 use Rattle.shm_words.specs.{declared.redo.Redo.Redo as ARedo, Headers.header_of}
 use Rattle.shm_words.specs.{Layout.{GeometryFits, address, total_of}, Redos.redo_of}
@@ -12,20 +7,19 @@ use Rattle.shm_words.specs.declared.place.Place.TheVariants as place
 use Rattle.shm_words.specs.declared.redo.Redo.TheVariants as redos
 use Rattle.shm_graph.specs.declared.{ask.{Ask.TheVariants.Load, Me.Me}, spot.Spot.TheVariants.{Era, Redo, RedoMore}}
 use Rattle.shm_graph.specs.{declared.memo.Memo.Memo, Agents.recovers, Asks.{Trail, IsWithin, pair}, Core.core}
-use Rattle.shm_graph.specs.{Events.Event, Held.odd, Ops.on_of, MemoAfterRead.next_row, Views.own_word}
+use Rattle.shm_graph.specs.{Events.Event, Ops.on_of, MemoAfterRead.next_row, Views.own_word}
 use Rattle.shm_steps.specs.WordParts.{TestBegun, TestGoesOn}
 use Rattle.shm_calls.specs.{declared.word.Word.Word, Parts.Part, Plans.Planned, Words.word_part}
 use Rattle.shm_count.specs.declared.commit_test.{Commit.{Commit, TheVariants.{Committed, NotCommitted}}, Proof.Proof}
 use Rattle.shm_count.specs.declared.commit_test.TestingPoint.{TestingPoint, TheVariants.{Header, Row}}
 use Rattle.shm_count.specs.{declared.commit_test.TestingState.TestingState, CommitTest.StepTrail.read_part}
-use Rattle.shm_count.specs.CommitTest.Control.{is_header, is_shown, test_ask, testing_steered}
+use Rattle.shm_count.specs.CommitTest.Control.{is_header, is_shown, test_ask, testing_steered, is_first_half}
 use Rattle.shm_count.specs.declared.commit_test.Proof.TheVariants as proof
+pub mod Control
+pub mod StepTrail
+pub mod Machines
 
 -- ---- when it may begin
-
--- whether a change with this parity is in its first half at own era e
-abbrev pub is_first_half : Bool → ℕ → Bool
-is_first_half parity e = if parity then odd e else not (odd e)
 
 -- the block whose count a step changes that a redo record spells at own era e
 abbrev pub step_block : Option ARedo → ℕ → Option ℕ

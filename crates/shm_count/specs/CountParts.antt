@@ -1,9 +1,8 @@
 -- count steps and tear-downs as parts of larger machines
-use Rattle.std.proofs.Common.{◌≡◌, Bool, true, sym, ap, ◌∙◌, subst, arith, List}
+use Rattle.std.proofs.Common.{◌≡◌, Bool, true, sym, ap, ◌∙◌, subst, List}
 use Rattle.std.specs.Prelude.{Result}
-use Rattle.shm_words.proofs.Placing.{total_small}
 use Rattle.shm_graph.specs.{declared.{spot.Spot.Spot, memo.Memo.Memo}, Asks.Trail, Events.Event, Tells.happens_along}
-use Rattle.shm_calls.specs.{CallTells.mapped_events, Grown.Grows, Parts.{Part, PartLaws}, Placed.placed}
+use Rattle.shm_calls.specs.{Proved.{CallTells.mapped_events, Placed.placed}, Grown.Grows, Parts.{Part, PartLaws}}
 use Rattle.shm_count.specs.declared.{answer.{EraSpent.EraSpent, UpFault.UpFault}, point.StepPoint.TheVariants.Era}
 use Rattle.shm_count.specs.declared.{point.StepState.StepState, tear_point.TearPoint.TheVariants.Begin}
 use Rattle.shm_count.specs.{declared.tear_point.TearState.TearState, Step.Control.{StepInRange, step_control}}
@@ -11,11 +10,8 @@ use Rattle.shm_count.specs.Step.{Events.{step_event, own_events}, CanStep, Gives
 use Rattle.shm_count.specs.Step.Machines.{IsUp, IsDown, IsChange, up_answer, up_control, up_told, down_answer, down_control, down_told}
 use Rattle.shm_count.specs.Step.Asks.{step_trail}
 use Rattle.shm_count.specs.StepsAt.{UpFitsAt, UpGivesAt, up_laws_at, up_tells_at, up_gave, DownFitsAt, DownGivesAt, down_laws_at, down_tells_at, down_gave, ChangeFitsAt, ChangeGivesAt, change_laws_at, change_tells_at}
-use Rattle.shm_count.specs.Tear.{Control.{TearInRange, tear_control}, Events.tear_event}
-use Rattle.shm_count.specs.Tear.{CanTear, TearFits, TearGives, TearLeaves, Keeps.tear_laws, Tells.tear_tells}
-use Rattle.shm_count.specs.Tear.Asks.{tear_trail}
-use Rattle.shm_count.specs.Step.Going as steps
-use Rattle.shm_count.specs.Tear.Going as tears
+use Rattle.shm_count.specs.Tear.{Events.tear_event, CanTear, TearFits, TearGives, TearLeaves, Asks.tear_trail}
+use Rattle.shm_count.specs.Proved.Step.Going as steps
 
 -- ---- count steps at the spot p
 
@@ -83,26 +79,5 @@ pub record IsTear (m : TearState) (r : Memo) : Type 0 where
   pub made : m ≡ record { me = m.me; first = m.first; block = m.first; point = Begin }
   pub can : CanTear m.me m.first r
 
--- what it gives speaks of the events that it tells of
-pub tear_left : (m : TearState) (rs r : Memo) (t : Trail) (a : Result (Unit {0}) EraSpent) → m ≡ record { me = m.me; first = m.first; block = m.first; point = Begin } → TearGives m rs r t a → TearLeaves m.me m.first rs r (happens_along tear_control tear_event m t) t a
-tear_left m rs r t a made g = subst (λ (x : TearState). TearLeaves m.me m.first rs r (happens_along tear_control tear_event x t) t a) (sym made) g.leaves
-
 abbrev pub tear_part : Part TearState (Result (Unit {0}) EraSpent)
 tear_part = record { fits = TearFits; gives = TearGives; does = tear_event; needs = IsTear; leaves = λ m rs r t es a. TearLeaves m.me m.first rs r es t a; asks = λ m. tear_trail m.me m.first }
-
-pub tear_part_laws : (first : Bool) → PartLaws first tear_control tear_part
-tear_part_laws first =
-    record {
-      placed = placed first tear_control TearFits TearGives tear_laws;
-      tells = tear_tells;
-      begins = λ m r n. tears.begins m r (ap (λ (x : TearState). x.point) n.made) (ap (λ (x : TearState). x.block) n.made) (knows m r n) n.can;
-      ends = λ m rs r t a n g held same. tear_left m rs r t a n.made g;
-      asked = λ m rs r t a n g. g.trail;
-    }
-  where
-    knows : (m : TearState) (r : Memo) → IsTear m r → TearInRange m
-    knows m r n =
-        let can = n.can in
-        let room = can.room in
-        let total = total_small m.me.geometry can.geometry in
-        subst TearInRange (sym n.made) (record { geometry = can.geometry; who = can.who; first = omega arith; block = omega arith; point = tt })

@@ -1,12 +1,5 @@
 pub mod Step
 pub mod Tear
-pub mod DyingBlocks
-pub mod TableSteps
-pub mod Carrying
-pub mod Deciding
-pub mod TableReading
-pub mod Retaining
-pub mod DownLeaves
 pub mod Roots
 pub mod StepsAt
 pub mod CountParts
@@ -19,7 +12,6 @@ pub mod Refusing
 pub mod UpRoot
 pub mod CommitTest
 pub mod Steady
-pub mod Idles
-pub mod ShareTask
 pub mod Operating
 pub mod Waiting
+pub mod Proved

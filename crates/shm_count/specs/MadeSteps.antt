@@ -7,7 +7,7 @@ use Rattle.shm_graph.specs.declared.{ask.{Ask.Ask, Me.Me}, spot.Spot.{Spot, TheV
 use Rattle.shm_graph.specs.{Asks.{at_of, pair, seen_of}, Blocks.{classes, IsBlock}, Changes.memo_on}
 use Rattle.shm_graph.specs.{Held.{HeldAt, MadeAt}, Laws.{Outcome, framed}, Spots.spot_at, Views.{targets, view}}
 use Rattle.shm_graph.proofs.StepKinds.Loads.{choice}
-use Rattle.shm_calls.specs.{CallTells.mapped_events, MadeStays.{making_laws, making_part, touches}}
+use Rattle.shm_calls.specs.{Proved.CallTells.mapped_events, MadeStays.{making_laws, making_part, touches}}
 use Rattle.shm_calls.specs.{Parts.{Part, PartLaws}, Placed.PlacedKeeps}
 use Rattle.shm_count.specs.declared.answer.{EraSpent.EraSpent as AEraSpent, UpFault.UpFault}
 use Rattle.shm_count.specs.declared.{answer.UpFault.TheVariants.{EraSpent, CountFull}, point.Aim.Aim}
@@ -15,10 +15,10 @@ use Rattle.shm_count.specs.declared.point.{Aim.TheVariants.{Up, Down, Change}, H
 use Rattle.shm_count.specs.declared.point.{StepPoint.StepPoint, StepState.StepState, StepNext.StepNext}
 use Rattle.shm_count.specs.declared.{point.StepNext.TheVariants.{Point, Answer}, tear_point.TearState.TearState}
 use Rattle.shm_count.specs.Step.Control.{PointFits, answer_of, block_at, committed_next, header_next, last_era, raises, step_ask, step_ask_at, step_control, step_next, step_next_at, first_next}
-use Rattle.shm_count.specs.Step.{Events.{events_at, step_event, step_start}, CanStep, PointHas, Headers.half_block}
-use Rattle.shm_count.specs.{Step.Machines.{is_up, up_answer, up_control, down_control}, Tear.Control.tear_control}
-use Rattle.shm_count.specs.Tear.Events.{tear_start}
-use Rattle.shm_count.specs.CountParts.{change_part, change_part_laws, down_part, down_part_laws, tear_part, tear_part_laws, up_part, up_part_laws}
+use Rattle.shm_count.specs.Step.{Events.{events_at, step_event, step_start}, CanStep, PointHas}
+use Rattle.shm_count.specs.{Step.Machines.{is_up, up_answer, up_control, down_control}, Proved.Step.Headers.half_block}
+use Rattle.shm_count.specs.Tear.{Control.tear_control, Events.tear_start}
+use Rattle.shm_count.specs.CountParts.{change_part, change_part_laws, down_part, down_part_laws, tear_part, up_part, up_part_laws}
 use Rattle.shm_count.specs.declared.point.StepPoint.TheVariants as point
 
 -- ---- what stays of the blocks that the call made
@@ -47,9 +47,6 @@ module _ (p : Spot) (first : Bool) where
 
 abbrev pub tear_making : Bool → Part TearState (Result (Unit {0}) AEraSpent)
 tear_making first = making_part tear_start first tear_control tear_part
-
-pub tear_making_laws : (first : Bool) → PartLaws first tear_control (tear_making first)
-tear_making_laws first = making_laws tear_start first tear_control tear_part (λ m n. refl) (λ m r n. sym n.made) (tear_part_laws first)
 
 -- ---- a block that the call made is never full
 

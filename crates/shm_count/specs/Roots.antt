@@ -18,10 +18,6 @@ member g c = record { geometry = g; who = c }
 abbrev pub root_step : Geometry → ℕ → ℕ → Aim → StepState
 root_step g c k x = record { me = member g c; slot = address g (place.Root c k); aim = x; point = Era }
 
--- a tear-down of block b by c, before its first word step
-abbrev pub tear_of : Geometry → ℕ → ℕ → TearState
-tear_of g c b = record { me = member g c; first = b; block = b; point = Begin }
-
 -- what root k of c holds: 0 or a block
 abbrev pub root_word : ℕ → Memo → ℕ → ℕ
 root_word c m k = own_word m.own (Root c k)

@@ -1,7 +1,4 @@
 -- what a count step leaves of the memo, at each kind of slot
-pub mod Ups
-pub mod Downs
-pub mod Changes
 pub mod Parts
 use Rattle.std.specs.Prelude.{◌≡◌, ◌≢◌, ℕ, ◌+◌, ◌^◌, ◌<◌, ◌≤◌, Bool, true, false, if◌then◌else◌, Result, Ok, Err, List, [], ◌∷◌, ◌++◌}
 use Rattle.std.specs.List.{Contains, filter}

@@ -2,25 +2,9 @@
 pub mod Control
 pub mod Asks
 pub mod Events
-pub mod Status
-pub mod Going
-pub mod Ranges
-pub mod Laws
 pub mod Machines
 pub mod ExchangeMade
-pub mod Decides
-pub mod Memos
-pub mod Headers
-pub mod Beginning
-pub mod BeforeExchange
-pub mod Cores
-pub mod Committing
 pub mod Parts
-pub mod HalfExchange
-pub mod Tells
-pub mod Keeps
-pub mod Bound
-pub mod Refusing
 use Rattle.std.specs.Prelude.{◌≡◌, ◌≢◌, ℕ, ◌+◌, ◌<◌, ◌≤◌, Bool, true, false, ◌&&◌, not, ◌==◌, ◌⊎◌, Result, Ok, Err, [], ◌∷◌, ◌++◌, if◌then◌else◌}
 use Rattle.std.specs.List.{Contains}
 use Rattle.shm_words.specs.{Layout.{GeometryFits, total_of}, Headers.header_of, Redos.{first_word, second_word}}

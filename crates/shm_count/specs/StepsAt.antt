@@ -2,13 +2,13 @@
 use Rattle.std.proofs.Common.{Bool, ap, ◌∙◌, subst}
 use Rattle.std.specs.Prelude.{Result}
 use Rattle.shm_graph.specs.{declared.{spot.Spot.Spot, memo.Memo.Memo}, Asks.Trail, Laws.Laws}
-use Rattle.shm_graph.specs.Mapped.{OnTheWay, AtTheEnd, MappedGives, AmongFits, AmongGives, mapped_laws, among_laws}
-use Rattle.shm_graph.specs.Tells.{Tells}
+use Rattle.shm_graph.specs.Mapped.{OnTheWay, AtTheEnd, MappedGives, AmongFits, AmongGives}
+use Rattle.shm_graph.specs.{Proved.Mapped.{mapped_laws, among_laws}, Tells.Tells}
 use Rattle.shm_count.specs.declared.{answer.{EraSpent.EraSpent, UpFault.UpFault}, point.StepState.StepState}
-use Rattle.shm_count.specs.Step.{Control.step_control, Events.step_event, StepFits, StepGives, Keeps.step_keeps}
-use Rattle.shm_count.specs.Step.Laws.{step_steady, step_inside, step_back}
-use Rattle.shm_count.specs.Step.Machines.{IsUp, IsDown, IsChange, up_answer, down_answer, up_control, down_control, up_told, down_told, up_same, down_same}
-use Rattle.shm_count.specs.Step.Tells.{step_tells}
+use Rattle.shm_count.specs.Step.{Control.step_control, Events.step_event, StepFits, StepGives}
+use Rattle.shm_count.specs.Step.Machines.{IsUp, IsDown, IsChange, up_answer, down_answer, up_control, down_control, up_told, down_told}
+use Rattle.shm_count.specs.Proved.Step.{Keeps.step_keeps, Laws.{step_steady, step_inside, step_back}}
+use Rattle.shm_count.specs.Proved.Step.{Machines.{up_same, down_same}, Tells.step_tells}
 
 module _ (p : Spot) where
   step_laws : Laws step_control (StepFits p) (StepGives p)

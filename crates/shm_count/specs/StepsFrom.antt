@@ -9,8 +9,10 @@ use Rattle.shm_count.specs.declared.{answer.UpFault.UpFault, point.{StepPoint.St
 use Rattle.shm_count.specs.declared.point.StepNext.{StepNext, TheVariants.{Point, Answer}}
 use Rattle.shm_count.specs.Step.Control.{StepInRange, step_ask, step_control, step_next, point_of, answer_of}
 use Rattle.shm_count.specs.Step.{Events.{events_at, own_events, step_event}, CanStep, Gives, NextHolds, PointHolds}
-use Rattle.shm_count.specs.Step.{Going.{Told, events_with, has_part, told_next, trail_ends, trail_goes}, Keeps.step_at}
-use Rattle.shm_count.specs.Step.{Ranges.knows_after, Laws.{ask_inside, step_steady}, Tells.tells_at, Asks.point_trail}
+use Rattle.shm_count.specs.Step.Asks.{point_trail}
+use Rattle.shm_count.specs.Proved.Step.Going.{Told, events_with, has_part, told_next, trail_ends, trail_goes}
+use Rattle.shm_count.specs.Proved.Step.{Keeps.step_at, Ranges.knows_after, Laws.{ask_inside, step_steady}}
+use Rattle.shm_count.specs.Proved.Step.Tells.{tells_at}
 
 module _ (p : Spot) (y0 : StepPoint) where
   -- the step at the point where it is taken up

@@ -3,18 +3,6 @@ pub mod Memos
 pub mod Control
 pub mod Asks
 pub mod Events
-pub mod Stacks
-pub mod Bound
-pub mod Cores
-pub mod TagLoads
-pub mod Words
-pub mod Storing
-pub mod Lowering
-pub mod Ranges
-pub mod Laws
-pub mod Going
-pub mod Keeps
-pub mod Tells
 use Rattle.std.specs.Prelude.{false, ◌≡◌, ◌≢◌, ℕ, ◌+◌, ◌-◌, ◌*◌, ◌^◌, ◌<◌, ◌≤◌, Bool, true, not, ◌==◌, List, [], ◌∷◌, ◌++◌, length, Result, Ok, Err}
 use Rattle.std.specs.List.{All, Contains, filter, list_any}
 use Rattle.shm_words.specs.{declared.tag.Tag.Tag as ATag, Layout.{GeometryFits, total_of}}

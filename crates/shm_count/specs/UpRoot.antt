@@ -1,7 +1,5 @@
 -- an up at the least empty root as a plan: what is known before each call, and what is left
 pub mod Control
-pub mod Steps
-pub mod Laws
 pub mod AsPart
 use Rattle.std.specs.Prelude.{◌≡◌, ◌≢◌, ℕ, ◌+◌, ◌-◌, ◌^◌, ◌<◌, ◌≤◌, true, false, Result, Ok, Err, List, [], ◌∷◌}
 use Rattle.shm_words.specs.Layout.{GeometryFits}

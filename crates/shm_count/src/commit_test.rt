@@ -9,7 +9,7 @@ ghost use Rattle.shm_graph.specs.{declared.{ask.Me.Me as AMe, memo.Memo.Memo as 
 ghost use Rattle.shm_graph.specs.Events.{Event as AnEvent};
 ghost use Rattle.shm_count.specs.declared.commit_test.Commit.{Commit as ACommit};
 ghost use Rattle.shm_count.specs.CommitTest.{Control.{testing, test_next, test_step}, TestLeaves, testing_plan};
-ghost use Rattle.shm_count.specs.CommitTest.Laws.{testing_laws};
+ghost use Rattle.shm_count.specs.Proved.CommitTest.Laws.{testing_laws};
 
 use shm_calls::{Plan, Word};
 use shm_graph::{Machine, Me};

@@ -4,8 +4,9 @@ ghost use Rattle.std.specs.Prelude.{◌≡◌, ◌+◌, ◌<◌, ◌≤◌, ◌^
 ghost use Rattle.shm_words.specs.Layout.{GeometryFits, address_limit};
 ghost use Rattle.shm_count.specs.declared.point.StepPoint.TheVariants.{Era};
 ghost use Rattle.shm_count.specs.Step.Control.{StepInRange, first_point, step_ask, step_next, answer_of, point_of, step_control, is_over};
-ghost use Rattle.shm_count.specs.Step.{ExchangeMade.step_exchanged, Keeps.step_keeps};
+ghost use Rattle.shm_count.specs.{Step.ExchangeMade.step_exchanged, Proved.Step.Keeps.step_keeps};
 ghost use Rattle.shm_count.specs.declared.point.Aim.TheVariants as aims;
+ghost use Rattle.shm_count.specs.Proved.Step.Machines as machines_proved;
 ghost use Rattle.shm_count.specs.Step.Machines as machines;
 
 use crate::answer::{EraSpent, UpFault};
@@ -188,7 +189,7 @@ impl Machine for StepUp {
         }
     }
 
-    ghost laws = { machines.up_laws step_keeps };
+    ghost laws = { machines_proved.up_laws step_keeps };
 }
 
 /// A reference word that names a block comes to be empty, and the block's count goes down.
@@ -275,7 +276,7 @@ impl Machine for StepDown {
         }
     }
 
-    ghost laws = { machines.down_laws step_keeps };
+    ghost laws = { machines_proved.down_laws step_keeps };
 }
 
 /// A reference word that names a block comes to name another one: its count goes up, and that of the block before goes down.
@@ -364,7 +365,7 @@ impl Machine for StepChange {
         }
     }
 
-    ghost laws = { machines.change_laws step_keeps };
+    ghost laws = { machines_proved.change_laws step_keeps };
 }
 
 /// What an answer says of a step up: no count comes to 0.

@@ -2,10 +2,10 @@
 
 ghost use Rattle.std.specs.Prelude.{◌≡◌, ◌<◌, ◌^◌};
 ghost use Rattle.shm_words.specs.Layout.{GeometryFits, address_limit};
-ghost use Rattle.shm_count.specs.declared.tear_point.TearPoint.TheVariants.{Begin};
-ghost use Rattle.shm_count.specs.Operating.{TearDownLeaves, TearMay, tear_operation};
+ghost use Rattle.shm_count.specs.{declared.tear_point.TearPoint.TheVariants.Begin, Operating.{TearDownLeaves, TearMay}};
+ghost use Rattle.shm_count.specs.Proved.{Operating.tear_operation, Tear.Keeps.tear_laws};
 ghost use Rattle.shm_count.specs.Tear.Control.{TearInRange, tear_ask, tear_next, answer_of, block_of, point_of, tear_control, is_over};
-ghost use Rattle.shm_count.specs.Tear.{TearFits, TearGives, Events.tear_event, Keeps.tear_laws};
+ghost use Rattle.shm_count.specs.Tear.{TearFits, TearGives, Events.tear_event};
 
 use crate::answer::EraSpent;
 use crate::tear_point::{TearNext, TearPoint, TearState};

@@ -2,8 +2,8 @@
 
 ghost use Rattle.std.specs.Prelude.{◌≡◌, ◌<◌, ◌^◌};
 ghost use Rattle.shm_words.specs.Layout.{GeometryFits, address_limit};
-ghost use Rattle.shm_count.specs.UpRoot.{Control.rooting, rooting_plan, Laws.rooting_laws};
-ghost use Rattle.shm_count.specs.ShareTask.{ShareMay, share_task};
+ghost use Rattle.shm_count.specs.{UpRoot.{Control.rooting, rooting_plan}, Proved.UpRoot.Laws.rooting_laws};
+ghost use Rattle.shm_count.specs.Proved.ShareTask.{ShareMay, share_task};
 ghost use Rattle.shm_count.specs.UpRoot.Control as control;
 
 use crate::answer::{ShareFault, UpFault};

@@ -30,3 +30,4 @@ pub mod Idle
 pub mod Mapped
 pub mod Core
 pub mod Operations
+pub mod Proved

@@ -63,16 +63,16 @@ pub record Reported (bytes text : List ℕ) : Type 0 where
 -- ---- clients that are given up
 
 -- the script with a life that isn't longer
-pub record IsCutTo (s r : Scripted) : Type 0 where
+pub record IsShorter (s r : Scripted) : Type 0 where
   pub client : r.client ≡ s.client
   pub lines : r.lines ≡ s.lines
   pub life : life_of r.life ≤ life_of s.life
 
 -- each of the scripts so, in their order
-abbrev pub AreCutTo : List Scripted → List Scripted → Type 0
-AreCutTo [] rs = rs ≡ []
-AreCutTo (s ∷ ss) [] = ⊥
-AreCutTo (s ∷ ss) (r ∷ rs) = IsCutTo s r × AreCutTo ss rs
+abbrev pub AreShorter : List Scripted → List Scripted → Type 0
+AreShorter [] rs = rs ≡ []
+AreShorter (s ∷ ss) [] = ⊥
+AreShorter (s ∷ ss) (r ∷ rs) = IsShorter s r × AreShorter ss rs
 
 -- The same of a run in which clients may be given up before their lives end: it is as a run of the trace with shorter lives, in which a client that was given up died
 pub record ReportedCut (bytes text : List ℕ) : Type 0 where
@@ -81,7 +81,7 @@ pub record ReportedCut (bytes text : List ℕ) : Type 0 where
   pub few : length bytes ≤ 1048576
   pub spelled : bytes ≡ text_of trace
   pub scripts : List Scripted
-  pub cut : AreCutTo trace.scripts scripts
+  pub cut : AreShorter trace.scripts scripts
   pub logs : List Logged
   pub words : List ℕ
   pub headline : Headline (record trace { scripts = scripts }) logs words

@@ -106,10 +106,6 @@ fill_end a b c into old part rest now k n limit le first moved is none at below 
           left = all.1 ∙ ap Some (drop_all k left few ∙ sym (drop_all limit left fewer));
         }
 
-pub full_takes : (a b : Option (List ℕ)) (bytes : List ℕ) (k limit : ℕ) → ReadsOn a b [] bytes k → k ≡ limit → TakesFront a b limit bytes
-full_takes None b bytes k limit r e = r
-full_takes (Some left) b bytes k limit r e = record { front = r.2 ∙ ap (λ j. take j left) e; left = r.1 ∙ ap (λ j. Some (drop j left)) e }
-
 -- ---- bytes that nobody keeps
 
 -- some n bytes came up to a limit

@@ -14,26 +14,6 @@ behind [] n (suc i) e = absurd (omega arith)
 behind (x ∷ xs) n zero e = absurd (omega arith)
 behind (x ∷ xs) n (suc i) e = behind xs n i (omega arith)
 
--- a number of the life line
-pub lives_front : (life : List ℕ) (i : ℕ) → i < length life → slice_index (lives_of life) i ≡ slice_index life i
-lives_front [] i l = absurd (omega arith)
-lives_front (n ∷ life) i l = front_of (n ∷ life) (2 ^ 40 ∷ []) i l
-
--- or none
-pub lives_last : (life : List ℕ) (i : ℕ) → length life ≤ i → i < length (lives_of life) → slice_index (lives_of life) i ≡ 2 ^ 40
-lives_last [] zero low l = refl
-lives_last [] (suc zero) low l = refl
-lives_last [] (suc (suc i)) low l = absurd (omega arith)
-lives_last (n ∷ life) i low l = behind (n ∷ life) (2 ^ 40) i (let a = length-append life (2 ^ 40 ∷ []) in omega arith)
-
-pub lives_long : (life : List ℕ) → 0 < length life → length (lives_of life) ≡ length life + 1
-lives_long [] some = absurd (omega arith)
-lives_long (n ∷ life) some = let a = length-append life (2 ^ 40 ∷ []) in omega arith
-
-pub lives_none : (life : List ℕ) → length life ≡ 0 → length (lives_of life) ≡ 2
-lives_none [] none = refl
-lives_none (n ∷ life) none = absurd (omega arith)
-
 pub index_get : (ns : List ℕ) (i : ℕ) → i < length ns → slice_get ns i ≡ Some (slice_index ns i)
 index_get [] i l = absurd (omega arith)
 index_get (n ∷ ns) zero l = refl

@@ -67,14 +67,3 @@ taken_more [] m = append-nil m.entries
 taken_more (x ∷ ms) m = ap (λ (ys : List Taken). x.entries ++ ys) (taken_more ms m) ∙ sym (append_assoc x.entries (all_taken ms) m.entries)
 
 -- ---- places
-
--- one more place was merged
-pub merged_more : (a b s : List (Option Left)) (at : ℕ) (v : Option Left) → at < length s → v ≡ either (slice_index_or b at None) (slice_index_or a at None)
-    → ((c : ℕ) → c < at → slice_index_or s c None ≡ either (slice_index_or b c None) (slice_index_or a c None)) → (c : ℕ) → c < suc at → slice_index_or (slice_set s at v) c None ≡ either (slice_index_or b c None) (slice_index_or a c None)
-merged_more a b s at v inside is done c l =
-    elim (cases_eq c at) [
-      | inl same ↦
-          ap (λ (d : ℕ). slice_index_or (slice_set s at v) d None) same
-          ∙ (get_or-set_same s at v None inside ∙ (is ∙ ap (λ (d : ℕ). either (slice_index_or b d None) (slice_index_or a d None)) (sym same)))
-      | inr other ↦ get_or-set_other s at c v None other ∙ done c (omega arith)
-    ]

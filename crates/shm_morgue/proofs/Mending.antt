@@ -10,7 +10,7 @@ use Rattle.shm_graph.specs.Laws.{Stays, is_some, step_of}
 use Rattle.shm_graph.specs.Runs.{account_after, account_died, account_entered, begun_by, told_by, told_left}
 use Rattle.shm_graph.specs.Whole.{fits_now, gives_now}
 use Rattle.shm_graph.proofs.{Machines.Composing.{none_of, some_of}, Memos.MemoSteps.{agents_after, memo_agents}}
-use Rattle.shm_calls.specs.{CallsControl.calls_of, CallsFit.{CallsFits, CallsGives}, CallsKeep.calls_laws}
+use Rattle.shm_calls.specs.{CallsControl.calls_of, CallsFit.{CallsFits, CallsGives}, Proved.CallsKeep.calls_laws}
 use Rattle.shm_steps.specs.Reparting.{map_in}
 use Rattle.shm_recover.specs.Machines.Recovering.{recover}
 use Rattle.shm_recover.specs.Recover.Control.{recover_line, recover_parts, recovering as recovery, recover_steered}

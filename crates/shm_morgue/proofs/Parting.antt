@@ -26,9 +26,6 @@ client_is x here first = ap (λ (st : Standing). is_at_work st && eqb x.agent 0)
 not_here : (st : Standing) → st ≡ Gone → st ≢ AtWork
 not_here st gone here = absurd (let z : Gone ≡ AtWork = sym gone ∙ here in cc)
 
-not_dead_here : (st : Standing) → st ≡ Dead → st ≢ AtWork
-not_dead_here st dead here = absurd (let z : Dead ≡ AtWork = sym dead ∙ here in cc)
-
 -- ---- turns
 
 recoverers_dead : (died : Bool) (lives : List ℕ) (agents : List Agent) (begun : List (List (List ℕ))) → AreRecoverers died lives agents begun true → (died ≡ true) × (deaths agents ≡ length agents)

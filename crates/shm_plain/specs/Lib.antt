@@ -5,4 +5,4 @@ pub mod Closings
 pub mod Lanes
 pub mod Working
 pub mod Turned
-pub mod Standing
+pub mod Proved

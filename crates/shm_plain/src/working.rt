@@ -3,15 +3,15 @@
 ghost use Rattle.std.specs.Prelude.{◌≡◌, ◌<◌};
 
 use crate::place::Workplace;
-use shm_graph::{Life, Machine, Turn};
 use crate::pool::PlainPool;
+use shm_graph::{Life, Machine, Turn};
 
 impl Workplace for PlainPool {
     ghost use Rattle.std.specs.Prelude.{◌≡◌, ◌<◌};
     ghost use Rattle.shm_graph.specs.Runs.{account_at};
     ghost use Rattle.shm_plain.specs.Pools.{IsRun, after_fall};
     ghost use Rattle.shm_plain.specs.Turned.{IsTurned};
-    ghost use Rattle.shm_plain.specs.Standing.{named_in, stood_in};
+    ghost use Rattle.shm_plain.specs.Proved.Standing.{named_in, stood_in};
 
     ghost start = { λ p. p.start };
 

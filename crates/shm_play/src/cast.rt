@@ -3,8 +3,8 @@
 use crate::play::Play;
 use shm_agents::agents::{Agents, Standing};
 use shm_graph::Me;
-use shm_script::{Log, Script};
 use shm_plain::Workplace;
+use shm_script::{Log, Script};
 use std::alloc::{AllocError, Global};
 use std::marker::Model;
 

@@ -9,8 +9,8 @@ ghost use Rattle.shm_agents.specs.{TurnsLeft.{turns_by, turns_given}, Work.work_
 
 use shm_agents::agents::Standing;
 use shm_graph::Me;
-use shm_script::{Log, Script};
 use shm_plain::Workplace;
+use shm_script::{Log, Script};
 use std::alloc::{AllocError, Global};
 
 /// The agents of a script, one after the other. What takes them by this bound is proved without what they are made of.

@@ -10,8 +10,8 @@ ghost use Rattle.shm_agents.specs.{TurnsLeft.{turns_by, turns_given}, Work.work_
 use crate::play::Play;
 use shm_agents::agents::Standing;
 use shm_graph::Me;
-use shm_script::{Log, Script};
 use shm_plain::Workplace;
+use shm_script::{Log, Script};
 use std::alloc::{AllocError, Global};
 use std::marker::Model;
 

@@ -5,7 +5,7 @@ use Rattle.shm_words.specs.Layout.{GeometryFits}
 use Rattle.shm_graph.specs.declared.{memo.{Kind.TheVariants.Client, Memo.Memo}, run.{Account.Account, Start.Start}}
 use Rattle.shm_graph.specs.{Asks.Trail, Laws.GoneNow, Runs.{account_entered, memos_of, Stood}}
 use Rattle.shm_graph.specs.declared.spot.Spot.TheVariants as spot
-use Rattle.shm_recover.specs.{Join.{JoinGives, join_fresh}, Leave.{MayLeave, Gone.idle_may_leave}}
+use Rattle.shm_recover.specs.{Join.{JoinGives, join_fresh}, Leave.MayLeave, Proved.Leave.Gone.idle_may_leave}
 use Rattle.shm_pool.specs.Tokens.{Its, IsOut, me_of}
 
 -- an identity that is new or gone has nothing to finish

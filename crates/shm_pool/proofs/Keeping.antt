@@ -5,7 +5,7 @@ use Rattle.shm_graph.specs.{declared.{ask.Me.Me, memo.Memo.Memo}, Asks.Trail, Ev
 use Rattle.shm_alloc.specs.declared.{alloc.AllocFault.AllocFault, point.AllocState.AllocState}
 use Rattle.shm_alloc.specs.Alloc.AsPart.{AllocLeaves}
 use Rattle.shm_count.specs.declared.answer.Made.{Made}
-use Rattle.shm_recover.specs.{Join.{JoinGives, join_fresh}, Leave.{MayLeave, Gone.idle_may_leave}}
+use Rattle.shm_recover.specs.{Join.{JoinGives, join_fresh}, Leave.MayLeave, Proved.Leave.Gone.idle_may_leave}
 use Rattle.shm_pool.specs.{Called.Rests, Tokens.Acting}
 use Rattle.shm_pool.proofs.Calling.{live_here}
 

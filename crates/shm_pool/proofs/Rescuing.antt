@@ -1,16 +1,16 @@
 -- a recovery in single steps
 use Rattle.std.proofs.Common.{◌≡◌, Bool, true, false, inr, refl, sym, ap, ◌∙◌, subst, true≢false}
 use Rattle.std.specs.Prelude.{Ok, Err, Option, None, Some}
-use Rattle.shm_calls.specs.{CallsFit.{CallsFits, CallsGives}, CallsKeep.calls_laws}
+use Rattle.shm_calls.specs.{CallsFit.{CallsFits, CallsGives}, Proved.CallsKeep.calls_laws}
 use Rattle.shm_graph.specs.declared.{ask.{Me.Me, Turn.{Turn, TheVariants.{More, Done, Died}}}, memo.Memo.Memo}
 use Rattle.shm_graph.specs.declared.{memo.Status.TheVariants.Gone, run.{Account.Account, Start.Start}}
 use Rattle.shm_graph.specs.{Agents.{acts, is_gone}, Laws.{Laws, Stays, is_died, is_done, is_some, turn_of}}
 use Rattle.shm_graph.specs.Whole.{fits_now, gives_now}
 use Rattle.shm_graph.proofs.Machines.Composing.{none_of, some_of}
-use Rattle.shm_ref.specs.DropRoots.Laws.{roots_laws}
-use Rattle.shm_recover.specs.{FinishTakes.Laws.finish_laws, GiveUp.Laws.give_laws, Machines.Recovering.recover}
-use Rattle.shm_recover.specs.{Mend.Laws.mend_laws, Recover.{Control.recover_parts, Laws.recover_laws, recover_plan}}
-use Rattle.shm_recover.specs.{Scan.Laws.scan_laws, TakeBack.Laws.back_laws}
+use Rattle.shm_ref.specs.Proved.DropRoots.Laws.{roots_laws}
+use Rattle.shm_recover.specs.Proved.{FinishTakes.Laws.finish_laws, GiveUp.Laws.give_laws, Mend.Laws.mend_laws}
+use Rattle.shm_recover.specs.Proved.{Recover.Laws.recover_laws, Scan.Laws.scan_laws, TakeBack.Laws.back_laws}
+use Rattle.shm_recover.specs.{Machines.Recovering.recover, Recover.{Control.recover_parts, recover_plan}}
 use Rattle.shm_pool.specs.{Calls.{ClientStepped, acts_still}, Endings.Answer}
 use Rattle.shm_pool.specs.Rescues.{IsRescuing, RecoverMachine, account_of}
 use Rattle.shm_pool.proofs.{Calling.{acts_leave, acts_stay, goes_on, is_over, never_died}, Changing.begun_who}

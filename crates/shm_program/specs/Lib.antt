@@ -1,4 +1,5 @@
 pub mod Words
+pub mod Givens
 pub mod Refusals
 pub mod Reads
 pub mod Replays

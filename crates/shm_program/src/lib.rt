@@ -10,6 +10,7 @@ mod answer;
 mod auditing;
 pub mod command;
 mod gate;
+mod given;
 pub mod image_laws;
 pub mod laws;
 pub mod outcome;

@@ -1,13 +1,12 @@
 //! What the words of a call ask for.
 
-ghost use Rattle.std.specs.Prelude.{◌≡◌, ◌≢◌, ◌∷◌, [], true, false, slice_index, IfErr, IfOk, IfSome, List, None, Some, codes, map, option_and_then, option_map, ℕ};
-ghost use Rattle.std.specs.{Option.is_some, String.string_bytes};
-ghost use Rattle.clap.specs.Words.{app_of, first_value, found_of, is_simple_and_free};
+ghost use Rattle.std.specs.Prelude.{◌≡◌, ◌≢◌, ◌∷◌, [], true, false, slice_index, IfErr, IfOk, IfSome, List, None, Some, codes, map, ℕ};
+ghost use Rattle.std.specs.String.{string_bytes};
 ghost use Rattle.shm_script.specs.Numbers.{is_numeral, leads_well};
-ghost use Rattle.shm_program.specs.Words.{AreMedics, IsCount, JobFits, NamesCommand, asked, count_of, is_true, job_by, job_of, make_command, make_in, make_of, may_wait, medics_of, name_of, number_in, only, poll_command, poll_in, poll_of, read_by, replay_command, replay_in, replay_of, rows_in, run_command, run_in, run_of};
+ghost use Rattle.shm_program.specs.Givens.{is_set, job_in, number_of};
+ghost use Rattle.shm_program.specs.Words.{AreMedics, IsCount, JobFits, NamesCommand, count_of, job_by, job_of, make_of, may_wait, medics_of, name_of, number_in, poll_of, replay_of, run_of};
 
-use clap::error::ErrorKind;
-use clap::{Arg, ArgAction, ArgMatches, Command};
+use crate::given::{Given, read};
 use std::alloc::{AllocError, Global};
 
 /// What is written of a replay, or of a run.
@@ -112,40 +111,38 @@ fn job_by(alloc: Global, name: Name, words: &[String]) -> Result<Option<Job>, Al
     ensures job { IfOk result (λ job. job ≡ job_by name (map string_bytes words.now)) }
     ensures fits { IfOk result (λ job. IfSome job JobFits) }
 {
-    match name {
-        Name::Replay => replay_job(alloc, words),
-        Name::Run => run_job(alloc, words),
-        Name::Audit => bare_job(Command::new(alloc, "audit"), Job::Audit, words),
-        Name::Make => make_job(alloc, words),
-        Name::Migrate => bare_job(Command::new(alloc, "migrate"), Job::Migrate, words),
-        Name::Poll => poll_job(alloc, words),
-        Name::Tree => bare_job(Command::new(alloc, "tree"), Job::Tree, words),
-    }
-}
-
-/// What the words of `replay` ask for.
-fn replay_job(alloc: Global, words: &[String]) -> Result<Option<Job>, AllocError>
-    ensures job { IfOk result (λ job. job ≡ asked replay_command replay_in (map string_bytes words.now)) }
-    ensures fits { IfOk result (λ job. IfSome job JobFits) }
-{
-    match read(replay_command(alloc)?, words)? {
-        Some(matches) => Ok(replay_of(is_set(&matches, "image"), is_set(&matches, "print"))),
+    match read(alloc, name, words)? {
+        Some(given) => Ok(job_in(name, given)),
         None => Ok(None),
     }
 }
 
-/// The command `replay`, which has two flags.
-fn replay_command<'a>(alloc: Global) -> Result<Command<'a>, AllocError>
-    ensures { IfOk result (λ c. app_of c ≡ replay_command) }
+/// What a command is asked for by its arguments.
+fn job_in(name: Name, given: Given<'_>) -> Option<Job>
+    ensures job { result ≡ job_in name given.entry }
+    ensures fits { IfSome result JobFits }
 {
-    let image = Arg::new(alloc, "image")
-        .long("image")
-        .action(ArgAction::SetTrue);
-    let print = Arg::new(alloc, "print")
-        .long("print")
-        .action(ArgAction::SetTrue);
-    let command = Command::new(alloc, "replay").arg(image)?.arg(print)?;
-    Ok(command)
+    match name {
+        Name::Replay => replay_of(is_set(given.image), is_set(given.print)),
+        Name::Run => run_of(
+            is_set(given.image),
+            given.medics.is_some(),
+            number_of(given.medics),
+        ),
+        Name::Audit => Some(Job::Audit),
+        Name::Make => make_of(
+            is_set(given.print),
+            number_of(given.start),
+            number_of(given.size),
+        ),
+        Name::Migrate => Some(Job::Migrate),
+        Name::Poll => poll_of(
+            number_of(given.turns),
+            given.limit.is_some(),
+            number_of(given.limit),
+        ),
+        Name::Tree => Some(Job::Tree),
+    }
 }
 
 /// What `replay` is asked for by its flags, of which one at most may be set.
@@ -159,33 +156,6 @@ fn replay_of(image: bool, print: bool) -> Option<Job>
         (false, true) => Some(Job::Print),
         (true, true) => None,
     }
-}
-
-/// What the words of `run` ask for.
-fn run_job(alloc: Global, words: &[String]) -> Result<Option<Job>, AllocError>
-    ensures job { IfOk result (λ job. job ≡ asked run_command run_in (map string_bytes words.now)) }
-    ensures fits { IfOk result (λ job. IfSome job JobFits) }
-{
-    match read(run_command(alloc)?, words)? {
-        Some(matches) => Ok(run_of(
-            is_set(&matches, "image"),
-            is_given(&matches, "medics"),
-            number_of(&matches, "medics"),
-        )),
-        None => Ok(None),
-    }
-}
-
-/// The command `run`, which has a flag, and a word behind another one.
-fn run_command<'a>(alloc: Global) -> Result<Command<'a>, AllocError>
-    ensures { IfOk result (λ c. app_of c ≡ run_command) }
-{
-    let image = Arg::new(alloc, "image")
-        .long("image")
-        .action(ArgAction::SetTrue);
-    let medics = Arg::new(alloc, "medics").long("medics");
-    let command = Command::new(alloc, "run").arg(image)?.arg(medics)?;
-    Ok(command)
 }
 
 /// What `run` is asked for by its flag and its number, which may be missing.
@@ -213,54 +183,6 @@ fn medics_of(number: Option<u64>) -> Option<u8>
     Some(number as u8)
 }
 
-/// What the words of a command ask for that takes no further ones.
-fn bare_job<'a>(
-    command: Command<'a>,
-    job: Job,
-    words: &'a [String],
-) -> Result<Option<Job>, AllocError>
-    requires free { is_simple_and_free (app_of command) ≡ true }
-    requires fits { JobFits job }
-    ensures job { IfOk result (λ asks. asks ≡ asked (app_of command.entry) (only job) (map string_bytes words.entry.now)) }
-    ensures fits { IfOk result (λ asks. IfSome asks JobFits) }
-{
-    match read(command, words)? {
-        Some(_) => Ok(Some(job)),
-        None => Ok(None),
-    }
-}
-
-/// What the words of `make` ask for.
-fn make_job(alloc: Global, words: &[String]) -> Result<Option<Job>, AllocError>
-    ensures job { IfOk result (λ job. job ≡ asked make_command make_in (map string_bytes words.now)) }
-    ensures fits { IfOk result (λ job. IfSome job JobFits) }
-{
-    match read(make_command(alloc)?, words)? {
-        Some(matches) => Ok(make_of(
-            is_set(&matches, "print"),
-            number_of(&matches, "start"),
-            number_of(&matches, "size"),
-        )),
-        None => Ok(None),
-    }
-}
-
-/// The command `make`, which has two words and a flag.
-fn make_command<'a>(alloc: Global) -> Result<Command<'a>, AllocError>
-    ensures { IfOk result (λ c. app_of c ≡ make_command) }
-{
-    let start = Arg::new(alloc, "start").required(true);
-    let size = Arg::new(alloc, "size").required(true);
-    let print = Arg::new(alloc, "print")
-        .long("print")
-        .action(ArgAction::SetTrue);
-    let command = Command::new(alloc, "make")
-        .arg(start)?
-        .arg(size)?
-        .arg(print)?;
-    Ok(command)
-}
-
 /// What `make` is asked for by its flag and its numbers.
 fn make_of(print: bool, start: Option<u64>, size: Option<u64>) -> Option<Job>
     ensures job { result ≡ make_of print start size }
@@ -276,31 +198,6 @@ fn make_of(print: bool, start: Option<u64>, size: Option<u64>) -> Option<Job>
     } else {
         Some(Job::Make { start, size })
     }
-}
-
-/// What the words of `poll` ask for.
-fn poll_job(alloc: Global, words: &[String]) -> Result<Option<Job>, AllocError>
-    ensures job { IfOk result (λ job. job ≡ asked poll_command poll_in (map string_bytes words.now)) }
-    ensures fits { IfOk result (λ job. IfSome job JobFits) }
-{
-    match read(poll_command(alloc)?, words)? {
-        Some(matches) => Ok(poll_of(
-            number_of(&matches, "turns"),
-            is_given(&matches, "limit"),
-            number_of(&matches, "limit"),
-        )),
-        None => Ok(None),
-    }
-}
-
-/// The command `poll`, which has a word, and one behind a flag.
-fn poll_command<'a>(alloc: Global) -> Result<Command<'a>, AllocError>
-    ensures { IfOk result (λ c. app_of c ≡ poll_command) }
-{
-    let turns = Arg::new(alloc, "turns").required(true);
-    let limit = Arg::new(alloc, "limit").long("limit");
-    let command = Command::new(alloc, "poll").arg(turns)?.arg(limit)?;
-    Ok(command)
 }
 
 /// What `poll` is asked for by its two numbers, of which the second one may be missing.
@@ -331,37 +228,18 @@ fn count_of(number: Option<u64>) -> Option<u32>
     Some(number as u32)
 }
 
-/// What the command reads in the words, and nothing where it refuses them.
-fn read<'a>(command: Command<'a>, words: &'a [String]) -> Result<Option<ArgMatches<'a>>, AllocError>
-    requires { is_simple_and_free (app_of command) ≡ true }
-    ensures { IfOk result (λ m. option_map rows_in m ≡ read_by (app_of command.entry) (map string_bytes words.entry.now)) }
+/// Whether a flag with this text is set.
+fn is_set(text: Option<&str>) -> bool
+    ensures { result ≡ is_set text.entry }
 {
-    match command.try_get_matches_from(words) {
-        Ok(matches) => Ok(Some(matches)),
-        Err(error) if error.kind() == ErrorKind::OutOfMemory => Err(AllocError),
-        Err(_) => Ok(None),
-    }
-}
-
-/// Whether a flag is set.
-fn is_set(matches: &ArgMatches, flag: &str) -> bool
-    ensures { result ≡ is_true (first_value (found_of matches.now) flag.now) }
-{
-    matches.get_str(flag) == Some("true")
-}
-
-/// Whether there is an argument of this name.
-fn is_given(matches: &ArgMatches, id: &str) -> bool
-    ensures { result ≡ is_some (first_value (found_of matches.now) id.now) }
-{
-    matches.get_str(id).is_some()
+    text == Some("true")
 }
 
 /// The number that the text of an argument spells.
-fn number_of(matches: &ArgMatches, id: &str) -> Option<u64>
-    ensures { result ≡ option_and_then number_in (first_value (found_of matches.now) id.now) }
+fn number_of(text: Option<&str>) -> Option<u64>
+    ensures { result ≡ number_of text.entry }
 {
-    match matches.get_str(id) {
+    match text {
         Some(text) => number(text),
         None => None,
     }

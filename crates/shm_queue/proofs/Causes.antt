@@ -8,7 +8,7 @@ use Rattle.shm_graph.specs.{declared.ask.{Ask.{Ask, TheVariants.Load}, Me.Me}, A
 use Rattle.shm_graph.specs.Trails.{Answers, Asked}
 use Rattle.shm_calls.specs.{declared.or.Or.TheVariants.{First, Second}, Plans.plan_trail}
 use Rattle.shm_count.specs.{declared.answer.{UpFault.TheVariants.{CountFull, EraSpent}, Made.Made}, Refusing.ReadsCount}
-use Rattle.shm_count.specs.{Step.Refusing.step_reads, UpRoot.Control.rooting}
+use Rattle.shm_count.specs.{Proved.Step.Refusing.step_reads, UpRoot.Control.rooting}
 use Rattle.shm_count.specs.declared.answer.ShareFault.TheVariants as share
 use Rattle.shm_count.specs.declared.point.Aim.TheVariants as aims
 use Rattle.shm_count.proofs.LastCalls.{count_read, reads_same, trail_ends, up_root_reads}

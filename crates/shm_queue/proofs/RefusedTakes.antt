@@ -8,9 +8,9 @@ use Rattle.shm_graph.specs.Events as event
 use Rattle.shm_graph.proofs.Spots.Spotting.{same_spot_self}
 use Rattle.shm_count.specs.{Lowering.StoppedAt, Roots.root_word, Tear.Events.{Visit, Walks}}
 use Rattle.shm_queue.specs.declared.answer.PeekFault.{PeekFault, TheVariants.{CountFull, Empty, EraSpent, RootsFull}}
-use Rattle.shm_queue.specs.Drain.{DrainStopped, ItemsEvents, TakenItem, blocks_from, Items.{head_more, lane_more}}
-use Rattle.shm_queue.specs.{Peek.{Control.peeking, PeekLeaves}, Receive.Control.receiving}
-use Rattle.shm_queue.specs.{Receive.{ReceiveLeaves, ReceiveStopped}, Take.{NotTaken, TakeStopped}}
+use Rattle.shm_queue.specs.Drain.{DrainStopped, ItemsEvents, TakenItem, blocks_from}
+use Rattle.shm_queue.specs.{Proved.Drain.Items.{head_more, lane_more}, Peek.{Control.peeking, PeekLeaves}}
+use Rattle.shm_queue.specs.{Receive.{Control.receiving, ReceiveLeaves, ReceiveStopped}, Take.{NotTaken, TakeStopped}}
 
 -- ---- takes
 

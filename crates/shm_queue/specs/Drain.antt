@@ -1,7 +1,5 @@
 -- a drain as a plan: what is known before each call, and what is left
 pub mod Control
-pub mod Items
-pub mod Laws
 use Rattle.std.specs.Prelude.{◌≡◌, ◌≢◌, ℕ, ◌+◌, ◌*◌, ◌-◌, ◌^◌, ◌<◌, ◌≤◌, ◌==◌, if◌then◌else◌, ◌⊎◌, true, false, Result, Ok, Err, List, [], ◌∷◌, ◌++◌, length, slice_index, slice_index_or}
 use Rattle.std.specs.List.{Contains}
 use Rattle.shm_words.specs.Layout.{GeometryFits}

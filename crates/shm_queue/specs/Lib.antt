@@ -1,14 +1,12 @@
 pub mod Answers
-pub mod Costs
 pub mod QueueWords
 pub mod QueueSteps
 pub mod Send
 pub mod Refusals
 pub mod Take
-pub mod HeadReads
 pub mod Peek
 pub mod Drain
 pub mod Receive
 pub mod Machines
-pub mod QueueTasks
 pub mod Keeping
+pub mod Proved

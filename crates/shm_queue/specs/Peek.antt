@@ -1,6 +1,5 @@
 -- a peek as a plan: what is known before each call, and what is left
 pub mod Control
-pub mod Laws
 use Rattle.std.specs.Prelude.{◌≡◌, ◌≢◌, ℕ, ◌+◌, ◌-◌, ◌%◌, ◌^◌, ◌<◌, ◌≤◌, false, Result, Ok, Err, List, [], ◌∷◌}
 use Rattle.std.specs.List.{Contains}
 use Rattle.shm_graph.specs.{Bounds.redo_steps, declared.{ask.{Ask.Ask, Me.Me}, memo.Fact.TheVariants.Counter}}

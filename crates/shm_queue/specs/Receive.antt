@@ -1,6 +1,5 @@
 -- a receive as a plan: what is known before each call, and what is left
 pub mod Control
-pub mod Laws
 use Rattle.std.specs.Prelude.{◌≡◌, ℕ, ◌+◌, ◌-◌, ◌^◌, ◌<◌, ◌⊎◌, Result, Ok, Err, List, [], ◌++◌, length, ◌*◌}
 use Rattle.shm_graph.specs.{declared.{ask.Me.Me, memo.Memo.Memo}, Asks.{Trail, IsWithin}}
 use Rattle.shm_graph.specs.{Bounds.{tear_steps, redo_steps}, Events.Event}

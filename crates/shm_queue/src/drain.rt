@@ -2,8 +2,8 @@
 
 ghost use Rattle.std.specs.Prelude.{◌≡◌, ◌<◌};
 ghost use Rattle.shm_words.specs.Layout.{GeometryFits};
-ghost use Rattle.shm_queue.specs.Drain.{Control.{draining, turned, turned_answer}, drain_plan, Laws.drain_laws};
-ghost use Rattle.shm_queue.specs.{Take.Laws.take_laws, QueueTasks.{DrainMay, drain_task}};
+ghost use Rattle.shm_queue.specs.Drain.{Control.{draining, turned, turned_answer}, drain_plan};
+ghost use Rattle.shm_queue.specs.Proved.{Drain.Laws.drain_laws, Take.Laws.take_laws, QueueTasks.{DrainMay, drain_task}};
 
 use crate::answer::TakeFault;
 use crate::take::Take;

@@ -2,8 +2,8 @@
 
 ghost use Rattle.std.specs.Prelude.{◌≡◌, ◌<◌};
 ghost use Rattle.shm_words.specs.Layout.{GeometryFits};
-ghost use Rattle.shm_queue.specs.Peek.{Control.{peeking, after_word, turns_word}, peek_plan, Laws.peek_laws};
-ghost use Rattle.shm_queue.specs.QueueTasks.{PeekMay, peek_task};
+ghost use Rattle.shm_queue.specs.Peek.{Control.{peeking, after_word, turns_word}, peek_plan};
+ghost use Rattle.shm_queue.specs.Proved.{Peek.Laws.peek_laws, QueueTasks.{PeekMay, peek_task}};
 
 use crate::answer::PeekFault;
 use shm_calls::{Calls, Or, Plan, Task, Word};

@@ -2,8 +2,9 @@
 
 ghost use Rattle.std.specs.Prelude.{◌≡◌, ◌<◌};
 ghost use Rattle.shm_words.specs.Layout.{GeometryFits};
-ghost use Rattle.shm_queue.specs.{Receive.{Control.receiving, receive_plan, Laws.receive_laws}, Peek.Laws.peek_laws};
-ghost use Rattle.shm_queue.specs.{Take.Laws.take_laws, QueueTasks.{ReceiveMay, receive_task}};
+ghost use Rattle.shm_queue.specs.{Receive.{Control.receiving, receive_plan}, Proved.Receive.Laws.receive_laws};
+ghost use Rattle.shm_queue.specs.Proved.{Peek.Laws.peek_laws, Take.Laws.take_laws};
+ghost use Rattle.shm_queue.specs.Proved.QueueTasks.{ReceiveMay, receive_task};
 
 use crate::answer::{PeekFault, TakeFault};
 use crate::peek::Peek;

@@ -2,7 +2,8 @@
 
 ghost use Rattle.std.specs.Prelude.{◌≡◌, ◌<◌, ◌^◌};
 ghost use Rattle.shm_words.specs.Layout.{GeometryFits, address_limit};
-ghost use Rattle.shm_queue.specs.{Send.{Control.sending, send_plan, Laws.send_laws}, QueueTasks.{SendMay, send_task}};
+ghost use Rattle.shm_queue.specs.{Send.{Control.sending, send_plan}, Proved.Send.Laws.send_laws};
+ghost use Rattle.shm_queue.specs.Proved.QueueTasks.{SendMay, send_task};
 
 use crate::answer::SendFault;
 use shm_calls::{Or, Plan, Task, Word};

@@ -2,8 +2,8 @@
 
 ghost use Rattle.std.specs.Prelude.{◌≡◌, ◌<◌};
 ghost use Rattle.shm_words.specs.Layout.{GeometryFits};
-ghost use Rattle.shm_queue.specs.Take.{Control.{taking, after_word, turns_word}, take_plan, Laws.take_laws};
-ghost use Rattle.shm_queue.specs.QueueTasks.{TakeMay, take_task};
+ghost use Rattle.shm_queue.specs.Take.{Control.{taking, after_word, turns_word}, take_plan};
+ghost use Rattle.shm_queue.specs.Proved.{Take.Laws.take_laws, QueueTasks.{TakeMay, take_task}};
 
 use crate::answer::TakeFault;
 use shm_calls::{Or, Plan, Task, Word};

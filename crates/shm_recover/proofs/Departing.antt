@@ -11,7 +11,7 @@ use Rattle.shm_graph.specs.{Held.{HeldAt, status_word}, Sound.IsSound, Views.{ow
 use Rattle.shm_graph.proofs.States.GoneStates.{gone_idle, gone_roots, gone_hold, gone_latches, gone_segments, gone_zero_counts, gone_sends, gone_takes}
 use Rattle.shm_graph.proofs.States.{HeldSound.held_sound, Reached.shown_target}
 use Rattle.shm_recover.specs.{Departures.LeftOrRecovered, FinishTakes.{QueueDone, waiting}, Recover.Control.recovering}
-use Rattle.shm_recover.specs.Recover.{Losses.{IsLoss, roots_losses}, OnlyLoses, RecoverLeaves}
+use Rattle.shm_recover.specs.{Recover.{Losses.IsLoss, OnlyLoses, RecoverLeaves}, Proved.Recover.Losses.roots_losses}
 
 -- ---- nothing is left
 

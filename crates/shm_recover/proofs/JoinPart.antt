@@ -4,10 +4,10 @@ use Rattle.shm_words.specs.Layout.{address}
 use Rattle.shm_words.specs.declared.place.Place.TheVariants as place
 use Rattle.shm_graph.specs.{declared.{ask.Ask.TheVariants.Store, spot.Spot.Spot}, Asks.Trail, Blocks.classes}
 use Rattle.shm_graph.specs.{Events.Nothing, Laws.{framed, event_on}, Tells.{Tells, happens_along}}
-use Rattle.shm_calls.specs.{Parts.PartLaws, Placed.placed}
+use Rattle.shm_calls.specs.{Parts.PartLaws, Proved.Placed.placed}
 use Rattle.shm_recover.specs.{declared.join.JoinState.JoinState, Join.Asks.join_trail}
-use Rattle.shm_recover.specs.Join.{JoinFits, JoinGives, join_control, Keeps.{join_begins, join_laws, status_spot}}
-use Rattle.shm_recover.specs.Join.AsPart.{join_does, join_part}
+use Rattle.shm_recover.specs.Join.{JoinFits, JoinGives, join_control, AsPart.{join_does, join_part}}
+use Rattle.shm_recover.specs.Proved.Join.Keeps.{join_begins, join_laws, status_spot}
 
 pub join_tells : Tells join_control JoinFits join_does
 join_tells m r0 tr w r f going s fit =
@@ -17,13 +17,3 @@ join_tells m r0 tr w r f going s fit =
 -- one word step that is no event tells of none
 one_quiet : (m : JoinState) (t : Trail) → t ≡ join_trail m.me → happens_along join_control join_does m t ≡ []
 one_quiet m t e = ap (happens_along join_control join_does m) e
-
-pub join_part_laws : (first : Bool) → PartLaws first join_control join_part
-join_part_laws first =
-    record {
-      placed = placed first join_control JoinFits JoinGives join_laws;
-      tells = join_tells;
-      begins = λ m r n. subst (λ (x : JoinState). JoinFits x r r []) (sym n.made) (join_begins m.me r n.can);
-      ends = λ m rs r t a n g held same. record { gives = g; none = one_quiet m t g.trail };
-      asked = λ m rs r t a n g. g.trail;
-    }

@@ -1,7 +1,6 @@
 -- takes that are finished, as a plan: what is known before each word step, and what is left
 pub mod Control
 pub mod Words
-pub mod Laws
 use Rattle.std.specs.Prelude.{◌≡◌, ◌≢◌, ℕ, ◌+◌, ◌*◌, ◌-◌, ◌^◌, ◌<◌, ◌≤◌, ◌==◌, if◌then◌else◌, ◌⊎◌, false, List, [], ◌∷◌, ◌++◌, length, slice_index, slice_index_or}
 use Rattle.shm_graph.specs.declared.{ask.Me.Me, spot.Spot.{Spot, TheVariants.QueueHead}, memo.Memo.Memo}
 use Rattle.shm_graph.specs.{Asks.{Trail, IsWithin}, Core.core, Events.Event, Spots.same_spot, Views.own_word}

@@ -1,6 +1,5 @@
 -- segments that are given up before the status gone, as a plan: what is known before each word step, and what is left
 pub mod Control
-pub mod Laws
 use Rattle.std.specs.{Prelude.{◌≡◌, ℕ, ◌+◌, ◌*◌, ◌<◌, ◌≤◌, List, [], slice_index, None}, List.Contains}
 use Rattle.shm_graph.specs.declared.{ask.Me.Me, spot.Spot.TheVariants.Hold, memo.{Memo.Memo, Status.TheVariants.Gone}}
 use Rattle.shm_graph.specs.{Asks.{Trail, IsWithin}, Core.core, Events.Event, Laws.GoneNow, Views.own_word}

@@ -1,6 +1,5 @@
 -- joining: the control of a join, when it may begin, and what it leaves
 pub mod Asks
-pub mod Keeps
 pub mod AsPart
 use Rattle.std.specs.Prelude.{◌≡◌, ℕ, ◌<◌, ◌⊎◌, Bool, true, false, Some, List, [], ◌∷◌}
 use Rattle.shm_words.specs.Layout.{GeometryFits}

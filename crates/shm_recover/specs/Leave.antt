@@ -1,8 +1,5 @@
 -- a leaving as a plan: what is known before each call, and what is left
 pub mod Control
-pub mod Words
-pub mod Laws
-pub mod Gone
 use Rattle.std.specs.{Prelude.{◌≡◌, ℕ, ◌+◌, ◌*◌, ◌<◌, ◌≤◌, Result, Ok, Err, List, [], slice_index, None}, List.Contains}
 use Rattle.shm_graph.specs.{Bounds.{redo_steps, tear_steps}, declared.{ask.Me.Me, spot.Spot.TheVariants.Hold}}
 use Rattle.shm_graph.specs.{declared.memo.Memo.Memo, Asks.{Trail, IsWithin}, Events.Event, Laws.GoneNow, Views.own_word}

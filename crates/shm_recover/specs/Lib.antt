@@ -1,4 +1,3 @@
-pub mod Costs
 pub mod Join
 pub mod Leave
 pub mod MendRest
@@ -13,4 +12,4 @@ pub mod GiveUp
 pub mod Recover
 pub mod Departures
 pub mod Machines
-pub mod LeaveTask
+pub mod Proved

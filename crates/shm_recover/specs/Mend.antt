@@ -1,11 +1,5 @@
 -- mending as a plan: what is known before each call, and what is left
 pub mod Control
-pub mod Steps
-pub mod Slots
-pub mod Words
-pub mod SecondWord
-pub mod Tied
-pub mod Laws
 pub mod Machines
 use Rattle.std.specs.Prelude.{◌≡◌, ◌≢◌, ℕ, ◌+◌, ◌^◌, ◌<◌, ◌≤◌, ◌⊎◌, Bool, true, false, None, Some, List, [], ◌∷◌, ◌++◌}
 use Rattle.shm_words.specs.{declared.redo.Redo.Redo as ARedo, Layout.{GeometryFits, total_of}}

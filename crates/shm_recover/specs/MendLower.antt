@@ -1,7 +1,5 @@
 -- the second half of a change that a recoverer makes, as a plan: what is known before each word step, and what is left
 pub mod Control
-pub mod Headers
-pub mod Laws
 use Rattle.std.specs.Prelude.{◌≡◌, ◌≢◌, ℕ, ◌+◌, ◌-◌, ◌^◌, ◌<◌, ◌≤◌, ◌⊎◌, true, false, List, [], ◌∷◌, ◌++◌}
 use Rattle.std.specs.List.{Contains}
 use Rattle.shm_words.specs.{Headers.header_of, Layout.{GeometryFits, total_of}}

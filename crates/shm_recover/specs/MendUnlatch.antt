@@ -1,6 +1,5 @@
 -- giving back a latch by a recoverer as a plan: what is known before each word step, and what is left
 pub mod Control
-pub mod Laws
 use Rattle.std.specs.Prelude.{◌≡◌, ℕ, ◌<◌, true, false, None, Some, List, []}
 use Rattle.shm_words.specs.Layout.{GeometryFits}
 use Rattle.shm_graph.specs.declared.{ask.Me.Me, spot.Spot.{Spot, TheVariants.Hold}, memo.Memo.Memo}

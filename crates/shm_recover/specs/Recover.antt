@@ -1,7 +1,6 @@
 -- a recovery as a plan: what is known before each call, and what is left
 pub mod Control
 pub mod Losses
-pub mod Laws
 use Rattle.std.specs.Prelude.{◌≡◌, ℕ, ◌+◌, ◌*◌, ◌-◌, ◌^◌, ◌<◌, ◌≤◌, ◌⊎◌, Bool, true, false, Result, Ok, Err, List, [], ◌∷◌, ◌++◌, length, slice_index, None}
 use Rattle.std.specs.List.{All, Contains}
 use Rattle.shm_graph.specs.{Bounds.{recovery_steps, redo_steps, tear_steps}, declared.{ask.Me.Me, spot.Spot.Spot}}

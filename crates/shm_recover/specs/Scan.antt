@@ -1,7 +1,6 @@
 -- a scan as a plan: what is known before each call, and what is left
 pub mod Control
 pub mod Words
-pub mod Laws
 use Rattle.std.specs.Prelude.{◌≡◌, ℕ, ◌+◌, ◌*◌, ◌/◌, ◌%◌, ◌^◌, ◌<◌, ◌≤◌, ◌⊎◌, ◌-◌, true, Result, Ok, Err, List, [], ◌∷◌, ◌++◌, length}
 use Rattle.std.specs.List.{All, Contains}
 use Rattle.shm_words.specs.{Classes.IsClass, Layout.bodies}

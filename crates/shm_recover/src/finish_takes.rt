@@ -3,7 +3,7 @@
 ghost use Rattle.std.specs.Prelude.{◌≡◌, ◌+◌, ◌<◌};
 ghost use Rattle.shm_words.specs.Layout.{GeometryFits};
 ghost use Rattle.shm_recover.specs.FinishTakes.Control.{finishing, after_word, turns_word, passed, passed_answer};
-ghost use Rattle.shm_recover.specs.FinishTakes.{finish_plan, Laws.finish_laws};
+ghost use Rattle.shm_recover.specs.{FinishTakes.finish_plan, Proved.FinishTakes.Laws.finish_laws};
 
 use crate::others::other;
 use shm_calls::{Plan, Word};

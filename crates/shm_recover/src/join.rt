@@ -4,7 +4,7 @@ ghost use Rattle.std.specs.Prelude.{◌≡◌, ◌<◌, [], ◌∷◌};
 ghost use Rattle.shm_words.specs.Layout.{GeometryFits};
 ghost use Rattle.shm_graph.specs.{declared.memo.Memo.Memo as AMemo, Asks.{Trail, IsWithin}, Bounds.join_steps};
 ghost use Rattle.shm_recover.specs.declared.join.JoinState.{JoinState as AJoin};
-ghost use Rattle.shm_recover.specs.Join.{join_control, join_fresh, JoinFits, JoinGives, Keeps.join_laws};
+ghost use Rattle.shm_recover.specs.{Join.{join_control, join_fresh, JoinFits, JoinGives}, Proved.Join.Keeps.join_laws};
 
 use shm_graph::{Ask, Machine, Me, Site, Turn};
 use std::marker::Model;

@@ -2,8 +2,8 @@
 
 ghost use Rattle.std.specs.Prelude.{◌≡◌, ◌<◌};
 ghost use Rattle.shm_words.specs.Layout.{GeometryFits};
-ghost use Rattle.shm_recover.specs.Leave.{Control.{leaving, leave_next}, leave_plan, Laws.leave_laws};
-ghost use Rattle.shm_recover.specs.LeaveTask.{LeaveMay, LeaveRests, leave_task};
+ghost use Rattle.shm_recover.specs.{Leave.{Control.{leaving, leave_next}, leave_plan}, Proved.Leave.Laws.leave_laws};
+ghost use Rattle.shm_recover.specs.Proved.LeaveTask.{LeaveMay, LeaveRests, leave_task};
 
 use shm_calls::{Calls, Or, Plan, Task, Word};
 use shm_count::EraSpent;

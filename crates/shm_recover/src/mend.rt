@@ -10,8 +10,8 @@ ghost use Rattle.shm_graph.specs.{declared.spot.Spot.Spot as ASpot, Agents.enter
 ghost use Rattle.shm_graph.specs.{Bounds.redo_steps, Events.ChangeDown, Held.is_loose, Ops.held_over_of, Tells.Tells};
 ghost use Rattle.shm_steps.specs.Reparting.{map_in};
 ghost use Rattle.shm_calls.specs.{CallsControl.calls_does, CallsFit.CallsFits, Plans.plan_trail};
-ghost use Rattle.shm_recover.specs.Mend.{Control.{mend_parts, mending}, IsMended, MayMend, mend_plan, Laws.mend_laws};
-ghost use Rattle.shm_recover.specs.Mend.Machines.{mend, MendFits, MendGives, mend_told};
+ghost use Rattle.shm_recover.specs.Mend.{Control.{mend_parts, mending}, IsMended, MayMend, mend_plan};
+ghost use Rattle.shm_recover.specs.{Mend.Machines.{mend, MendFits, MendGives, mend_told}, Proved.Mend.Laws.mend_laws};
 ghost use Rattle.shm_recover.specs.Mend.Control as control;
 
 use crate::mend_lower::MendLower;

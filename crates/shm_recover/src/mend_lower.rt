@@ -3,7 +3,7 @@
 ghost use Rattle.std.specs.Prelude.{◌≡◌, ◌+◌, ◌<◌, ◌^◌};
 ghost use Rattle.shm_words.specs.Layout.{GeometryFits};
 ghost use Rattle.shm_count.specs.Step.Control as step;
-ghost use Rattle.shm_recover.specs.MendLower.{Control.lowering, lowering_plan, Laws.lowering_laws};
+ghost use Rattle.shm_recover.specs.{MendLower.{Control.lowering, lowering_plan}, Proved.MendLower.Laws.lowering_laws};
 ghost use Rattle.shm_recover.specs.MendLower.Control as control;
 
 use shm_calls::{Plan, Word};

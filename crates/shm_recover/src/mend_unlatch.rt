@@ -2,7 +2,8 @@
 
 ghost use Rattle.std.specs.Prelude.{◌≡◌, ◌<◌};
 ghost use Rattle.shm_words.specs.Layout.{GeometryFits};
-ghost use Rattle.shm_recover.specs.MendUnlatch.{Control.unlatching, unlatching_plan, Laws.unlatching_laws};
+ghost use Rattle.shm_recover.specs.MendUnlatch.{Control.unlatching, unlatching_plan};
+ghost use Rattle.shm_recover.specs.Proved.MendUnlatch.Laws.{unlatching_laws};
 
 use shm_calls::{Plan, Word};
 use shm_graph::{Machine, Me};

@@ -3,9 +3,10 @@
 ghost use Rattle.std.specs.Prelude.{◌≡◌, ◌<◌, [], ◌∷◌};
 ghost use Rattle.shm_words.specs.Layout.{GeometryFits};
 ghost use Rattle.shm_recover.specs.Recover.{Control.{queues_next, recovering, recover_steered}, recover_plan};
-ghost use Rattle.shm_recover.specs.{Recover.Laws.recover_laws, FinishTakes.Laws.finish_laws, GiveUp.Laws.give_laws};
-ghost use Rattle.shm_recover.specs.{Mend.Laws.mend_laws, Scan.Laws.scan_laws, TakeBack.Laws.back_laws};
-ghost use Rattle.shm_ref.specs.DropRoots.Laws.{roots_laws};
+ghost use Rattle.shm_recover.specs.Proved.{Recover.Laws.recover_laws, FinishTakes.Laws.finish_laws};
+ghost use Rattle.shm_recover.specs.Proved.{GiveUp.Laws.give_laws, Mend.Laws.mend_laws, Scan.Laws.scan_laws};
+ghost use Rattle.shm_recover.specs.Proved.TakeBack.Laws.{back_laws};
+ghost use Rattle.shm_ref.specs.Proved.DropRoots.Laws.{roots_laws};
 
 use crate::finish_takes::FinishTakes;
 use crate::give_up::GiveUp;

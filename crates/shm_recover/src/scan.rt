@@ -3,7 +3,7 @@
 ghost use Rattle.std.specs.Prelude.{◌≡◌, ◌<◌};
 ghost use Rattle.shm_words.specs.Layout.{GeometryFits};
 ghost use Rattle.shm_recover.specs.Scan.Control.{scanning, block_at, is_lost, page_passed, page_answer, block_passed, block_answer};
-ghost use Rattle.shm_recover.specs.Scan.{scan_plan, Laws.scan_laws};
+ghost use Rattle.shm_recover.specs.{Scan.scan_plan, Proved.Scan.Laws.scan_laws};
 
 use shm_calls::{Or, Plan, Word};
 use shm_count::{EraSpent, TearDown};

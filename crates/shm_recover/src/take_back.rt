@@ -3,7 +3,7 @@
 ghost use Rattle.std.specs.Prelude.{◌≡◌, ◌+◌, ◌<◌};
 ghost use Rattle.shm_words.specs.Layout.{GeometryFits};
 ghost use Rattle.shm_recover.specs.TakeBack.Control.{taking_back, after_word, turns_word, passed, passed_answer};
-ghost use Rattle.shm_recover.specs.TakeBack.{back_plan, Laws.back_laws};
+ghost use Rattle.shm_recover.specs.{TakeBack.back_plan, Proved.TakeBack.Laws.back_laws};
 
 use crate::others::other;
 use shm_calls::{Or, Plan, Word};

@@ -5,7 +5,7 @@ use Rattle.shm_words.specs.{Layout.address_limit, Tags.{tag_author, tag_refs}}
 use Rattle.shm_graph.specs.Asks.{Trail}
 use Rattle.shm_calls.specs.{declared.or.Or.TheVariants.{First, Second}, Plans.plan_trail}
 use Rattle.shm_count.specs.{declared.answer.UpFault.TheVariants.{CountFull, EraSpent}, Refusing.ReadsCount}
-use Rattle.shm_count.specs.Step.Refusing.{step_reads}
+use Rattle.shm_count.specs.Proved.Step.Refusing.{step_reads}
 use Rattle.shm_count.specs.declared.point.Aim.TheVariants as aims
 use Rattle.shm_count.proofs.LastCalls.{count_read, reads_same}
 use Rattle.shm_ref.specs.declared.{answer.{HomeFault.HomeFault, SetFault.SetFault}, set_home.HomePoint.HomePoint}

@@ -9,7 +9,7 @@ use Rattle.shm_graph.proofs.{Spots.Spotting.same_spot_self, StepKinds.Loads.choi
 use Rattle.shm_count.specs.{Roots.{AreRootsReached, root_word}, Slots.{Filled, Untouched}}
 use Rattle.shm_count.proofs.{RootSpots.roots_reached, Waiting.loose_after}
 use Rattle.shm_ref.specs.declared.answer.HomeFault.{HomeFault, TheVariants.{CountFull, EraSpent, HomeSet}}
-use Rattle.shm_ref.specs.{declared.set_home.HomeState.HomeState, RootTasks.home_rests, SetHome.HomeLeaves}
+use Rattle.shm_ref.specs.{declared.set_home.HomeState.HomeState, Proved.RootTasks.home_rests, SetHome.HomeLeaves}
 
 -- what is left of the memo, whatever is answered; the home is h
 pub record HomeLasts (c h : ℕ) (m r : Memo) : Type 0 where

@@ -9,7 +9,7 @@ use Rattle.shm_ref.specs.declared.answer.LookFault.{LookFault, TheVariants.{NoSu
 use Rattle.shm_ref.specs.declared.answer.{NoSuchWord.NoSuchWord, NotHeld.NotHeld as Unheld}
 use Rattle.shm_ref.specs.declared.{home_of.HomeOfState.HomeOfState, look.LookState.LookState, read.ReadState.ReadState}
 use Rattle.shm_ref.specs.{HomeOf.HomeLeaves, Look.LookLeaves}
-use Rattle.shm_ref.specs.{OnlyRead.{home_reads, look_reads, read_reads, still_reached}, Read.ReadLeaves}
+use Rattle.shm_ref.specs.{Proved.OnlyRead.{home_reads, look_reads, read_reads, still_reached}, Read.ReadLeaves}
 use Rattle.shm_ref.specs.ReadParts.{tagged}
 
 -- ---- a home

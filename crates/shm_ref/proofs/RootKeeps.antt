@@ -5,11 +5,11 @@ use Rattle.shm_graph.specs.{declared.{ask.Me.Me, memo.Memo.Memo, spot.Spot.TheVa
 use Rattle.shm_graph.specs.{Held.is_loose, Idle.IsIdle}
 use Rattle.shm_count.specs.declared.answer.{EraSpent.EraSpent as Spent, ShareFault.ShareFault}
 use Rattle.shm_count.specs.declared.answer.ShareFault.TheVariants.{EraSpent, RootsFull, CountFull}
-use Rattle.shm_count.specs.{Roots.{AreRootsReached, root_word}, ShareTask.share_rests, UpRoot.UpRootLeaves}
-use Rattle.shm_count.specs.{UpRoot.AsPart.rooted_root, Waiting.LeavesQueues}
+use Rattle.shm_count.specs.{Roots.{AreRootsReached, root_word}, Proved.ShareTask.share_rests}
+use Rattle.shm_count.specs.{Proved.UpRoot.AsPart.rooted_root, UpRoot.UpRootLeaves, Waiting.LeavesQueues}
 use Rattle.shm_count.proofs.{RootSpots.roots_reached, Waiting.{loose_after, own_queues, same_queues}}
-use Rattle.shm_ref.specs.{declared.drop_root.DropState.DropState, DropRoot.DropLeaves, Leaving.left_root, Lefts.Left}
-use Rattle.shm_ref.specs.RootTasks.{drop_left}
+use Rattle.shm_ref.specs.{declared.drop_root.DropState.DropState, DropRoot.DropLeaves, Proved.Leaving.left_root}
+use Rattle.shm_ref.specs.{Proved.RootTasks.drop_left, Lefts.Left}
 
 -- ---- a share
 

@@ -5,7 +5,7 @@ use Rattle.std.specs.{Prelude.{if◌then◌else◌, Ok, Err, IfErr, IfOk, slice_
 use Rattle.shm_graph.specs.{declared.{ask.Me.Me, memo.Memo.Memo, spot.Spot.{Spot, TheVariants.Root}}, Events.Event}
 use Rattle.shm_graph.specs.{Held.is_loose, Idle.IsIdle}
 use Rattle.shm_count.specs.declared.{answer.UpFault.UpFault, point.Aim.{Aim, TheVariants.{Up, Down, Change}}}
-use Rattle.shm_count.specs.{Idles.step_idle, Roots.{AreRootsReached, root_word}, Slots.{Lost, StepDid}}
+use Rattle.shm_count.specs.{Proved.Idles.step_idle, Roots.{AreRootsReached, root_word}, Slots.{Lost, StepDid}}
 use Rattle.shm_count.specs.{Step.Control.value_after, Waiting.LeavesQueues}
 use Rattle.shm_count.proofs.{RootSpots.roots_reached, Waiting.{loose_after, own_queues}}
 

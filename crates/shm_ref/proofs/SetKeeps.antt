@@ -10,11 +10,10 @@ use Rattle.shm_graph.proofs.StepKinds.Loads.{choice}
 use Rattle.shm_count.specs.{Roots.{AreRootsReached, root_word}, Slots.{Filled, Took, Untouched}, Step.Control.last_era}
 use Rattle.shm_count.specs.{Tear.{Events.Visit, Memos.Knows}, Waiting.LeavesQueues}
 use Rattle.shm_count.proofs.{RootSpots.roots_reached, Waiting.{loose_after, own_queues, queues_then, same_queues}}
-use Rattle.shm_ref.specs.{declared.{answer.SetFault.SetFault, set_ref.SetState.SetState}, ReadParts.latch_by}
-use Rattle.shm_ref.specs.{RootTasks.set_rests, SetRef.{SetDid, SetLeaves, SetSpent, SetStays, aim_of}}
-use Rattle.shm_ref.specs.SetRef.{SetDid.{Kept, Raised, Taken}, SetSpent.{AtStep, AtTear}}
-use Rattle.shm_ref.specs.SetRef.Memos.{seen_dying, seen_word, tag_reached, tag_seen, word_seen}
-use Rattle.shm_ref.specs.SetRef.Told.{Reaches, SetTold}
+use Rattle.shm_ref.specs.{declared.{answer.SetFault.SetFault, set_ref.SetState.SetState}, Proved.ReadParts.latch_by}
+use Rattle.shm_ref.specs.Proved.{RootTasks.set_rests, SetRef.Memos.{seen_dying, seen_word, tag_reached}}
+use Rattle.shm_ref.specs.SetRef.{SetDid, SetLeaves, SetSpent, SetStays, aim_of, SetDid.{Kept, Raised, Taken}}
+use Rattle.shm_ref.specs.SetRef.{SetSpent.{AtStep, AtTear}, Memos.{tag_seen, word_seen}, Told.{Reaches, SetTold}}
 use Rattle.shm_ref.specs.declared.answer.SetFault.TheVariants as fault
 
 -- ---- what stays, whatever is answered

@@ -1,6 +1,5 @@
 -- a drop of a root as a plan: what is known before each call, and what is left
 pub mod Control
-pub mod Laws
 use Rattle.std.specs.Prelude.{◌≡◌, ◌≢◌, ℕ, ◌+◌, ◌^◌, ◌<◌, ◌≤◌, Bool, true, false, not, ◌==◌, Result, Ok, Err, List, [], ◌∷◌, length}
 use Rattle.std.specs.List.{Contains}
 use Rattle.shm_graph.specs.{Bounds.{redo_steps, tear_steps}, declared.spot.Spot.TheVariants.{Era, Root}}

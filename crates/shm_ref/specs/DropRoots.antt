@@ -1,6 +1,5 @@
 -- a drop of all roots as a plan: what is known before each root, and what is left
 pub mod Control
-pub mod Laws
 use Rattle.std.specs.Prelude.{◌≡◌, ℕ, ◌+◌, ◌*◌, ◌<◌, ◌≤◌, nat_lt, Bool, Result, Ok, Err, List, ◌++◌, length}
 use Rattle.shm_graph.specs.{Bounds.{redo_steps, tear_steps}, declared.{ask.Me.Me, memo.Memo.Memo}}
 use Rattle.shm_graph.specs.{declared.spot.Spot.TheVariants.Era, Asks.{Trail, IsWithin}, Events.Event, Views.own_word}

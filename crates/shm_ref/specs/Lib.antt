@@ -1,6 +1,4 @@
-pub mod Costs
 pub mod Lefts
-pub mod Leaving
 pub mod RootParts
 pub mod DropRoot
 pub mod DropRoots
@@ -13,13 +11,10 @@ pub mod HomeOf
 pub mod Look
 pub mod Read
 pub mod OnlyRead
-pub mod CountedBlocks
-pub mod CoreLeaves
 pub mod HomeParts
 pub mod SetHome
 pub mod SetRef
 pub mod Machines
-pub mod LatchTasks
-pub mod RootTasks
 pub mod Single
 pub mod RootSteps
+pub mod Proved

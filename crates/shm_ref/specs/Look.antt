@@ -1,5 +1,4 @@
 -- a reference word of a block as a plan: its control, what is known before each word step, and what is left
-pub mod Laws
 use Rattle.std.specs.Prelude.{◌≡◌, ◌≢◌, ℕ, ◌+◌, ◌%◌, ◌<◌, ◌≤◌, ◌==◌, nat_lt, Bool, true, false, if◌then◌else◌, Option, None, Some, Result, Ok, Err, List, [], ◌∷◌}
 use Rattle.shm_words.specs.{Layout.{GeometryFits, address, total_of, address_limit}, Tags.{tag_author, tag_refs}}
 use Rattle.shm_words.specs.declared.place.Place.TheVariants as place

@@ -1,5 +1,4 @@
 -- a plain word of a block as a plan: its control, what is known before each word step, and what is left
-pub mod Laws
 use Rattle.std.specs.Prelude.{◌≡◌, ℕ, ◌+◌, ◌<◌, ◌≤◌, nat_lt, Bool, true, false, if◌then◌else◌, Option, None, Some, Result, Ok, Err, List, [], ◌∷◌}
 use Rattle.shm_words.specs.{Layout.{GeometryFits, address_limit}, Tags.{tag_plain, tag_refs}}
 use Rattle.shm_graph.specs.declared.{ask.{Ask.{Ask, TheVariants.Load}, Me.Me}, spot.Spot.TheVariants.{Body, Tag}}

@@ -1,5 +1,4 @@
 -- giving back a latch as a plan: its control, what is known before each word step, and what is left
-pub mod Laws
 use Rattle.std.specs.Prelude.{◌≡◌, ℕ, ◌+◌, ◌-◌, ◌%◌, ◌<◌, Bool, true, false, Option, None, Some, List, [], ◌∷◌}
 use Rattle.shm_words.specs.Layout.{GeometryFits, address}
 use Rattle.shm_words.specs.declared.place.Place.TheVariants as place

@@ -1,5 +1,4 @@
 -- what a root names, as a plan of one word step
-pub mod Laws
 use Rattle.std.specs.Prelude.{◌≡◌, ℕ, ◌%◌, ◌^◌, ◌<◌, true, false, Some, List, [], ◌∷◌}
 use Rattle.shm_words.specs.Layout.{GeometryFits, address, address_limit}
 use Rattle.shm_words.specs.declared.place.Place.TheVariants as place

@@ -1,5 +1,4 @@
 -- count steps at an own root as plans of one call: what they are, and when they may begin
-pub mod Laws
 use Rattle.std.specs.Prelude.{◌≡◌, ◌≢◌, ℕ, ◌<◌, Bool, true, false, List, Result}
 use Rattle.shm_words.specs.Layout.{GeometryFits, address, address_limit}
 use Rattle.shm_words.specs.declared.place.Place.TheVariants as place
@@ -48,9 +47,6 @@ raise_part m = up_slot_part (Root m.me.who m.root) false
 -- the step at the root leaves what its answer says
 abbrev pub RaiseLeaves : RaisingState → Memo → Memo → Trail → List Event → Result (Unit {0}) UpFault → Type 0
 RaiseLeaves m r0 r tr es a = StepLeft m.me (Up m.block) (Root m.me.who m.root) false r0 r tr es (up_told a)
-
-abbrev pub raising_steered : Steered RaisingState StepState (Result (Unit {0}) UpFault) (Result (Unit {0}) UpFault)
-raising_steered = single_steered raise_me raise_call
 
 abbrev pub raising_plan : Planned RaisingState StepState (Result (Unit {0}) UpFault) (Result (Unit {0}) UpFault)
 raising_plan = single_plan raise_me raise_call raise_part
@@ -123,9 +119,6 @@ change_part m = change_slot_part (Root m.me.who m.root) false
 -- the step at the root leaves what its answer says
 abbrev pub ChangeLeaves : ChangingState → Memo → Memo → Trail → List Event → Result Bool UpFault → Type 0
 ChangeLeaves m = StepLeft m.me (Change m.before m.after) (Root m.me.who m.root) false
-
-abbrev pub changing_steered : Steered ChangingState StepState (Result Bool UpFault) (Result Bool UpFault)
-changing_steered = single_steered change_me change_call
 
 abbrev pub changing_plan : Planned ChangingState StepState (Result Bool UpFault) (Result Bool UpFault)
 changing_plan = single_plan change_me change_call change_part

@@ -1,5 +1,4 @@
 -- setting the own home as a plan: its control, what is known before each call, and what is left
-pub mod Laws
 use Rattle.std.specs.Prelude.{◌≡◌, ◌≢◌, ℕ, ◌+◌, ◌%◌, ◌^◌, ◌<◌, Bool, true, false, ◌==◌, if◌then◌else◌, Option, None, Some, Result, Ok, Err, List, [], ◌∷◌}
 use Rattle.shm_words.specs.Layout.{GeometryFits, address_limit}
 use Rattle.shm_graph.specs.declared.{ask.Me.Me, memo.{Memo.Memo, Op.TheVariants.Nothing}}

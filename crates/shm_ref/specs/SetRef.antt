@@ -1,8 +1,6 @@
 -- setting a reference word of an own block as a plan: when it may begin, what is known before each call, and what is left
 pub mod Control
 pub mod Memos
-pub mod Steps
-pub mod Laws
 pub mod Told
 use Rattle.std.specs.Prelude.{◌≡◌, ◌≢◌, ℕ, zero, suc, ◌+◌, ◌^◌, ◌<◌, ◌≤◌, true, false, ◌⊎◌, Some, Result, Ok, Err, List, [], ◌∷◌, ◌++◌, length, Bool}
 use Rattle.std.specs.List.{Contains}

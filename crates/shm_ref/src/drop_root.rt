@@ -2,7 +2,8 @@
 
 ghost use Rattle.std.specs.Prelude.{◌≡◌, ◌<◌};
 ghost use Rattle.shm_words.specs.Layout.{GeometryFits};
-ghost use Rattle.shm_ref.specs.{DropRoot.{Control.dropping, drop_plan, Laws.drop_laws}, RootTasks.{DropMay, drop_task}};
+ghost use Rattle.shm_ref.specs.{DropRoot.{Control.dropping, drop_plan}, Proved.DropRoot.Laws.drop_laws};
+ghost use Rattle.shm_ref.specs.Proved.RootTasks.{DropMay, drop_task};
 
 use shm_calls::{Or, Plan, Task, Word};
 use shm_count::{EraSpent, StepDown, TearDown};

@@ -2,8 +2,8 @@
 
 ghost use Rattle.std.specs.Prelude.{◌≡◌, ◌<◌};
 ghost use Rattle.shm_words.specs.Layout.{GeometryFits};
-ghost use Rattle.shm_ref.specs.DropRoots.{Control.dropping_roots, roots_plan, Laws.roots_laws};
-ghost use Rattle.shm_ref.specs.RootTasks.{RootsMay, roots_task};
+ghost use Rattle.shm_ref.specs.{DropRoots.{Control.dropping_roots, roots_plan}, Proved.DropRoots.Laws.roots_laws};
+ghost use Rattle.shm_ref.specs.Proved.RootTasks.{RootsMay, roots_task};
 
 use crate::drop_root::DropRoot;
 use shm_calls::{Calls, Plan, Task};

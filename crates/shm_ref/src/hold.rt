@@ -2,7 +2,8 @@
 
 ghost use Rattle.std.specs.Prelude.{◌≡◌, ◌<◌};
 ghost use Rattle.shm_words.specs.Layout.{GeometryFits};
-ghost use Rattle.shm_ref.specs.{Hold.{Control.holding, hold_plan, Laws.hold_laws}, LatchTasks.{HoldMay, hold_task}};
+ghost use Rattle.shm_ref.specs.{Hold.{Control.holding, hold_plan}, Proved.Hold.Laws.hold_laws};
+ghost use Rattle.shm_ref.specs.Proved.LatchTasks.{HoldMay, hold_task};
 
 use crate::answer::Busy;
 use shm_calls::{Plan, Task, Word};

@@ -2,8 +2,8 @@
 
 ghost use Rattle.std.specs.Prelude.{◌≡◌, ◌<◌};
 ghost use Rattle.shm_words.specs.Layout.{GeometryFits};
-ghost use Rattle.shm_ref.specs.HomeOf.{finding, home_of_plan, Laws.home_of_laws};
-ghost use Rattle.shm_ref.specs.LatchTasks.{HomeOfMay, home_of_task};
+ghost use Rattle.shm_ref.specs.{HomeOf.{finding, home_of_plan}, Proved.HomeOf.Laws.home_of_laws};
+ghost use Rattle.shm_ref.specs.Proved.LatchTasks.{HomeOfMay, home_of_task};
 
 use crate::answer::NotHeld;
 use shm_calls::{Plan, Task, Word};

@@ -2,7 +2,8 @@
 
 ghost use Rattle.std.specs.Prelude.{◌≡◌, ◌<◌, ◌^◌};
 ghost use Rattle.shm_words.specs.Layout.{GeometryFits, address_limit};
-ghost use Rattle.shm_ref.specs.{Look.{looking, look_plan, Laws.look_laws}, LatchTasks.{LookMay, look_task}};
+ghost use Rattle.shm_ref.specs.{Look.{looking, look_plan}, Proved.Look.Laws.look_laws};
+ghost use Rattle.shm_ref.specs.Proved.LatchTasks.{LookMay, look_task};
 
 use crate::answer::LookFault;
 use crate::tagged::tag_in;

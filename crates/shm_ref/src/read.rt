@@ -2,7 +2,8 @@
 
 ghost use Rattle.std.specs.Prelude.{◌≡◌, ◌<◌, ◌^◌};
 ghost use Rattle.shm_words.specs.Layout.{GeometryFits, address_limit};
-ghost use Rattle.shm_ref.specs.{Read.{reading, read_plan, Laws.read_laws}, LatchTasks.{ReadMay, read_task}};
+ghost use Rattle.shm_ref.specs.{Read.{reading, read_plan}, Proved.Read.Laws.read_laws};
+ghost use Rattle.shm_ref.specs.Proved.LatchTasks.{ReadMay, read_task};
 
 use crate::answer::NoSuchWord;
 use crate::tagged::tag_in;

@@ -2,8 +2,8 @@
 
 ghost use Rattle.std.specs.Prelude.{◌≡◌, ◌<◌};
 ghost use Rattle.shm_words.specs.Layout.{GeometryFits};
-ghost use Rattle.shm_ref.specs.Release.{releasing, release_plan, Laws.release_laws};
-ghost use Rattle.shm_ref.specs.LatchTasks.{ReleaseMay, release_task};
+ghost use Rattle.shm_ref.specs.{Release.{releasing, release_plan}, Proved.Release.Laws.release_laws};
+ghost use Rattle.shm_ref.specs.Proved.LatchTasks.{ReleaseMay, release_task};
 
 use shm_calls::{Plan, Task, Word};
 use shm_graph::{Machine, Me};

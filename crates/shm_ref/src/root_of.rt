@@ -2,7 +2,8 @@
 
 ghost use Rattle.std.specs.Prelude.{◌≡◌, ◌<◌};
 ghost use Rattle.shm_words.specs.Layout.{GeometryFits};
-ghost use Rattle.shm_ref.specs.{RootOf.{naming, naming_plan, Laws.naming_laws}, LatchTasks.{NamingMay, naming_task}};
+ghost use Rattle.shm_ref.specs.{RootOf.{naming, naming_plan}, Proved.RootOf.Laws.naming_laws};
+ghost use Rattle.shm_ref.specs.Proved.LatchTasks.{NamingMay, naming_task};
 
 use shm_calls::{Plan, Task, Word};
 use shm_graph::{Machine, Me};

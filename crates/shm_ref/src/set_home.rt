@@ -2,7 +2,8 @@
 
 ghost use Rattle.std.specs.Prelude.{◌≡◌, ◌<◌, ◌^◌};
 ghost use Rattle.shm_words.specs.Layout.{GeometryFits, address_limit};
-ghost use Rattle.shm_ref.specs.{SetHome.{homing, home_plan, Laws.home_laws}, RootTasks.{HomeMay, home_task}};
+ghost use Rattle.shm_ref.specs.{SetHome.{homing, home_plan}, Proved.SetHome.Laws.home_laws};
+ghost use Rattle.shm_ref.specs.Proved.RootTasks.{HomeMay, home_task};
 
 use crate::answer::HomeFault;
 use shm_calls::{Or, Plan, Task, Word};

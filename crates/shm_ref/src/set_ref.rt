@@ -2,7 +2,8 @@
 
 ghost use Rattle.std.specs.Prelude.{◌≡◌, ◌<◌, ◌≤◌, ◌^◌, ◌+◌};
 ghost use Rattle.shm_words.specs.Layout.{GeometryFits, total_of, address_limit};
-ghost use Rattle.shm_ref.specs.{SetRef.{Control.setting, set_plan, Laws.set_laws}, RootTasks.{SetMay, set_task}};
+ghost use Rattle.shm_ref.specs.{SetRef.{Control.setting, set_plan}, Proved.SetRef.Laws.set_laws};
+ghost use Rattle.shm_ref.specs.Proved.RootTasks.{SetMay, set_task};
 ghost use Rattle.shm_ref.specs.SetRef.Control as control;
 
 use crate::answer::SetFault;

@@ -4,16 +4,17 @@ use Rattle.shm_words.specs.Layout.{GeometryFits}
 use Rattle.shm_graph.specs.{declared.{ask.Me.Me, memo.Memo.Memo}, Asks.Trail, Laws.Control, Whole.fits_now}
 use Rattle.shm_calls.specs.{CallsControl.{calls_control, calls_of}, CallsFit.CallsFits}
 use Rattle.shm_plain.specs.{Calls.{Ran, Took}, Pools.{IsOf, IsRun, MayStep, Pool, memo_of, readied}}
-use Rattle.shm_queue.specs.Drain.{Control.{drain_parts, draining, drain_steered}, drain_plan, Laws.drain_laws}
-use Rattle.shm_queue.specs.Take.Laws.{take_laws}
-use Rattle.shm_recover.specs.Join.{JoinFits, JoinGives, join_control, join_fresh, AsPart.join_does, Keeps.join_laws}
-use Rattle.shm_recover.specs.Leave.{Control.{leave_parts, leaving, leave_steered}, leave_plan, Laws.leave_laws}
+use Rattle.shm_queue.specs.Drain.{Control.{drain_parts, draining, drain_steered}, drain_plan}
+use Rattle.shm_queue.specs.Proved.{Drain.Laws.drain_laws, Take.Laws.take_laws}
+use Rattle.shm_recover.specs.Join.{JoinFits, JoinGives, join_control, join_fresh, AsPart.join_does}
+use Rattle.shm_recover.specs.Proved.{Join.Keeps.join_laws, Leave.Laws.leave_laws}
+use Rattle.shm_recover.specs.Leave.{Control.{leave_parts, leaving, leave_steered}, leave_plan}
 use Rattle.shm_recover.specs.Recover.{Control.{recover_parts, recovering, recover_steered}, recover_plan}
 use Rattle.shm_recover.proofs.JoinPart.{join_tells}
-use Rattle.shm_alone.specs.{GiveEnds.none_over, JoinEnds.{join_alone, join_left, join_ends}}
-use Rattle.shm_alone.specs.LeaveEnds.{leave_alone, leave_few, leave_left, leave_ends}
-use Rattle.shm_alone.specs.QueuesEnd.{drain_alone, drain_left, drain_saved, drain_ends, drain_begin, drain_ready}
-use Rattle.shm_alone.specs.RecoverEnds.{recover_alone, recover_few, recover_left, recover_ends}
+use Rattle.shm_alone.specs.{GiveEnds.none_over, JoinEnds.{join_alone, join_left}, Proved.JoinEnds.join_ends}
+use Rattle.shm_alone.specs.Proved.{LeaveEnds.{leave_few, leave_ends}, QueuesEnd.{drain_ends, drain_begin, drain_ready}}
+use Rattle.shm_alone.specs.{Proved.RecoverEnds.{recover_few, recover_ends}, LeaveEnds.{leave_alone, leave_left}}
+use Rattle.shm_alone.specs.{QueuesEnd.{drain_alone, drain_left, drain_saved}, RecoverEnds.{recover_alone, recover_left}}
 use Rattle.shm_alone.proofs.Lasting.{Lasts, alone_few, answers_alone, calls_last, lasts, left_few}
 use Rattle.shm_agents.proofs.WorkLaws.{recoveries}
 

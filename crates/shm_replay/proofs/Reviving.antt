@@ -5,14 +5,14 @@ use Rattle.shm_graph.specs.declared.{ask.Me.Me, memo.{Kind.{Kind, TheVariants.{C
 use Rattle.shm_graph.specs.{declared.memo.Status.TheVariants.Gone, Agents.{acts, entered, last_agent, steps_made}}
 use Rattle.shm_graph.specs.{Asks.Trail, Events.Event, Runs.{MayBegin, fell_by}, Whole.fits_now}
 use Rattle.shm_graph.proofs.Memos.MemoSteps.{recovers-entered}
-use Rattle.shm_calls.specs.{CallsControl.{calls_control, calls_of}, CallsFit.CallsFits, CallsKeep.calls_begin}
+use Rattle.shm_calls.specs.{CallsControl.{calls_control, calls_of}, CallsFit.CallsFits, Proved.CallsKeep.calls_begin}
 use Rattle.shm_calls.specs.Plans.{PlanLaws}
 use Rattle.shm_count.specs.{declared.answer.EraSpent.EraSpent, Roots.member}
-use Rattle.shm_ref.specs.DropRoots.Laws.{roots_laws}
-use Rattle.shm_recover.specs.{FinishTakes.Laws.finish_laws, GiveUp.Laws.give_laws, Mend.Laws.mend_laws}
-use Rattle.shm_recover.specs.Recover.Control.{recover_parts, recovering, recover_steered}
-use Rattle.shm_recover.specs.Recover.{Laws.{recover_begin, recover_laws}, RecoverLeaves, recover_plan}
-use Rattle.shm_recover.specs.{Scan.Laws.scan_laws, TakeBack.Laws.back_laws}
+use Rattle.shm_ref.specs.Proved.DropRoots.Laws.{roots_laws}
+use Rattle.shm_recover.specs.Proved.{FinishTakes.Laws.finish_laws, GiveUp.Laws.give_laws, Mend.Laws.mend_laws}
+use Rattle.shm_recover.specs.Proved.{Recover.Laws.{recover_begin, recover_laws}, Scan.Laws.scan_laws}
+use Rattle.shm_recover.specs.Proved.TakeBack.Laws.{back_laws}
+use Rattle.shm_recover.specs.Recover.{Control.{recover_parts, recovering, recover_steered}, RecoverLeaves, recover_plan}
 use Rattle.shm_plain.specs.{Pools.{IsRun, MayStep, Pool, memo_of, readied}, Tracks.kind_next}
 use Rattle.shm_plain.proofs.Turning.{ready_memo}
 use Rattle.shm_agents.proofs.Standing.{fell_quiet}

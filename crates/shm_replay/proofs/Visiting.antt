@@ -4,14 +4,14 @@ use Rattle.std.specs.{Prelude.{Ok, Err, None, slice_index}, Result.IsOk}
 use Rattle.shm_graph.specs.declared.{ask.Me.Me, memo.{Kind.Kind, Memo.Memo}, spot.Spot.TheVariants.{Era, Hold}}
 use Rattle.shm_graph.specs.{Agents.{acts, entered, steps_made}, Asks.Trail, Events.Event, Idle.hold_word}
 use Rattle.shm_graph.specs.Views.{own_word}
-use Rattle.shm_calls.specs.{CallsControl.calls_of, CallsFit.CallsFits, CallsKeep.calls_begin}
+use Rattle.shm_calls.specs.{CallsControl.calls_of, CallsFit.CallsFits, Proved.CallsKeep.calls_begin}
 use Rattle.shm_count.specs.{declared.answer.EraSpent.EraSpent, Roots.member}
 use Rattle.shm_count.proofs.RootSpots.{is_here}
-use Rattle.shm_queue.specs.Drain.{Control.{drain_parts, draining, drain_steered}, Laws.drain_laws}
-use Rattle.shm_queue.specs.{Drain.{DrainLeaves, drain_plan}, Take.Laws.take_laws}
-use Rattle.shm_recover.specs.Join.{JoinFits, JoinGives, join_fresh, Keeps.join_begins}
-use Rattle.shm_recover.specs.Leave.{Control.{leave_parts, leaving, leave_steered}, Gone.idle_may_leave, Laws.leave_laws}
-use Rattle.shm_recover.specs.Leave.{LeaveLeaves, leave_plan}
+use Rattle.shm_queue.specs.Drain.{Control.{drain_parts, draining, drain_steered}, DrainLeaves, drain_plan}
+use Rattle.shm_queue.specs.Proved.{Drain.Laws.drain_laws, Take.Laws.take_laws}
+use Rattle.shm_recover.specs.{Join.{JoinFits, JoinGives, join_fresh}, Proved.Join.Keeps.join_begins}
+use Rattle.shm_recover.specs.Proved.Leave.{Gone.idle_may_leave, Laws.leave_laws}
+use Rattle.shm_recover.specs.Leave.{Control.{leave_parts, leaving, leave_steered}, LeaveLeaves, leave_plan}
 use Rattle.shm_plain.specs.{Pools.{IsRun, Pool, memo_of, readied}, Tracks.kind_next}
 use Rattle.shm_plain.proofs.Turning.{ready_memo}
 use Rattle.shm_replay.specs.Closings.{AreVisits, IsIn, IsOut, IsVisit}

@@ -1,5 +1,5 @@
 -- the replay of a trace
-use Rattle.std.specs.{Prelude.{◌≡◌, ℕ, ◌<◌, List}, List.AllByRecursion}
+use Rattle.std.specs.{Prelude.{◌≡◌, ℕ, ◌<◌, true, List}, List.AllByRecursion}
 use Rattle.std.specs.FinMap as finmap
 use Rattle.shm_graph.specs.{declared.{run.Start.Start, table.Entry.Entry}, Spots.see, Tables.{IsTable, map_of}}
 use Rattle.shm_plain.specs.{Pools.{Pool, first_pool}, Closings.IsClosedRun}

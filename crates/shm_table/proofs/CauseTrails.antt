@@ -14,7 +14,7 @@ use Rattle.shm_calls.specs.Plans.{Planned, calls_asked, go_on, plan_trail}
 use Rattle.shm_alloc.specs.{declared.{alloc.AllocFault.AllocFault, request.Request.Request}, Alloc.Asks.alloc_trail}
 use Rattle.shm_alloc.specs.declared.alloc.AllocFault.TheVariants as alloc
 use Rattle.shm_count.specs.{declared.{answer.UpFault.UpFault, point.Aim.Aim}, Refusing.ReadsCount, Step.Asks.step_trail}
-use Rattle.shm_count.specs.Step.Refusing.{step_reads}
+use Rattle.shm_count.specs.Proved.Step.Refusing.{step_reads}
 use Rattle.shm_count.specs.declared.answer.UpFault.TheVariants as up
 use Rattle.shm_script.specs.declared.log.Answer.{Answer}
 use Rattle.shm_script.specs.declared.log.Answer.TheVariants as answer

@@ -3,14 +3,14 @@ use Rattle.std.proofs.Common.{◌≡◌, ℕ, ◌%◌, Bool, true, false, refl, 
 use Rattle.std.specs.Prelude.{◌&&◌, ◌==◌, if◌then◌else◌, is_ok, Option, Some, None, Result, Ok, Err}
 use Rattle.shm_words.specs.Layout.{address_limit}
 use Rattle.shm_calls.specs.{declared.or.Or.{Or, TheVariants.{First, Second}}, CallsControl.calls_control}
-use Rattle.shm_calls.specs.Deciding.{Decides, Foretells, calls_decides, calls_foretell, decides_where, either, keeps_decided, mapped_foretells, or_decides, or_foretells}
+use Rattle.shm_calls.specs.Deciding.{Decides, Foretells, calls_decides, calls_foretell, either}
+use Rattle.shm_calls.specs.Proved.Deciding.{decides_where, keeps_decided, mapped_foretells, or_decides, or_foretells}
 use Rattle.shm_calls.specs.{Either.or_control, Words.word_control}
 use Rattle.shm_graph.specs.Laws.{Control}
 use Rattle.shm_count.specs.declared.answer.{EraSpent.EraSpent as AnEraSpent, UpFault.UpFault}
 use Rattle.shm_count.specs.{declared.answer.UpFault.TheVariants.{CountFull, EraSpent}, Step.Control.step_control}
-use Rattle.shm_count.specs.Step.Decides.{down_decides, step_decides, up_decides}
 use Rattle.shm_count.specs.Step.{ExchangeMade.{step_exchanged, step_exchanging}, Machines.{down_control, up_control}}
-use Rattle.shm_count.specs.Tear.Control.{tear_control}
+use Rattle.shm_count.specs.{Proved.Step.Decides.{down_decides, step_decides, up_decides}, Tear.Control.tear_control}
 use Rattle.shm_alloc.specs.Alloc.Control.{alloc_control}
 use Rattle.shm_queue.specs.{declared.answer.SendFault.SendFault, Machines.send}
 use Rattle.shm_queue.specs.declared.answer.SendFault.TheVariants as send_fault
@@ -40,7 +40,7 @@ use Rattle.shm_table.specs.RecvKey.Control.{RecvAnswer, RecvCalls, fetch_head_co
 use Rattle.shm_table.specs.{RecvKey.recv_plan, Replace.Control.{ReplaceAnswer, replace_parts, replace_steered}}
 use Rattle.shm_table.specs.Replace.{replace_plan}
 use Rattle.shm_table.specs.SendKey.Control.{SendKeyAnswer, SendKeyCalls, send_key_parts, sent_answer, send_key_steered}
-use Rattle.shm_table.specs.{SendKey.send_key_plan, Unlatch.unlatch_control}
+use Rattle.shm_table.specs.{SendKey.send_key_plan, Unlatch.Control.unlatch_control}
 use Rattle.shm_table.specs.Unlink.Control.{UnlinkAnswer, unlink_call_at, unlink_parts, unlink_steered, unlink_control}
 use Rattle.shm_table.specs.{Unlink.unlink_plan, Locate.Control.locate_control}
 use Rattle.shm_table.specs.declared.enter.EnterPoint.TheVariants as enter

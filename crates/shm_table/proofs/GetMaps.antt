@@ -8,7 +8,7 @@ use Rattle.shm_graph.specs.{Runs.{Held, IsMove, State, Turned, memos_of, moved},
 use Rattle.shm_graph.specs.Tells.{GoesOn, after_all, machine_steps}
 use Rattle.shm_graph.proofs.Runs.Running.{Leads-append}
 use Rattle.shm_calls.specs.{declared.or.Or.TheVariants.{First, Second}, CallsControl.{answered, called_on, calls_of}}
-use Rattle.shm_calls.specs.{CallsFit.{CallsFits, CallsGives}, CallsKeep.{calls_begin, calls_laws}}
+use Rattle.shm_calls.specs.{CallsFit.{CallsFits, CallsGives}, Proved.CallsKeep.{calls_begin, calls_laws}}
 use Rattle.shm_count.specs.Calling.{IsCall}
 use Rattle.shm_steps.specs.Reparting.{map_in}
 use Rattle.shm_script.specs.declared.log.Answer.{Answer}
@@ -17,13 +17,14 @@ use Rattle.shm_script.specs.declared.log.Answer.TheVariants as answer
 use Rattle.shm_table.specs.declared.{find.Found.{Found, TheVariants.{Absent, At}}, get.GetPoint.GetPoint}
 use Rattle.shm_table.specs.declared.get.GetPoint.TheVariants.{Search, Value, Number, Missing, Known}
 use Rattle.shm_table.specs.{declared.get.GetState.GetState, Command.{CommandCall, command_control, command_of, given}}
-use Rattle.shm_table.specs.Find.{Control.word_ask, IsLook}
-use Rattle.shm_table.specs.Find.Tells.{HasKey, HasRead, author_has, author_maps, author_names, author_value}
+use Rattle.shm_table.specs.Find.{Control.word_ask, IsLook, Tells.{HasKey, HasRead}}
+use Rattle.shm_table.specs.Proved.Find.Tells.{author_has, author_maps, author_names, author_value}
+use Rattle.shm_table.specs.Proved.Get.{Laws.{get_begin, get_laws}, Tells.{named_shown, ready_told}}
 use Rattle.shm_table.specs.Get.Control.{GetAnswer, GetCall, GetCalls, get_answer, get_parts, getting, get_steered}
-use Rattle.shm_table.specs.Get.{Finding.{FindsAt, IsAnswered}, get_plan, Laws.{get_begin, get_laws}}
-use Rattle.shm_table.specs.Get.Tells.{HasNamed, IsReady, named_shown, ready_told}
+use Rattle.shm_table.specs.Get.{Finding.{FindsAt, IsAnswered}, get_plan, Tells.{HasNamed, IsReady}}
 use Rattle.shm_table.specs.Locate.{Control.{locating, locate_steered, LocateCalls, locate_control}, MayLocate}
-use Rattle.shm_table.specs.{Machines.Get.get, Unlatch.{UnlatchCalls, unlatch_control, unlatching, unlatch_steered}}
+use Rattle.shm_table.specs.Machines.Get.{get}
+use Rattle.shm_table.specs.Unlatch.Control.{UnlatchCalls, unlatch_control, unlatching, unlatch_steered}
 use Rattle.shm_table.proofs.{CallStates.{IsCalled, IsNext, comes, next_step}, DecidingEvents.kept_along}
 use Rattle.shm_table.proofs.{Running.Roots.start_kept, ValueWords.word_stays}
 use Rattle.shm_table.proofs.Within.{answered_within, goes_within, steps_within}

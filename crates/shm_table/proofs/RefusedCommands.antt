@@ -9,7 +9,7 @@ use Rattle.shm_script.specs.declared.log.Answer.TheVariants as answer
 use Rattle.shm_steps.specs.Reparting.{map_in}
 use Rattle.shm_count.specs.{Roots.root_word, Tear.Memos.is_lasting}
 use Rattle.shm_table.specs.{declared.answer.PutFault.PutFault, Answers.fault_answer, Get.Visited, OpenTable.HomeSo}
-use Rattle.shm_table.specs.PutRoot.{IsEraSpent, Undoing.still_same}
+use Rattle.shm_table.specs.{PutRoot.IsEraSpent, Proved.PutRoot.Undoing.still_same}
 use Rattle.shm_table.specs.Refusals.{CommandLeaves, is_refusal, is_spent, taken_by}
 use Rattle.shm_table.specs.{Staying.{Cleared, Keeps, SameMap, Still, is_set}, Undoing.{CommandUndone, IsTakenBack}}
 use Rattle.shm_table.specs.declared.answer.PutFault.TheVariants as fault

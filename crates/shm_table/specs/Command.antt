@@ -1,6 +1,4 @@
 -- the control of a command of a line: that of one of the commands
-pub mod Laws
-pub mod Events
 pub mod Bound
 pub mod Maps
 pub mod Sends

@@ -1,6 +1,5 @@
 -- a copy as a plan: when it may begin, what is known before each call, and what is left
 pub mod Control
-pub mod Laws
 pub mod Bound
 use Rattle.std.specs.Prelude.{◌≡◌, ◌≢◌, ℕ, ◌+◌, ◌*◌, ◌<◌, ◌⊎◌, false, Option, Some, None, List, [], ◌∷◌, length, Bool}
 use Rattle.std.specs.List.{All, Contains}

@@ -1,6 +1,5 @@
 -- removing a key of the own table as a plan: when it may begin, what is known before each call, and what is left
 pub mod Control
-pub mod Laws
 pub mod Bound
 use Rattle.std.specs.{Prelude.{◌≡◌, ℕ, ◌+◌, ◌*◌, ◌<◌, false, Some, None, List, [], ◌++◌, length}, List.{All, Contains}}
 use Rattle.shm_words.specs.Layout.{GeometryFits}

@@ -1,8 +1,5 @@
 -- a new entry as a plan: when it may begin, what is known before each call, and what is left
 pub mod Control
-pub mod Steps
-pub mod Memos
-pub mod Laws
 use Rattle.std.specs.Prelude.{◌≡◌, ◌≢◌, ℕ, zero, suc, ◌+◌, ◌*◌, ◌%◌, ◌^◌, ◌<◌, ◌⊎◌, false, List, [], ◌∷◌, Bool}
 use Rattle.shm_words.specs.Layout.{GeometryFits}
 use Rattle.shm_graph.specs.{declared.{ask.Me.Me, memo.Memo.Memo}, Agents.recovers, Asks.{Trail, IsWithin}}

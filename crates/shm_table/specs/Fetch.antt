@@ -1,7 +1,5 @@
 -- reading what a key has and giving it a root as a plan: what is known before each call, and what is left
 pub mod Control
-pub mod Steps
-pub mod Laws
 use Rattle.std.specs.Prelude.{◌≡◌, ◌≢◌, ℕ, ◌+◌, ◌*◌, ◌<◌, true, false, Option, Some, None, List, [], ◌∷◌, Bool}
 use Rattle.std.specs.List.{Contains}
 use Rattle.shm_words.specs.Layout.{address_limit}

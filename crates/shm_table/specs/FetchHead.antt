@@ -1,6 +1,5 @@
 -- giving the value block at the head of a queue a root as a plan: what is known before each call, and what is left
 pub mod Control
-pub mod Laws
 use Rattle.std.specs.{Prelude.{◌≡◌, ◌≢◌, ℕ, ◌+◌, ◌%◌, ◌<◌, false, List, [], ◌∷◌, Bool}, List.Contains}
 use Rattle.shm_words.specs.Layout.{total_of, address_limit}
 use Rattle.shm_graph.specs.{declared.{ask.Me.Me, memo.{Fact.TheVariants.Counter, Memo.Memo}}, Agents.recovers}

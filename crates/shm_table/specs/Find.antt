@@ -1,7 +1,5 @@
 -- looking for a key as a plan: when it may begin, what is known before each word step, and what is left
 pub mod Control
-pub mod SearchLoads
-pub mod Laws
 pub mod Bound
 pub mod Tells
 use Rattle.std.specs.Prelude.{◌≡◌, ◌≢◌, ℕ, ◌+◌, ◌%◌, ◌<◌, ◌⊎◌, Some, None, false, List, [], ◌∷◌, ◌++◌}

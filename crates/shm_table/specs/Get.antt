@@ -1,7 +1,6 @@
 -- reading what a key has as a plan: what is known before each call, and what is left
 pub mod Control
 pub mod UnderLatch
-pub mod Laws
 pub mod Bound
 pub mod Tells
 pub mod Finding

@@ -1,13 +1,10 @@
-pub mod Costs
 pub mod Answers
 pub mod Staying
 pub mod Find
 pub mod EntryReads
-pub mod LatchGiving
 pub mod Unlatch
 pub mod Locate
 pub mod ValuesListed
-pub mod EntrySteps
 pub mod Replace
 pub mod Unlink
 pub mod Enter
@@ -31,3 +28,4 @@ pub mod TableTasks
 pub mod Command
 pub mod Refusals
 pub mod Causes
+pub mod Proved

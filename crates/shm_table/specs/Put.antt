@@ -1,8 +1,5 @@
 -- a put as a plan: when it may begin, what is known before each call, and what is left
 pub mod Control
-pub mod Laws
-pub mod Bound
-pub mod Fresh
 use Rattle.std.specs.Prelude.{◌≡◌, ◌≢◌, ℕ, ◌+◌, ◌*◌, ◌^◌, ◌<◌, ◌⊎◌, false, Option, Some, None, List, [], ◌∷◌, length, Bool}
 use Rattle.std.specs.List.{All, Contains}
 use Rattle.shm_graph.specs.{declared.{ask.Me.Me, memo.Memo.Memo, spot.Spot.TheVariants.Home}, Agents.recovers}

@@ -1,9 +1,5 @@
 -- putting a value block into the own table as a plan: when it may begin, what is known before each call, and what is left
 pub mod Control
-pub mod Steps
-pub mod Undoing
-pub mod Following
-pub mod Laws
 pub mod Bound
 use Rattle.std.specs.Prelude.{◌≡◌, ◌≢◌, Bool, ℕ, ◌+◌, ◌*◌, ◌%◌, ◌^◌, ◌<◌, ◌⊎◌, false, Option, Some, None, IfSome, Result, Ok, Err, List, [], ◌∷◌, ◌++◌, length}
 use Rattle.std.specs.List.{All, Contains}

@@ -1,8 +1,5 @@
 -- a receive into a table as a plan: when it may begin, what is known before each call, and what is left
 pub mod Control
-pub mod Items
-pub mod Laws
-pub mod Bound
 use Rattle.std.specs.Prelude.{◌≡◌, ◌≢◌, ℕ, ◌+◌, ◌*◌, ◌%◌, ◌<◌, ◌⊎◌, false, Option, Some, None, List, [], ◌∷◌, length, slice_index, Bool}
 use Rattle.std.specs.List.{All, Contains}
 use Rattle.shm_graph.specs.{declared.{ask.Me.Me, memo.Memo.Memo}, Asks.{Trail, IsWithin}}

@@ -1,7 +1,5 @@
 -- sending what an own key has as a plan: when it may begin, what is known before each call, and what is left
 pub mod Control
-pub mod Steps
-pub mod Laws
 pub mod Bound
 use Rattle.std.specs.Prelude.{◌≡◌, ◌≢◌, ℕ, ◌+◌, ◌-◌, ◌*◌, ◌%◌, ◌^◌, ◌<◌, false, Option, Some, None, List, [], ◌∷◌, slice_index, Bool}
 use Rattle.std.specs.List.{Contains}

@@ -1,6 +1,5 @@
 -- what machines over tables leave of the memo before them
 pub mod Laws
-pub mod Steps
 use Rattle.std.specs.Prelude.{◌≡◌, ◌≢◌, ℕ, ◌+◌, ◌^◌, ◌-◌, ◌<◌, ◌≤◌, ◌==◌, ◌⊎◌, Bool, true, false, if◌then◌else◌, Some, None}
 use Rattle.std.specs.List.{Contains}
 use Rattle.shm_graph.specs.declared.{ask.Me.Me, memo.Memo.Memo, spot.Spot.{Spot, TheVariants.{Era, Hold, Home, Root}}}

@@ -1,6 +1,5 @@
 -- taking an item that is known as a plan: when it may begin, what is known before each call, and what is left
 pub mod Control
-pub mod Laws
 use Rattle.std.specs.Prelude.{◌≡◌, ◌≢◌, ℕ, ◌+◌, ◌%◌, ◌^◌, ◌<◌, true, false, Result, Ok, Err, List, [], ◌∷◌, slice_index, Bool}
 use Rattle.shm_words.specs.Layout.{GeometryFits}
 use Rattle.shm_graph.specs.{declared.{ask.Me.Me, memo.Memo.Memo}, Asks.{Trail, IsWithin}, Events.Event, Idle.IsIdle}

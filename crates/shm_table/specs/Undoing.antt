@@ -1,13 +1,12 @@
 -- what a refused command that gives a block a root and then an entry leaves of the home, of the zero-count blocks and of the graph
 use Rattle.std.proofs.Common.{◌≡◌, ◌≢◌, ℕ, sym, ap, subst, List, [], ◌∷◌, ◌++◌, ◌⊎◌, Option, Some, None, inl, inr}
-use Rattle.shm_graph.specs.{declared.{ask.Me.Me, memo.Memo.Memo, spot.Spot.TheVariants.Home}, Asks.Trail, Events.Event}
+use Rattle.shm_graph.specs.{declared.{ask.Me.Me, memo.Memo.Memo, spot.Spot.TheVariants.Home}, Events.Event}
 use Rattle.shm_graph.specs.Views.{own_word}
 use Rattle.shm_count.specs.{declared.answer.EraSpent.EraSpent, Roots.root_word, Tear.Events.Visit}
 use Rattle.shm_ref.specs.Lefts.{RootEvents, Stopped}
 use Rattle.shm_table.specs.{declared.answer.PutFault.PutFault, Answers.spent_fault, OpenTable.HomeSo}
-use Rattle.shm_table.specs.PutRoot.{IsEraSpent, IsUnlisted, PutRootRefused}
-use Rattle.shm_table.specs.PutRoot.Undoing.{home_later, home_more, still_more, still_same, still_stopped}
-use Rattle.shm_table.specs.Staying.{Still, Laws.root_kept}
+use Rattle.shm_table.specs.PutRoot.{IsEraSpent, IsUnlisted}
+use Rattle.shm_table.specs.{Proved.PutRoot.Undoing.{home_more, still_more, still_same, still_stopped}, Staying.Still}
 
 -- nothing was done; or a block came into a root by such an event, it got no entry, and it lost that root. By these events the home that was `before` is `after`
 abbrev pub IsTakenBack : ℕ → (ℕ → ℕ → Event) → ℕ → ℕ → List Event → Type 0
@@ -28,26 +27,11 @@ BlockUndone c taken k b r0 r es None = Unit {0}
 BlockUndone c taken k b r0 r es (Some f) =
     HomeSo c (own_word r0.own (Home c)) (own_word r.own (Home c)) es × Still r0 r × (((ps : List Event) × (es ≡ taken k b ∷ ps) × (b ≢ 0) × IsUnlisted c b (own_word r0.own (Home c)) (own_word r.own (Home c)) ps × (root_word c r k ≡ b)) ⊎ IsEraSpent f)
 
--- no block came into a root
-pub none_undone : (me : Me) (taken : ℕ → ℕ → Event) (r0 r : Memo) (es : List Event) (f : PutFault) → own_word r.own (Home me.who) ≡ own_word r0.own (Home me.who) → r.dying ≡ r0.dying → es ≡ [] → CommandUndone me taken r0 r es f
-none_undone me taken r0 r es f home dying none = record { home = inl home; still = still_same r0 r dying; events = inl (inl (none, home)) }
-
--- it came into root k, and then it was refused an entry
-pub put_undone : (me : Me) (taken : ℕ → ℕ → Event) (key k b : ℕ) (r0 rs r : Memo) (t : Trail) (es ds : List Event) (f : PutFault) → es ≡ taken k b ∷ [] → own_word rs.own (Home me.who) ≡ own_word r0.own (Home me.who) → rs.dying ≡ r0.dying → b ≢ 0 → root_word me.who rs k ≡ b → PutRootRefused me key b rs r t ds f
-    → BlockUndone me.who taken k b r0 r (es ++ ds) (Some f)
-put_undone me taken key k b r0 rs r t es ds f told home dying some root w =
-    let c = me.who in
-    let after = own_word r.own (Home c) in (
-      home_later c (own_word r0.own (Home c)) after es ds (subst (λ x. HomeSo c x after ds) home w.home),
-      still_more r0 rs r (still_same r0 rs dying) w.still,
-      elim w.events [ inl y ↦ inl (ds, ap (λ (u : List Event). u ++ ds) told, some, subst (λ x. IsUnlisted c b x after ds) home y, root_kept c rs r k b w.keeps some root) | inr z ↦ inr z ],
-    )
-
 module _ (me : Me) (taken : ℕ → ℕ → Event) (k b : ℕ) (r0 rs r : Memo) (es ds : List Event) (f : PutFault) (same : own_word r.own (Home me.who) ≡ own_word rs.own (Home me.who)) (h : BlockUndone me.who taken k b r0 rs es (Some f)) where
-  abbrev c : ℕ
+  abbrev pub c : ℕ
   c = me.who
 
-  home : HomeSo c (own_word r0.own (Home c)) (own_word r.own (Home c)) (es ++ ds)
+  pub home : HomeSo c (own_word r0.own (Home c)) (own_word r.own (Home c)) (es ++ ds)
   home = subst (λ x. HomeSo c (own_word r0.own (Home c)) x (es ++ ds)) (sym same) (home_more c (own_word r0.own (Home c)) (own_word rs.own (Home c)) es ds h.0)
 
   -- the root was dropped

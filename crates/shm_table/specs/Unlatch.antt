@@ -1,49 +1,17 @@
--- giving back a latch of which it is known whose it is, as a plan: its control, what is known before each word step, and what is left
-pub mod Laws
-use Rattle.std.specs.Prelude.{◌≡◌, ℕ, ◌<◌, Bool, true, false, Option, None, Some, List, [], ◌∷◌}
-use Rattle.shm_words.specs.Layout.{GeometryFits, address}
-use Rattle.shm_words.specs.declared.place.Place.TheVariants as place
-use Rattle.shm_graph.specs.declared.{ask.{Ask.Ask, Me.Me}, memo.{Memo.Memo, Op.TheVariants.Nothing}}
-use Rattle.shm_graph.specs.{Asks.{Trail, pair}, Core.core, Events.Event, Laws.Control, Reach.unlatched}
-use Rattle.shm_graph.specs.declared.ask.Ask.TheVariants as ask
+-- giving back a latch of which it is known whose it is, as a plan: what is known before each word step, and what is left
+use Rattle.std.specs.Prelude.{◌≡◌, ℕ, ◌<◌, None, Some, List, [], ◌∷◌}
+use Rattle.shm_words.specs.Layout.{GeometryFits}
+use Rattle.shm_graph.specs.{declared.{ask.Me.Me, memo.{Memo.Memo, Op.TheVariants.Nothing}}, Asks.{Trail, pair}}
+use Rattle.shm_graph.specs.{Core.core, Events.Event, Reach.unlatched}
 use Rattle.shm_steps.specs.Conditions.{IsHere}
-use Rattle.shm_calls.specs.{declared.{calls.Calls.Calls, word.Word.Word}, CallsControl.calls_control, Parts.Part}
-use Rattle.shm_calls.specs.{Plans.Planned, Words.{word_control, word_part}, Steering.Steered}
+use Rattle.shm_calls.specs.{declared.word.Word.Word, Parts.Part, Plans.Planned, Words.word_part}
 use Rattle.shm_ref.specs.{AskedParts.asked_part, Hold.wants}
 use Rattle.shm_table.specs.declared.unlatch.UnlatchPoint.{UnlatchPoint, TheVariants.{Give, Back}}
 use Rattle.shm_table.specs.declared.unlatch.UnlatchState.{UnlatchState}
+use Rattle.shm_table.specs.Unlatch.Control.{unlatch_ask, is_give, unlatch_steered}
+pub mod Control
 
 -- ---- the control
-
--- before its first word step
-abbrev pub unlatching : Me → ℕ → UnlatchState
-unlatching me a = record { me = me; author = a; point = Give }
-
--- the word step at a point
-abbrev pub unlatch_ask : Me → ℕ → UnlatchPoint → Ask
-unlatch_ask me a Give = ask.Store (address me.geometry (place.Latch a)) 0
-unlatch_ask me a Back = ask.Store (address me.geometry (place.Hold me.who)) 0
-
-abbrev pub unlatch_call : UnlatchState → UnlatchPoint → Word
-unlatch_call m y = record { me = m.me; ask = unlatch_ask m.me m.author y; over = false }
-
-abbrev pub unlatch_after : UnlatchState → UnlatchPoint → UnlatchState
-unlatch_after m Give = record m { point = Back }
-unlatch_after m Back = m
-
-abbrev pub unlatch_turns : UnlatchPoint → Option (Unit {0})
-unlatch_turns Give = None
-unlatch_turns Back = Some tt
-
-abbrev pub is_give : UnlatchPoint → Bool
-is_give Give = true
-is_give Back = false
-
--- what the control keeps in range
-pub record UnlatchInRange (m : UnlatchState) : Type 0 where
-  pub geometry : GeometryFits m.me.geometry
-  pub who : m.me.who < m.me.geometry.clients
-  pub author : m.author < m.me.geometry.clients
 
 -- all that is asked, with what it sees
 abbrev pub given_trail : Me → ℕ → Trail
@@ -93,18 +61,6 @@ UnlatchFound m Back r n x = (core x ≡ core (wants m.me.who 0 r)) × (n ≡ 0)
 abbrev pub unlatch_part : UnlatchState → UnlatchPoint → Part Word ℕ
 unlatch_part m y = asked_part (word_part (is_give y) m.me (unlatch_ask m.me m.author y) (UnlatchFound m y))
 
-abbrev pub unlatch_steered : Steered UnlatchState Word ℕ (Unit {0})
-unlatch_steered =
-    record {
-      me = λ m. m.me;
-      line = λ m. [];
-      first = λ m. is_give m.point;
-      start = λ m. record m { point = Give };
-      call = λ m. unlatch_call m m.point;
-      after = λ m n. unlatch_after m m.point;
-      turns = λ m n. unlatch_turns m.point;
-    }
-
 abbrev pub unlatch_plan : Planned UnlatchState Word ℕ (Unit {0})
 unlatch_plan =
     record {
@@ -113,10 +69,3 @@ unlatch_plan =
       knows = λ m. UnlatchKnows m m.point;
       leaves = λ m r0 r tr es done. Unlatched m.me m.author r0 r tr es;
     }
-
--- it as a call of larger machines, and its control
-abbrev pub UnlatchCalls : Type 0
-UnlatchCalls = Calls UnlatchState Word (Unit {0}) ℕ
-
-abbrev pub unlatch_control : Control UnlatchCalls (Unit {0})
-unlatch_control = calls_control word_control unlatch_steered

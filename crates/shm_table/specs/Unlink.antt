@@ -1,6 +1,5 @@
 -- taking an entry of the own table out of its chain as a plan: when it may begin, what is known before each call, and what is left
 pub mod Control
-pub mod Laws
 use Rattle.std.specs.Prelude.{◌≡◌, ◌≢◌, ℕ, zero, suc, ◌+◌, ◌%◌, ◌<◌, ◌≤◌, ◌==◌, if◌then◌else◌, true, false, Some, None, Result, Ok, Err, List, [], ◌∷◌, length}
 use Rattle.std.specs.List.{All, Contains}
 use Rattle.shm_words.specs.Layout.{GeometryFits, total_of, address_limit}

@@ -3,11 +3,12 @@
 ghost use Rattle.std.specs.Prelude.{◌≡◌, ◌<◌};
 ghost use Rattle.shm_words.specs.Layout.{GeometryFits};
 ghost use Rattle.shm_calls.specs.{CallsControl.{calls_control, calls_of}, CallsFit.{CallsFits, CallsGives}};
-ghost use Rattle.shm_calls.specs.CallsKeep.{calls_laws};
+ghost use Rattle.shm_calls.specs.Proved.CallsKeep.{calls_laws};
 ghost use Rattle.shm_table.specs.{Effects.copy_effect, CopyKey.Control.{copy_parts, copy_steered, copying}};
-ghost use Rattle.shm_table.specs.{CopyKey.{copy_plan, Laws.copy_laws}, Enter.Laws.enter_laws, Fetch.Laws.fetch_laws};
-ghost use Rattle.shm_table.specs.{Locate.Laws.locate_laws, OpenTable.Laws.open_laws, PutRoot.Laws.put_root_laws};
-ghost use Rattle.shm_table.specs.{Replace.Laws.replace_laws, TableTasks.{CopyMay, copy_task}};
+ghost use Rattle.shm_table.specs.{CopyKey.copy_plan, Proved.{CopyKey.Laws.copy_laws, Enter.Laws.enter_laws}};
+ghost use Rattle.shm_table.specs.Proved.{Fetch.Laws.fetch_laws, Locate.Laws.locate_laws, OpenTable.Laws.open_laws};
+ghost use Rattle.shm_table.specs.Proved.{PutRoot.Laws.put_root_laws, Replace.Laws.replace_laws, TableTasks.copy_task};
+ghost use Rattle.shm_table.specs.TableTasks.{CopyMay};
 ghost use Rattle.shm_table.specs.CopyKey.Control as control;
 
 use crate::answer::PutFault;

@@ -3,9 +3,9 @@
 ghost use Rattle.std.specs.Prelude.{◌≡◌, ◌%◌, ◌<◌};
 ghost use Rattle.shm_words.specs.Layout.{GeometryFits};
 ghost use Rattle.shm_calls.specs.{CallsControl.{calls_control, calls_of}, CallsFit.{CallsFits, CallsGives}};
-ghost use Rattle.shm_calls.specs.CallsKeep.{calls_laws};
+ghost use Rattle.shm_calls.specs.Proved.CallsKeep.{calls_laws};
 ghost use Rattle.shm_table.specs.{Effects.{del_effect, is_removed}, Del.Control.{del_parts, del_steered, deleting}};
-ghost use Rattle.shm_table.specs.{Del.{del_plan, Laws.del_laws}, TableTasks.{DelMay, del_task}};
+ghost use Rattle.shm_table.specs.{Del.del_plan, Proved.{Del.Laws.del_laws, TableTasks.del_task}, TableTasks.DelMay};
 ghost use Rattle.shm_table.specs.Del.Control as control;
 
 use crate::answer::PutFault;

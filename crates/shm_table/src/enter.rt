@@ -3,7 +3,7 @@
 ghost use Rattle.std.specs.Prelude.{◌≡◌, ◌+◌, ◌<◌, ◌^◌};
 ghost use Rattle.shm_words.specs.Layout.{GeometryFits, address_limit};
 ghost use Rattle.shm_table.specs.{Effects.{enter_decided, links}, Enter.Control.{entering, entry_of, entry_request}};
-ghost use Rattle.shm_table.specs.Enter.{enter_plan, Laws.enter_laws};
+ghost use Rattle.shm_table.specs.{Enter.enter_plan, Proved.Enter.Laws.enter_laws};
 ghost use Rattle.shm_table.specs.Enter.Control as control;
 
 use crate::answer::PutFault;

@@ -2,7 +2,7 @@
 
 ghost use Rattle.std.specs.Prelude.{◌≡◌, ◌<◌, ◌+◌, ◌^◌};
 ghost use Rattle.shm_words.specs.Layout.{GeometryFits, address_limit};
-ghost use Rattle.shm_table.specs.Fetch.{Control.fetching, fetch_plan, Laws.fetch_laws};
+ghost use Rattle.shm_table.specs.{Fetch.{Control.fetching, fetch_plan}, Proved.Fetch.Laws.fetch_laws};
 ghost use Rattle.shm_table.specs.Fetch.Control as control;
 
 use crate::answer::PutFault;

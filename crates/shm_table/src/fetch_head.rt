@@ -2,7 +2,8 @@
 
 ghost use Rattle.std.specs.Prelude.{◌≡◌, ◌<◌};
 ghost use Rattle.shm_words.specs.Layout.{GeometryFits};
-ghost use Rattle.shm_table.specs.FetchHead.{Control.fetching_head, fetch_head_plan, Laws.fetch_head_laws};
+ghost use Rattle.shm_table.specs.FetchHead.{Control.fetching_head, fetch_head_plan};
+ghost use Rattle.shm_table.specs.Proved.FetchHead.Laws.{fetch_head_laws};
 ghost use Rattle.shm_table.specs.FetchHead.Control as control;
 
 use crate::answer::PutFault;

@@ -4,7 +4,7 @@ ghost use Rattle.std.specs.Prelude.{◌≡◌, ◌+◌, ◌^◌, ◌<◌, if◌t
 ghost use Rattle.shm_words.specs.Layout.{GeometryFits, address_limit};
 ghost use Rattle.shm_table.specs.declared.find.Found.TheVariants.{At};
 ghost use Rattle.shm_table.specs.Find.{Control.{finding, find_goes, find_answers, FindInRange}, find_plan};
-ghost use Rattle.shm_table.specs.Find.Laws.{find_laws};
+ghost use Rattle.shm_table.specs.Proved.Find.Laws.{find_laws};
 
 use shm_calls::{Plan, Word};
 use shm_graph::{Machine, Me};

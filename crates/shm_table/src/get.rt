@@ -3,9 +3,9 @@
 ghost use Rattle.std.specs.Prelude.{◌≡◌, ◌<◌, ◌+◌, ◌^◌};
 ghost use Rattle.shm_words.specs.Layout.{GeometryFits, address_limit};
 ghost use Rattle.shm_calls.specs.{CallsControl.{calls_control, calls_of}, CallsFit.{CallsFits, CallsGives}};
-ghost use Rattle.shm_calls.specs.CallsKeep.{calls_laws};
-ghost use Rattle.shm_table.specs.{Effects.get_effect, Get.{Control.{get_parts, get_steered}, get_plan, Laws.get_laws}};
-ghost use Rattle.shm_table.specs.TableTasks.{GetMay, get_task};
+ghost use Rattle.shm_calls.specs.Proved.CallsKeep.{calls_laws};
+ghost use Rattle.shm_table.specs.{Effects.get_effect, Get.{Control.{get_parts, get_steered}, get_plan}};
+ghost use Rattle.shm_table.specs.{Proved.{Get.Laws.get_laws, TableTasks.get_task}, TableTasks.GetMay};
 ghost use Rattle.shm_table.specs.Get.Control as control;
 
 use crate::find::Found;

@@ -2,7 +2,7 @@
 
 ghost use Rattle.std.specs.Prelude.{◌≡◌, ◌<◌};
 ghost use Rattle.shm_words.specs.Layout.{GeometryFits};
-ghost use Rattle.shm_table.specs.Locate.{Control.locating, locate_plan, Laws.locate_laws};
+ghost use Rattle.shm_table.specs.{Locate.{Control.locating, locate_plan}, Proved.Locate.Laws.locate_laws};
 
 use crate::find::{Find, Found};
 use shm_calls::{Calls, Or, Plan};

@@ -2,7 +2,8 @@
 
 ghost use Rattle.std.specs.Prelude.{◌≡◌, ◌<◌};
 ghost use Rattle.shm_words.specs.Layout.{GeometryFits};
-ghost use Rattle.shm_table.specs.OpenTable.{Control.{directory_request, opening}, open_plan, Laws.open_laws};
+ghost use Rattle.shm_table.specs.OpenTable.{Control.{directory_request, opening}, open_plan};
+ghost use Rattle.shm_table.specs.Proved.OpenTable.Laws.{open_laws};
 
 use crate::answer::PutFault;
 use shm_alloc::{Alloc, AllocFault, Near, Request};

@@ -3,11 +3,11 @@
 ghost use Rattle.std.specs.Prelude.{◌≡◌, ◌<◌};
 ghost use Rattle.shm_words.specs.Layout.{GeometryFits};
 ghost use Rattle.shm_calls.specs.{CallsControl.{calls_control, calls_of}, CallsFit.{CallsFits, CallsGives}};
-ghost use Rattle.shm_calls.specs.CallsKeep.{calls_laws};
+ghost use Rattle.shm_calls.specs.Proved.CallsKeep.{calls_laws};
 ghost use Rattle.shm_table.specs.{Effects.put_effect, Put.{Control.{put_parts, put_steered, putting}, put_plan}};
-ghost use Rattle.shm_table.specs.{Put.Laws.put_laws, Enter.Laws.enter_laws, Locate.Laws.locate_laws};
-ghost use Rattle.shm_table.specs.{OpenTable.Laws.open_laws, PutRoot.Laws.put_root_laws, Replace.Laws.replace_laws};
-ghost use Rattle.shm_table.specs.TableTasks.{PutMay, put_task};
+ghost use Rattle.shm_table.specs.Proved.{Put.Laws.put_laws, Enter.Laws.enter_laws, Locate.Laws.locate_laws};
+ghost use Rattle.shm_table.specs.Proved.{OpenTable.Laws.open_laws, PutRoot.Laws.put_root_laws};
+ghost use Rattle.shm_table.specs.{Proved.{Replace.Laws.replace_laws, TableTasks.put_task}, TableTasks.PutMay};
 ghost use Rattle.shm_table.specs.Put.Control as control;
 
 use crate::answer::PutFault;

@@ -4,10 +4,10 @@ ghost use Rattle.std.specs.Prelude.{◌≡◌, ◌<◌, ◌^◌};
 ghost use Rattle.shm_words.specs.Layout.{GeometryFits, address_limit};
 ghost use Rattle.shm_table.specs.Effects.{put_root_decided, settled};
 ghost use Rattle.shm_table.specs.PutRoot.Control.{put_root_parts, putting_root, put_root_steered, put_root_control};
-ghost use Rattle.shm_table.specs.{PutRoot.{put_root_plan, Laws.put_root_laws}, Enter.Laws.enter_laws};
-ghost use Rattle.shm_table.specs.{Locate.Laws.locate_laws, OpenTable.Laws.open_laws, Replace.Laws.replace_laws};
+ghost use Rattle.shm_table.specs.{PutRoot.put_root_plan, Proved.{PutRoot.Laws.put_root_laws, Enter.Laws.enter_laws}};
+ghost use Rattle.shm_table.specs.Proved.{Locate.Laws.locate_laws, OpenTable.Laws.open_laws, Replace.Laws.replace_laws};
 ghost use Rattle.shm_table.specs.PutRoot.Control as control;
-ghost use Rattle.shm_calls.specs.{CallsControl.calls_of, CallsFit.{CallsFits, CallsGives}, CallsKeep.calls_laws};
+ghost use Rattle.shm_calls.specs.{CallsControl.calls_of, CallsFit.{CallsFits, CallsGives}, Proved.CallsKeep.calls_laws};
 
 use crate::answer::PutFault;
 use crate::effect::Deciding;

@@ -3,12 +3,13 @@
 ghost use Rattle.std.specs.Prelude.{◌≡◌, ◌<◌};
 ghost use Rattle.shm_words.specs.Layout.{GeometryFits};
 ghost use Rattle.shm_calls.specs.{CallsControl.{calls_control, calls_of}, CallsFit.{CallsFits, CallsGives}};
-ghost use Rattle.shm_calls.specs.CallsKeep.{calls_laws};
+ghost use Rattle.shm_calls.specs.Proved.CallsKeep.{calls_laws};
 ghost use Rattle.shm_table.specs.{Effects.recv_effect, RecvKey.Control.{receiving_key, recv_parts, recv_steered}};
-ghost use Rattle.shm_table.specs.{RecvKey.{recv_plan, Laws.recv_laws}, Enter.Laws.enter_laws};
-ghost use Rattle.shm_table.specs.{FetchHead.Laws.fetch_head_laws, Locate.Laws.locate_laws, OpenTable.Laws.open_laws};
-ghost use Rattle.shm_table.specs.{PutRoot.Laws.put_root_laws, Replace.Laws.replace_laws, TakeHead.Laws.take_head_laws};
-ghost use Rattle.shm_table.specs.TableTasks.{RecvMay, recv_task};
+ghost use Rattle.shm_table.specs.{RecvKey.recv_plan, Proved.{RecvKey.Laws.recv_laws, Enter.Laws.enter_laws}};
+ghost use Rattle.shm_table.specs.Proved.{FetchHead.Laws.fetch_head_laws, Locate.Laws.locate_laws};
+ghost use Rattle.shm_table.specs.Proved.{OpenTable.Laws.open_laws, PutRoot.Laws.put_root_laws};
+ghost use Rattle.shm_table.specs.Proved.{Replace.Laws.replace_laws, TakeHead.Laws.take_head_laws, TableTasks.recv_task};
+ghost use Rattle.shm_table.specs.TableTasks.{RecvMay};
 ghost use Rattle.shm_table.specs.RecvKey.Control as control;
 
 use crate::answer::PutFault;

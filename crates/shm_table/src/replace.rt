@@ -3,7 +3,7 @@
 ghost use Rattle.std.specs.Prelude.{◌≡◌, ◌%◌, ◌^◌, ◌+◌, ◌<◌};
 ghost use Rattle.shm_words.specs.Layout.{GeometryFits, address_limit};
 ghost use Rattle.shm_table.specs.{Effects.replace_decided, Replace.{Control.replacing, replace_plan}};
-ghost use Rattle.shm_table.specs.Replace.Laws.{replace_laws};
+ghost use Rattle.shm_table.specs.Proved.Replace.Laws.{replace_laws};
 ghost use Rattle.shm_table.specs.Replace.Control as control;
 
 use crate::answer::PutFault;

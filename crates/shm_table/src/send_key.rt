@@ -3,10 +3,10 @@
 ghost use Rattle.std.specs.Prelude.{◌≡◌, ◌<◌, ◌+◌, ◌^◌};
 ghost use Rattle.shm_words.specs.Layout.{GeometryFits, address_limit};
 ghost use Rattle.shm_calls.specs.{CallsControl.{calls_control, calls_of}, CallsFit.{CallsFits, CallsGives}};
-ghost use Rattle.shm_calls.specs.CallsKeep.{calls_laws};
+ghost use Rattle.shm_calls.specs.Proved.CallsKeep.{calls_laws};
 ghost use Rattle.shm_table.specs.Effects.{is_sent, send_key_effect};
 ghost use Rattle.shm_table.specs.SendKey.{Control.{send_key_parts, sending_key, send_key_steered}, send_key_plan};
-ghost use Rattle.shm_table.specs.{SendKey.Laws.send_key_laws, TableTasks.{SendKeyMay, send_key_task}};
+ghost use Rattle.shm_table.specs.{Proved.{SendKey.Laws.send_key_laws, TableTasks.send_key_task}, TableTasks.SendKeyMay};
 ghost use Rattle.shm_table.specs.SendKey.Control as control;
 
 use crate::find::Found;

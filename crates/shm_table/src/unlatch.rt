@@ -2,7 +2,7 @@
 
 ghost use Rattle.std.specs.Prelude.{◌≡◌, ◌<◌};
 ghost use Rattle.shm_words.specs.Layout.{GeometryFits};
-ghost use Rattle.shm_table.specs.Unlatch.{unlatching, unlatch_plan, Laws.unlatch_laws};
+ghost use Rattle.shm_table.specs.{Unlatch.{unlatch_plan, Control.unlatching}, Proved.Unlatch.Laws.unlatch_laws};
 
 use shm_calls::{Plan, Word};
 use shm_graph::{Machine, Me};
@@ -40,7 +40,7 @@ impl Model for Unlatch {
 
     ghost view = { λ a. a.state };
 
-    ghost use Rattle.shm_table.specs.Unlatch.{UnlatchInRange};
+    ghost use Rattle.shm_table.specs.Unlatch.Control.{UnlatchInRange};
 
     ghost invariant = { λ a. UnlatchInRange a.state };
 }

@@ -3,7 +3,8 @@
 
 ghost use Rattle.std.specs.Prelude.{◌≡◌, ◌%◌, ◌^◌, ◌+◌, ◌<◌};
 ghost use Rattle.shm_words.specs.Layout.{GeometryFits, address_limit};
-ghost use Rattle.shm_table.specs.{Effects.unlink_decided, Unlink.{Control.unlinking, unlink_plan, Laws.unlink_laws}};
+ghost use Rattle.shm_table.specs.{Effects.unlink_decided, Unlink.{Control.unlinking, unlink_plan}};
+ghost use Rattle.shm_table.specs.Proved.Unlink.Laws.{unlink_laws};
 ghost use Rattle.shm_table.specs.Unlink.Control as control;
 
 use crate::effect::Deciding;

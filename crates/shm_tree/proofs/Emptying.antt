@@ -9,7 +9,7 @@ use Rattle.shm_graph.specs.{Spots.see, Views.{View, targets, view}}
 use Rattle.shm_graph.proofs.Runs.{Lists.memos_of-changed, Running.view-at1}
 use Rattle.shm_plain.specs.{Closings.IsClosedRun, Pools.{IsRun, Pool, after_fall, memo_of}}
 use Rattle.shm_plain.proofs.Turning.{fall_run}
-use Rattle.shm_recover.specs.Recover.{Losses.{IsLoss, roots_losses}, OnlyLoses}
+use Rattle.shm_recover.specs.{Recover.{Losses.IsLoss, OnlyLoses}, Proved.Recover.Losses.roots_losses}
 use Rattle.shm_tree.specs.{Ending.{HasEnded, HasParted, IsRevived}, Falling.AreFalling, Keeping.is_live}
 use Rattle.shm_tree.proofs.{Drops.each, Falls.{Keeps, falling_kept}, Named.upward}
 use Rattle.shm_tree.proofs.Nodes.{IsCalm, names, root_is, root_names}

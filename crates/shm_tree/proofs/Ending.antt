@@ -11,20 +11,23 @@ use Rattle.shm_graph.specs.{Spots.{IsAt, classes_in, spot_address}, Views.own_wo
 use Rattle.shm_graph.proofs.{Memos.MemoSteps.recovers-entered, Spots.{Fixed.fixed_is_at, Seeing.see_there}}
 use Rattle.shm_graph.proofs.Spots.Spotting.{at_below}
 use Rattle.shm_calls.specs.{declared.calls.Calls.Calls, CallsControl.{calls_control, calls_does, calls_of}}
-use Rattle.shm_calls.specs.{CallsFit.{CallsFits, CallsGives}, CallsKeep.{calls_begin, calls_tells}, Plans.PlanLaws}
+use Rattle.shm_calls.specs.{CallsFit.{CallsFits, CallsGives}, Proved.CallsKeep.{calls_begin, calls_tells}}
+use Rattle.shm_calls.specs.Plans.{PlanLaws}
 use Rattle.shm_plain.specs.Pools.{IsOf, IsRun, MayStep, Pool, after_fall, memo_of, readied}
 use Rattle.shm_plain.proofs.{Called.{Called, answered, call_fits}, Calling.{fits_acting, may_acting}}
 use Rattle.shm_count.specs.{declared.answer.EraSpent.EraSpent, Roots.member}
-use Rattle.shm_ref.specs.DropRoots.Laws.{roots_laws}
+use Rattle.shm_ref.specs.Proved.DropRoots.Laws.{roots_laws}
 use Rattle.shm_recover.specs.declared.{leave.LeaveState.LeaveState, recover.RecoverState.RecoverState}
-use Rattle.shm_recover.specs.{FinishTakes.Laws.finish_laws, GiveUp.Laws.give_laws}
-use Rattle.shm_recover.specs.Leave.Control.{LeaveAnswer, LeaveCall, leave_parts, leaving, leave_steered}
-use Rattle.shm_recover.specs.{Leave.{Gone.idle_may_leave, Laws.leave_laws, leave_plan}, Mend.Laws.mend_laws}
+use Rattle.shm_recover.specs.Proved.{FinishTakes.Laws.finish_laws, GiveUp.Laws.give_laws, Leave.Gone.idle_may_leave}
+use Rattle.shm_recover.specs.Proved.{Leave.Laws.leave_laws, Mend.Laws.mend_laws}
+use Rattle.shm_recover.specs.Proved.{Recover.Laws.{recover_begin, recover_laws}, Scan.Laws.scan_laws}
+use Rattle.shm_recover.specs.Proved.TakeBack.Laws.{back_laws}
+use Rattle.shm_recover.specs.Leave.{Control.{LeaveAnswer, LeaveCall, leave_parts, leaving, leave_steered}, leave_plan}
 use Rattle.shm_recover.specs.Recover.Control.{RecoverAnswer, RecoverCall, recover_parts, recovering, recover_steered}
-use Rattle.shm_recover.specs.{Recover.{Laws.{recover_begin, recover_laws}, recover_plan}, Scan.Laws.scan_laws}
-use Rattle.shm_recover.specs.TakeBack.Laws.{back_laws}
-use Rattle.shm_alone.specs.{GiveEnds.none_over, LeaveEnds.{leave_alone, leave_few, leave_left, leave_ends}}
-use Rattle.shm_alone.specs.RecoverEnds.{recover_alone, recover_few, recover_left, recover_ends}
+use Rattle.shm_recover.specs.Recover.{recover_plan}
+use Rattle.shm_alone.specs.{GiveEnds.none_over, LeaveEnds.{leave_alone, leave_left}}
+use Rattle.shm_alone.specs.Proved.{LeaveEnds.{leave_few, leave_ends}, RecoverEnds.{recover_few, recover_ends}}
+use Rattle.shm_alone.specs.RecoverEnds.{recover_alone, recover_left}
 use Rattle.shm_alone.proofs.Lasting.{Lasts, alone_few, answers_alone, calls_last, left_few}
 use Rattle.shm_client.proofs.Fallen.{fallen_first, fallen_fits, fallen_told, may_begin}
 use Rattle.shm_tree.specs.{Ending.{HasEnded, HasParted, IsRevived}, Working.IsWorking}

@@ -12,9 +12,9 @@ use Rattle.shm_laws.proofs.Keep.{Contains-filter}
 use Rattle.shm_plain.specs.Pools.{Pool, memo_of, pool}
 use Rattle.shm_count.specs.{Roots.member, Tear.Memos.Knows}
 use Rattle.shm_ref.specs.declared.answer.LookFault.{LookFault, TheVariants.{NoSuchRef, NotHeld}}
-use Rattle.shm_ref.specs.{declared.answer.NoSuchWord.NoSuchWord, Look.{LookLeaves, looking}}
-use Rattle.shm_ref.specs.{OnlyRead.{OnlyRead, look_reads, read_reads, still_reached}, Read.{ReadLeaves, reading}}
-use Rattle.shm_ref.specs.{ReadParts.tagged, SetRef.Memos.{seen_dying, seen_word, tag_seen, word_seen}}
+use Rattle.shm_ref.specs.{declared.answer.NoSuchWord.NoSuchWord, Look.{LookLeaves, looking}, OnlyRead.OnlyRead}
+use Rattle.shm_ref.specs.Proved.{OnlyRead.{look_reads, read_reads, still_reached}, SetRef.Memos.{seen_dying, seen_word}}
+use Rattle.shm_ref.specs.{Read.{ReadLeaves, reading}, ReadParts.tagged, SetRef.Memos.{tag_seen, word_seen}}
 use Rattle.shm_tree.specs.declared.node.Side.{Side, TheVariants.{Left, Right}}
 use Rattle.shm_tree.specs.{Keeping.{HasNode, IsStill, child_of, side_word}, Standing.{IsNode, word_of}}
 use Rattle.shm_tree.specs.Working.{AreSameRoots, IsWorking, Reaches}

@@ -10,7 +10,7 @@ use Rattle.shm_graph.specs.Reach.{in_slot, in_slots, is_reached, named_blocks, n
 use Rattle.shm_graph.specs.Views.{own_word}
 use Rattle.shm_laws.proofs.Keep.{Contains-filter, filter_from}
 use Rattle.shm_steps.proofs.Reaching.{home_reached, look_reached, root_reached}
-use Rattle.shm_count.specs.{Retaining.{named_reached, named_same}, Tear.Memos.is_slot_word}
+use Rattle.shm_count.specs.{Proved.Retaining.{named_reached, named_same}, Tear.Memos.is_slot_word}
 
 -- the looks came to be more
 looks_more : (c : ℕ) (m n : Memo) (ls : List Look) (d : ℕ) → n.looks ≡ m.looks ++ ls → Contains (map (λ (k : Look). k.block) m.looks) d → is_reached c n d ≡ true

@@ -8,12 +8,12 @@ use Rattle.shm_graph.specs.{Bounds.{change_steps, tear_steps}, Core.core}
 use Rattle.shm_graph.specs.{Events.{ChangeDown, ChangeUp, Down, Event, Graph, Happens, Up, graph_of}, Idle.hold_word}
 use Rattle.shm_graph.specs.{Reach.is_reached, Spots.{same_spot, see}, Views.View}
 use Rattle.shm_plain.specs.{Calls.Did, Pools.{Pool, memo_of}}
-use Rattle.shm_count.specs.{Retaining.slots_learnt, Roots.member, Slots.Untouched, Tear.Events.{Visit, frees}}
+use Rattle.shm_count.specs.{Proved.Retaining.slots_learnt, Roots.member, Slots.Untouched, Tear.Events.{Visit, frees}}
 use Rattle.shm_count.specs.Tear.Memos.{Knows, is_slot_word}
-use Rattle.shm_ref.specs.{declared.answer.SetFault.SetFault, SetRef.Control.setting}
-use Rattle.shm_ref.specs.SetRef.Memos.{seen_dying, seen_op, seen_reached, seen_word, tag_seen, word_seen}
+use Rattle.shm_ref.specs.{declared.answer.SetFault.SetFault, SetRef.{Control.setting, Memos.{tag_seen, word_seen}}}
 use Rattle.shm_ref.specs.SetRef.{SetDid, SetLeaves, SetSpent, SetStays, taken_events, SetDid.{Kept, Raised, Taken}}
 use Rattle.shm_ref.specs.SetRef.SetSpent.{AtStep, AtTear}
+use Rattle.shm_ref.specs.Proved.SetRef.Memos.{seen_dying, seen_op, seen_reached, seen_word}
 use Rattle.shm_ref.specs.declared.answer.SetFault.TheVariants as fault
 use Rattle.shm_ref.proofs.SetKeeps.{set_lasts}
 use Rattle.shm_tree.specs.{declared.node.Side.{Side, TheVariants.{Left, Right}}, Bounds.refer_steps, Causes.SetRefused}

@@ -8,7 +8,7 @@ use Rattle.shm_graph.specs.Views.{own_word}
 use Rattle.shm_graph.proofs.Runs.EraRises.{run_rises}
 use Rattle.shm_plain.specs.{Calls.state_of, Pools.{IsRun, Pool, memo_of}}
 use Rattle.shm_count.specs.Tear.Events.{Visit, frees}
-use Rattle.shm_ref.specs.Leaving.{frees-append}
+use Rattle.shm_ref.specs.Proved.Leaving.{frees-append}
 use Rattle.shm_tree.specs.{Bounds.{climb_steps, drop_steps, insert_steps, lowest_steps, raise_steps}, Spending.HasSpent}
 use Rattle.shm_tree.specs.{Tearing.HasTorn, Working.{IsSpent, IsWorking, Went}}
 use Rattle.shm_tree.proofs.Turns.{did_leads, did_then}

@@ -7,7 +7,8 @@ use Rattle.shm_graph.specs.{Blocks.classes, Laws.{Control, Ends, Frame, Outcome,
 use Rattle.shm_graph.specs.Spots.{spot_at}
 use Rattle.shm_calls.specs.declared.{calls.Calls.Calls, or.Or.{Or, TheVariants.{First, Second}}, word.Word.Word}
 use Rattle.shm_calls.specs.{CallsControl.{answered, called_on, calls_control, planned}, CallsFit.CallsFits}
-use Rattle.shm_calls.specs.{Either.{OrFits, or_control, told_outcome}, Plans.Planned, Words.{WordFits, word_control}}
+use Rattle.shm_calls.specs.{Either.{OrFits, or_control}, Proved.Either.told_outcome, Plans.Planned}
+use Rattle.shm_calls.specs.Words.{WordFits, word_control}
 
 -- of a machine: what it knows of the words where nobody else steps
 module _ {S A : Type 0} (k : Control S A) (knows : S → (Spot → ℕ) → Type 0) where

@@ -7,20 +7,21 @@ use Rattle.shm_calls.specs.{CallsControl.{calls_control, calls_of}, Either.{OrFi
 use Rattle.shm_calls.specs.Words.{WordFits, word_control}
 use Rattle.shm_count.specs.declared.{answer.ShareFault.ShareFault, point.Aim.TheVariants.Up}
 use Rattle.shm_count.specs.declared.up_root.RootingPoint.{RootingPoint, TheVariants.{Era, Look, Step}}
-use Rattle.shm_count.specs.{declared.up_root.RootingState.RootingState, Roots.member, ShareTask.{ShareMay, share_task}}
+use Rattle.shm_count.specs.{declared.up_root.RootingState.RootingState, Roots.member}
+use Rattle.shm_count.specs.Proved.{ShareTask.{ShareMay, share_task}, UpRoot.Laws.rooting_laws}
 use Rattle.shm_count.specs.Step.Control.{first_point, step_control}
 use Rattle.shm_count.specs.Step.{Machines.{down_answer, down_control, up_answer, up_control}, StepFits}
 use Rattle.shm_count.specs.{StepsAt.{ChangeFitsAt, DownFitsAt, UpFitsAt}, StepsFrom.FitsFrom, Tear.Control.tear_control}
 use Rattle.shm_count.specs.Tear.{TearFits}
 use Rattle.shm_count.specs.UpRoot.Control.{RootingCall, is_era, rooting, rooting_call, rooting_parts, rooting_steered}
-use Rattle.shm_count.specs.UpRoot.{Laws.rooting_laws, UpRootLeaves, rooting_part, rooting_plan}
+use Rattle.shm_count.specs.UpRoot.{UpRootLeaves, rooting_part, rooting_plan}
 use Rattle.shm_count.specs.declared.answer.ShareFault.TheVariants as share
 use Rattle.shm_ref.specs.declared.{drop_root.{DropPoint.DropPoint, DropState.DropState}, set_ref.SetPoint.SetPoint}
 use Rattle.shm_ref.specs.declared.set_ref.SetState.{SetState}
 use Rattle.shm_ref.specs.DropRoot.Control.{DropCall, drop_call_at, drop_parts, dropping, is_load, drop_steered}
-use Rattle.shm_ref.specs.{DropRoot.{Laws.drop_laws, drop_plan}, RootTasks.{DropMay, SetMay, drop_task, set_task}}
-use Rattle.shm_ref.specs.SetRef.{Control.{SetCall, is_tag, set_call_at, set_parts, setting, set_steered}, Laws.set_laws}
-use Rattle.shm_ref.specs.SetRef.{set_plan}
+use Rattle.shm_ref.specs.{DropRoot.drop_plan, Proved.DropRoot.Laws.drop_laws}
+use Rattle.shm_ref.specs.Proved.{RootTasks.{DropMay, SetMay, drop_task, set_task}, SetRef.Laws.set_laws}
+use Rattle.shm_ref.specs.SetRef.{Control.{SetCall, is_tag, set_call_at, set_parts, setting, set_steered}, set_plan}
 use Rattle.shm_ref.specs.declared.drop_root.DropPoint.TheVariants as drop
 use Rattle.shm_ref.specs.declared.set_ref.SetPoint.TheVariants as set
 use Rattle.shm_tree.specs.{Bounds.share_steps, Working.IsWorking}

@@ -14,7 +14,7 @@ use Rattle.shm_graph.proofs.{Runs.{CallEventsOf.memo_here, Lists.see-words_set},
 use Rattle.shm_plain.specs.{Calls.{Ran, Took, state_of, words}, Pools.{Pool, memo_of, pool, readied}, Tracks.kind_next}
 use Rattle.shm_plain.proofs.OwnTurns.{leads_after}
 use Rattle.shm_calls.specs.{declared.calls.Calls.Calls, CallsControl.{calls_control, calls_of}}
-use Rattle.shm_calls.specs.{CallsFit.{CallsFits, CallsGives}, CallsKeep.{calls_begin, calls_laws}}
+use Rattle.shm_calls.specs.{CallsFit.{CallsFits, CallsGives}, Proved.CallsKeep.{calls_begin, calls_laws}}
 use Rattle.shm_calls.specs.{Plans.{PlanLaws, Planned}, Tasks.TaskLaws}
 use Rattle.shm_count.specs.Roots.{member}
 use Rattle.shm_tree.specs.Working.{IsWorking}

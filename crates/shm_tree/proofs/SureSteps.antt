@@ -11,10 +11,10 @@ use Rattle.shm_count.specs.declared.{answer.UpFault.UpFault, point.Aim.{Aim, The
 use Rattle.shm_count.specs.declared.point.{Half.Half, StepPoint.StepPoint, StepState.StepState, StepNext.StepNext}
 use Rattle.shm_count.specs.declared.tear_point.{TearPoint.TearPoint, TearState.TearState, TearNext.TearNext}
 use Rattle.shm_count.specs.Step.Control.{PointFits, block_at, closed_next, committed_next, era_next, exchange_next, first_next, header_next, last_era, raises, row_next, step_ask_at, step_control, step_next_at}
-use Rattle.shm_count.specs.Step.{Headers.half_block, BeforeExchange.row_spot, CanStep, PointHolds, StepFits}
-use Rattle.shm_count.specs.StepsFrom.{FitsFrom}
+use Rattle.shm_count.specs.{Step.{CanStep, PointHolds, StepFits}, Proved.Step.Headers.half_block}
+use Rattle.shm_count.specs.{Proved.{Step.BeforeExchange.row_spot, Tear.Laws.{IsRunning, fit_runs}}, StepsFrom.FitsFrom}
 use Rattle.shm_count.specs.Tear.Control.{TearPointFits, down_next, entered_next, freed_next, lowered_next, relinked, tag_read, tear_ask_at, tear_control, tear_next_at, word_address, word_next, word_or_free}
-use Rattle.shm_count.specs.Tear.{Events.{tear_event, tear_start}, Laws.{IsRunning, fit_runs}, TearFits, TearHolds}
+use Rattle.shm_count.specs.Tear.{Events.{tear_event, tear_start}, TearFits, TearHolds}
 use Rattle.shm_count.specs.declared.answer.UpFault.TheVariants as fault
 use Rattle.shm_count.specs.declared.point.Half.TheVariants as half
 use Rattle.shm_count.specs.declared.point.StepPoint.TheVariants as step

@@ -9,7 +9,7 @@ use Rattle.shm_count.specs.{declared.answer.EraSpent.EraSpent, Roots.{member, ro
 use Rattle.shm_count.specs.Tear.Events.{InOrder, Visit, Walk, Walks, events_of, frees, frees_of}
 use Rattle.shm_count.specs.Tear.Events.Walk.{Fell, Freed, Kept}
 use Rattle.shm_count.proofs.TearWalks.{walk_stopped}
-use Rattle.shm_ref.specs.{DropRoot.{Control.dropping, DropLeaves}, Leaving.frees-append, Lefts.RootEvents}
+use Rattle.shm_ref.specs.{DropRoot.{Control.dropping, DropLeaves}, Proved.Leaving.frees-append, Lefts.RootEvents}
 use Rattle.shm_ref.proofs.RefusedDrops.{spent_emptied}
 use Rattle.shm_tree.specs.{Keeping.IsStill, Standing.{IsNode, Stands, weight, word_of}, Tearing.{HasTorn, IsGone}}
 use Rattle.shm_tree.specs.{Trees.{Tree, Empty, Node}, Working.IsWorking}

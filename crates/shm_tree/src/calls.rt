@@ -14,8 +14,8 @@ ghost use Rattle.shm_tree.specs.declared.stop.Stop.TheVariants as stop;
 
 use crate::node::{Content, Side};
 use crate::stop::Stop;
-use shm_client::allocate;
 use shm_alloc::AllocFault;
+use shm_client::allocate;
 use shm_count::Made;
 use shm_graph::Life;
 use shm_plain::PlainPool;

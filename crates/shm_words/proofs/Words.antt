@@ -31,10 +31,6 @@ pub live_not_zero : (w : ℕ) → (header_of w).live ≡ true → w ≢ 0
 unfolding header_of
 live_not_zero w h = grind (arith, nat_tests)
 
-pub live_word_not_zero : (h : Header) → h.live ≡ true → header_word h ≢ 0
-unfolding header_word
-live_word_not_zero h l = grind (arith, nat_tests)
-
 -- ---- tags
 
 pub tag_of-word : (wide : Bool) (t : Tag) → TagFits wide t → tag_of wide (tag_word wide t) ≡ Some t
@@ -118,10 +114,6 @@ pub redo_first_small : (wide : Bool) (r : Redo) → RedoFits wide r → redo_fir
 unfolding redo_first
 redo_first_small false r fits = first_of (search rules, grind (arith, common_steps))
 redo_first_small true r fits = first_of (search rules, grind (arith, common_steps))
-
-pub redo_second_small : (wide : Bool) (r : Redo) → RedoFits wide r → redo_second wide r < 2 ^ 24
-redo_second_small false r fits = first_of (search rules, grind (arith, common_steps))
-redo_second_small true r fits = first_of (search rules, grind (arith, common_steps))
 
 -- which kind of step the first word tells, and the parity of a change
 pub kind_told : (wide : Bool) (w x : ℕ) (r : Redo) → redo_of wide w x ≡ Some r → kind_of w ≡ 3 → r ≡ Change (odd_of w) (slot_of wide w) (before_of wide w x) (after_of wide w)

@@ -13,11 +13,12 @@ use Rattle.shm_script.specs.declared.{line.Line.Line, log.Answer.Answer}
 use Rattle.shm_script.specs.declared.line.Line.TheVariants as line
 use Rattle.shm_script.specs.declared.log.Answer.TheVariants as answer
 use Rattle.shm_table.specs.Command.{CommandCall, CommandFits, CommandGives, command_control, command_effect, command_of}
-use Rattle.shm_table.specs.{Command.{Laws.command_laws, Maps.MapSoFar}, CopyKey.Laws.copy_laws, Del.Laws.del_laws}
-use Rattle.shm_table.specs.{Enter.Laws.enter_laws, FetchHead.Laws.fetch_head_laws, Fetch.Laws.fetch_laws}
-use Rattle.shm_table.specs.{Get.Laws.get_laws, Locate.Laws.locate_laws, OpenTable.Laws.open_laws, Put.Laws.put_laws}
-use Rattle.shm_table.specs.{PutRoot.Laws.put_root_laws, RecvKey.Laws.recv_laws, Replace.Laws.replace_laws}
-use Rattle.shm_table.specs.{SendKey.Laws.send_key_laws, TakeHead.Laws.take_head_laws}
+use Rattle.shm_table.specs.{Command.Maps.MapSoFar, Proved.{Command.Laws.command_laws, CopyKey.Laws.copy_laws}}
+use Rattle.shm_table.specs.Proved.{Del.Laws.del_laws, Enter.Laws.enter_laws, FetchHead.Laws.fetch_head_laws}
+use Rattle.shm_table.specs.Proved.{Fetch.Laws.fetch_laws, Get.Laws.get_laws, Locate.Laws.locate_laws}
+use Rattle.shm_table.specs.Proved.{OpenTable.Laws.open_laws, Put.Laws.put_laws, PutRoot.Laws.put_root_laws}
+use Rattle.shm_table.specs.Proved.{RecvKey.Laws.recv_laws, Replace.Laws.replace_laws, SendKey.Laws.send_key_laws}
+use Rattle.shm_table.specs.Proved.TakeHead.Laws.{take_head_laws}
 use Rattle.shm_client.specs.Running.{MapSo, MayRun}
 use Rattle.shm_client.proofs.RunBegins.{run_begins, run_fresh}
 

@@ -66,8 +66,5 @@ holds_no_more c p q h work run kind rests latch =
 
 -- ---- turns of c alone
 
-pub has_run : (c : ℕ) (p q : Pool) (fresh answered : Bool) (x y : ℕ) → Ran c fresh answered p q x y → HasRun c p q
-has_run c p q fresh answered x y ran = record { start = ran.start; others = ran.others; run = ran.run }
-
 pub run_then : (c : ℕ) (p q r : Pool) → HasRun c p q → HasRun c q r → HasRun c p r
 run_then c p q r a b = record { start = b.start ∙ a.start; others = λ d n. b.others d n ∙ a.others d n; run = b.run }

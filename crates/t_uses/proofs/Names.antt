@@ -9,7 +9,7 @@ use Rattle.shm_graph.specs.Reach.{binds_unlatched, is_dying, is_latch_of, is_nam
 use Rattle.shm_graph.proofs.Memos.KnownChange.{KnownHolds}
 use Rattle.shm_laws.proofs.Keep.{Contains-filter}
 use Rattle.shm_plain.specs.Pools.{IsRun, Pool, memo_of}
-use Rattle.shm_count.specs.{Retaining.named_reached, Roots.root_word, Tear.Memos.Knows}
+use Rattle.shm_count.specs.{Proved.Retaining.named_reached, Roots.root_word, Tear.Memos.Knows}
 use Rattle.shm_count.proofs.RootSpots.{roots_reached}
 use Rattle.shm_ref.specs.Hold.{wants}
 use Rattle.t_uses.specs.Blocks.{word_of}

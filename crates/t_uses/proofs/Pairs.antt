@@ -7,18 +7,6 @@ use Rattle.shm_ref.specs.SetHome.{HomeFilled}
 use Rattle.t_uses.specs.Blocks.{AreRooted, IsMade}
 use Rattle.t_uses.proofs.Frees.{Rests}
 
--- of two blocks that were made one after the other
-pub both_rooted : (c : ℕ) (x y : Made) (m q r : Memo) → IsMade c x m q → IsMade c y q r → AreRooted c (record { parent = x; child = y }) r
-both_rooted c x y m q r a b =
-    let apart : x.root ≢ y.root = λ e. a.some (sym a.root ∙ (ap (root_word c q) e ∙ b.empty)) in
-    record {
-      low = (a.low, b.low);
-      apart = apart;
-      some = (a.some, b.some);
-      parent = b.others x.root apart ∙ a.root;
-      child = b.root;
-    }
-
 -- a home that was set leaves what waits as it was
 pub home_rests : (me : Me) (b : ℕ) (m r : Memo) (tr : Trail) (es : List Event) → HomeFilled me b m r tr es → is_loose r.part ≡ is_loose m.part → Rests m r
 home_rests me b m r tr es h loose =

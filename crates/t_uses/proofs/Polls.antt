@@ -6,9 +6,10 @@ use Rattle.shm_agents.specs.TurnsLeft.{turns_given}
 use Rattle.shm_pool.specs.{declared.token.Stopped.Stopped, Rescues.Rescuing, Tokens.{Its, Token, token_first}}
 use Rattle.shm_script.specs.Values.{Scripted}
 use Rattle.shm_team.specs.declared.done.Finish.{Finish}
-use Rattle.shm_async.specs.{Finished.HasFinished, Polled.{AtPost, Course, HasTurned, IsNew, IsPolled, WentOn}}
+use Rattle.shm_async.specs.{Cancelled.{HasCancelled, IsCancelled}, Finished.HasFinished}
+use Rattle.shm_async.specs.Polled.{AtPost, Course, HasTurned, IsNew, IsPolled, WentOn}
 use Rattle.shm_async.specs.Rescued.{HasPolled, HasRescued, HasStepped, IsOver, IsStarted, MayRescue, Rescue, answered_by, rescuing_first as started}
-use Rattle.t_uses.specs.Polling.{IsGone}
+use Rattle.t_uses.specs.Polling.{IsCutAfter, IsGone}
 
 -- ---- clients
 
@@ -68,6 +69,23 @@ pub polling_done : (p : Its) (s : Scripted) (q n : ℕ) (f g : Course) (x : Fini
 polling_done p s q n f g x h t =
     subst (λ (r : Scripted). HasFinished p r x) h.script
     (subst (λ (z : Its). HasFinished z f.script x) h.of (finished_on f.quota f.script h.site f.site g.site x h.is t.turned))
+
+-- where they are given up: none of them had ended
+cancelled_on : (s : Scripted) (w : AtPost) (o : Option AtPost) (x : Finish) → o ≡ Some w → IsCancelled s o (Some x) → HasCancelled w.post.of s w.post.account x
+cancelled_on s w None x e h = absurd (cc)
+cancelled_on s w (Some u) x e (y, is, h) =
+    let same : u ≡ w = cc in
+    let this : y ≡ x = cc in
+    subst (λ (z : AtPost). HasCancelled z.post.of s z.post.account x) same (subst (λ (z : Finish). HasCancelled u.post.of s u.post.account z) this h)
+
+pub polling_cut : (p : Its) (s : Scripted) (q n m : ℕ) (f : Course) (x : Finish) → n ≡ m → IsPolling p s q n f → IsCancelled f.script f.site (Some x) → IsCutAfter p s m x
+polling_cut p s q n m f x same h c =
+    record {
+      account = h.site.post.account;
+      given = h.given ∙ same;
+      cut = subst (λ (r : Scripted). HasCancelled p r h.site.post.account x) h.script
+          (subst (λ (z : Its). HasCancelled z f.script h.site.post.account x) h.of (cancelled_on f.script h.site f.site x h.is c));
+    }
 
 -- ---- recoveries
 

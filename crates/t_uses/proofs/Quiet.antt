@@ -30,13 +30,6 @@ quiet_after t t' h alive rests left =
       untaken = λ d j. left.untaken j ∙ h.untaken alive j;
     }
 
--- the tokens of a pool of two identities, taken one by one
-last_of_two : (xs : List Token) (x a b : Token) → xs ++ x ∷ [] ≡ a ∷ b ∷ [] → (x ≡ b) × (xs ≡ a ∷ [])
-last_of_two [] x a b e = absurd (cc)
-last_of_two (y ∷ []) x a b e = (cc, cc)
-last_of_two (y ∷ z ∷ []) x a b e = absurd (cc)
-last_of_two (y ∷ z ∷ w ∷ ws) x a b e = absurd (cc)
-
 -- who is answered hasn't died before
 pub alive_before : {M A : Type 0} (k : Control M A) (does : M → ℕ → Event) (leaves : M → Memo → Memo → Trail → List Event → A → Type 0) (ends : M → A → Type 0) (m : M) (t t' : Acting) (before left : ℕ) (a : A) → HasDone k does leaves ends m t t' before left (Done a) → t.dead ≡ false
 alive_before k does leaves ends m t t' before left a h = by t.dead refl

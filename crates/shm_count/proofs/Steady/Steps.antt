@@ -3,8 +3,9 @@ use Rattle.std.proofs.Common.{◌≡◌, ℕ, ◌+◌, refl, sym, ap, ◌∙◌,
 use Rattle.std.proofs.lemmas.Bool.{true≢false}
 use Rattle.std.specs.List.{filter}
 use Rattle.shm_words.specs.{declared.geometry.Geometry.Geometry, Headers.header_of}
-use Rattle.shm_count.specs.Step.{BeforeExchange.ready_part, Control.{header_after, is_over, value_after}}
-use Rattle.shm_count.specs.Step.{Machines.{down_control, up_control}, Parts.{first_sight, part_after}}
+use Rattle.shm_count.specs.Proved.Step.{BeforeExchange.ready_part, Parts.first_sight}
+use Rattle.shm_count.specs.Step.{Control.{header_after, is_over, value_after}, Machines.{down_control, up_control}}
+use Rattle.shm_count.specs.Step.Parts.{part_after}
 use Rattle.shm_count.specs.Step.{AtFirst, InHalf, PointHas, StepFits, closed_memo, set_memo, slot_memo}
 use Rattle.shm_count.specs.declared.point.{Aim.{Aim, TheVariants.{Up, Down, Change}}, Half.Half}
 use Rattle.shm_count.specs.declared.point.{Half.TheVariants.{First, Second}, StepPoint.StepPoint, StepState.StepState}
@@ -173,6 +174,3 @@ lost_part c p h t x z m r is lost = ap (λ (y : Memo). y.part) lost.took.rest �
 
 pub down_steady : (p : Spot) → IsUnread p → IsSteady down_control (down_part p)
 down_steady p is m r0 r tr going fit = table_of r0 r (unread_part p m r0 r tr is going fit.1)
-
-pub up_steady : (p : Spot) → IsUnread p → IsSteady up_control (up_part p)
-up_steady p is m r0 r tr going fit = table_of r0 r (unread_part p m r0 r tr is going fit.1)

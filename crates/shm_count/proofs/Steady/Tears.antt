@@ -8,8 +8,8 @@ use Rattle.shm_count.specs.declared.point.{Aim.TheVariants.Down as DownAim, Step
 use Rattle.shm_count.specs.{declared.tear_point.{TearPoint.TearPoint, TearState.TearState}, CountParts.tear_part}
 use Rattle.shm_count.specs.Step.{PointHolds, Control.is_over, Parts.part_after}
 use Rattle.shm_count.specs.Tear.{Control.{tear_control, word_address}, Events.{tear_event, tear_start}}
-use Rattle.shm_count.specs.Tear.{Laws.{IsRunning, fit_runs}, Memos.{IsFound, TearStays}, TearFits, TearHolds}
-use Rattle.shm_count.specs.Steady.{IsSteady}
+use Rattle.shm_count.specs.Tear.{Memos.{IsFound, TearStays}, TearFits, TearHolds}
+use Rattle.shm_count.specs.{Proved.Tear.Laws.{IsRunning, fit_runs}, Steady.IsSteady}
 use Rattle.shm_count.specs.declared.tear_point.TearPoint.TheVariants as point
 use Rattle.shm_count.proofs.Steady.{table_of, Steps.point_part}
 

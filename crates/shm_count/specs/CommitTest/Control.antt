@@ -1,13 +1,17 @@
 -- the control of a commit test
-use Rattle.std.specs.Prelude.{ℕ, ◌+◌, ◌<◌, Bool, true, false, ◌&&◌, ◌==◌, nat_lt, if◌then◌else◌, Option, Some, None, []}
+use Rattle.std.specs.Prelude.{ℕ, ◌+◌, ◌<◌, Bool, true, false, ◌&&◌, ◌==◌, nat_lt, if◌then◌else◌, Option, Some, None, [], not}
 use Rattle.shm_words.specs.{Headers.header_of, Layout.{GeometryFits, address}}
 use Rattle.shm_words.specs.declared.place.Place.TheVariants as place
-use Rattle.shm_graph.specs.{declared.ask.{Ask.{Ask, TheVariants.Load}, Me.Me}, MemoAfterRead.next_row}
+use Rattle.shm_graph.specs.{declared.ask.{Ask.{Ask, TheVariants.Load}, Me.Me}, MemoAfterRead.next_row, Held.odd}
 use Rattle.shm_calls.specs.{declared.word.Word.Word, Steering.Steered}
 use Rattle.shm_count.specs.declared.commit_test.Commit.{Commit, TheVariants.{Committed, NotCommitted}}
 use Rattle.shm_count.specs.declared.commit_test.TestingPoint.{TestingPoint, TheVariants.{Header, Row}}
 use Rattle.shm_count.specs.declared.commit_test.TestingState.{TestingState}
 use Rattle.shm_count.specs.declared.commit_test.Proof.TheVariants as proof
+
+-- whether a change with this parity is in its first half at own era e
+abbrev pub is_first_half : Bool → ℕ → Bool
+is_first_half parity e = if parity then odd e else not (odd e)
 
 -- a test of the step of era e on block b, before its first load
 abbrev pub testing : Me → ℕ → ℕ → TestingState

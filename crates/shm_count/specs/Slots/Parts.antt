@@ -1,32 +1,19 @@
 -- count steps at each kind of slot as parts, by what they leave of the memo
-use Rattle.std.proofs.Common.{◌≡◌, ◌+◌, ◌^◌, ◌<◌, ◌≤◌, refl, sym, ap, ◌∙◌, subst, arith, Bool, cond, List}
-use Rattle.std.proofs.lemmas.Bool.{eq-eqb}
+use Rattle.std.proofs.Common.{◌≡◌, ◌<◌, ◌≤◌, refl, sym, ap, ◌∙◌, subst, arith, Bool, cond, List}
 use Rattle.std.specs.Prelude.{Result, Ok, Err}
 use Rattle.shm_graph.specs.{declared.{ask.Me.Me, spot.Spot.Spot, memo.{Memo.Memo, Stored.Stored}}, Events.Event}
-use Rattle.shm_graph.specs.{Held.room_of, Views.own_word, Core.core}
+use Rattle.shm_graph.specs.{Views.own_word, Core.core}
 use Rattle.shm_graph.specs.declared.spot.Spot.TheVariants as spot
-use Rattle.shm_graph.specs.declared.memo.Op.TheVariants as op
-use Rattle.shm_calls.specs.Parts.{IsHeld, Part, PartLaws, weaker, weaker_laws}
+use Rattle.shm_calls.specs.{Parts.{Part, PartLaws, weaker}, Proved.Parts.weaker_laws}
 use Rattle.shm_count.specs.declared.{answer.{EraSpent.EraSpent, UpFault.UpFault}, point.Aim.Aim}
 use Rattle.shm_count.specs.declared.point.{Aim.TheVariants.{Up, Down, Change}, StepState.StepState}
 use Rattle.shm_count.specs.CountParts.{down_part, down_part_laws, up_part, up_part_laws, change_part, change_part_laws}
-use Rattle.shm_count.specs.Step.{Bound.step_bound, Control.step_control, Events.own_events, Gives, Refused}
+use Rattle.shm_count.specs.Proved.{Step.{Bound.step_bound, Parts.lasting_not}, Slots.Ups.up_leaves}
+use Rattle.shm_count.specs.{Proved.Slots.{Downs.down_leaves_at, Changes.change_leaves_at}, Step.Control.step_control}
+use Rattle.shm_count.specs.Step.{Events.own_events, Gives, Refused}
 use Rattle.shm_count.specs.Step.Machines.{down_control, up_control, down_told, up_told, IsDown, IsUp, IsChange}
-use Rattle.shm_count.specs.{Step.Parts.lasting_not, Slots.{Ups.up_leaves, Downs.down_leaves_at}}
-use Rattle.shm_count.specs.Slots.Changes.{change_leaves_at}
 use Rattle.shm_count.specs.Slots.{IsSlotFor, MayStepAt, StepCause, StepDid, StepLeft, Untouched}
 use Rattle.shm_count.specs.declared.answer.UpFault.TheVariants as fault
-
--- in a held state in which no step of an identity is in progress its own era leaves room for two in a header
-pub era_room : (me : Me) (m : Memo) → IsHeld me m → me.who < me.geometry.clients → m.op ≡ op.Nothing → own_word m.own (spot.Era me.who me.who) + 1 < 2 ^ 47
-era_room me m (w, r, h, same) l idle = subst (λ (x : Memo). x.op ≡ op.Nothing → own_word x.own (spot.Era me.who me.who) + 1 < 2 ^ 47) same go idle
-  where
-    go : (r me.who).op ≡ op.Nothing → own_word (r me.who).own (spot.Era me.who me.who) + 1 < 2 ^ 47
-    go none =
-        let room = (h.own me.who l).room in
-        let mine = h.mine me.who l (spot.Era me.who me.who) (eq-eqb me.who me.who refl) in
-        let least : room_of (r me.who).op ≡ 2 = ap room_of none in
-        omega arith
 
 -- nothing was done
 pub untouched : (me : Me) (x : Aim) (p : Spot) (h : Bool) (m r : Memo) (f : UpFault) → Refused me x m r f → Untouched me.who m r × StepCause me x m f

@@ -1,15 +1,10 @@
 -- an up at the least empty root as a part of larger machines
-use Rattle.std.proofs.{Common.{◌≡◌, ℕ, ◌+◌, refl, ◌∙◌, arith, List}, lemmas.Bool.cond-true}
-use Rattle.std.specs.Prelude.{Result, Ok, Err}
-use Rattle.shm_graph.specs.{declared.{ask.Me.Me, memo.Memo.Memo, spot.Spot.TheVariants.Root}, Asks.{Trail, IsWithin}}
-use Rattle.shm_graph.specs.{Bounds.up_steps, Events.Event, Laws.Control}
-use Rattle.shm_graph.proofs.Spots.Spotting.{same_spot_self}
-use Rattle.shm_calls.specs.{declared.calls.Calls.Calls, CallsControl.{calls_control, calls_of}}
-use Rattle.shm_calls.specs.{CallsPart.{MayCall, calls_part}, Parts.Part}
-use Rattle.shm_count.specs.declared.answer.ShareFault.{ShareFault, TheVariants.{EraSpent, RootsFull, CountFull}}
-use Rattle.shm_count.specs.{declared.up_root.RootingState.RootingState, Roots.root_word}
-use Rattle.shm_count.specs.UpRoot.Control.{RootingAnswer, RootingCall, rooting, rooting_parts, rooting_steered}
-use Rattle.shm_count.specs.UpRoot.{MayUpRoot, Rooted, UpRootLeaves, rooting_plan, Laws.rooting_begin}
+use Rattle.std.proofs.Common.{ℕ}
+use Rattle.std.specs.Prelude.{Result}
+use Rattle.shm_graph.specs.Laws.{Control}
+use Rattle.shm_calls.specs.{declared.calls.Calls.Calls, CallsControl.calls_control, CallsPart.calls_part, Parts.Part}
+use Rattle.shm_count.specs.declared.{answer.ShareFault.ShareFault, up_root.RootingState.RootingState}
+use Rattle.shm_count.specs.UpRoot.{Control.{RootingAnswer, RootingCall, rooting_parts, rooting_steered}, rooting_plan}
 
 -- its states, and its control
 abbrev pub RootingCalls : Type 0
@@ -21,18 +16,3 @@ up_root = calls_control rooting_parts rooting_steered
 -- the part, whose laws stand in proofs/UpRootPart.antt; what it leaves is UpRootLeaves
 abbrev pub up_root_part : Part RootingCalls (Result ℕ ShareFault)
 up_root_part = calls_part rooting_parts rooting_plan
-
--- it may be called where a block in reach is to have a root
-pub may_up_root : (me : Me) (b : ℕ) (r : Memo) → MayUpRoot me b r → MayCall rooting_parts rooting_plan (calls_of rooting_steered (rooting me b)) r
-may_up_root me b r may = record { made = refl; first = refl; start = refl; knows = rooting_begin (rooting me b) r refl may }
-
--- the root that was empty names the block
-pub rooted_root : (me : Me) (b k : ℕ) (r0 r : Memo) (tr : Trail) (es : List Event) → Rooted me b k r0 r tr es → root_word me.who r k ≡ b
-rooted_root me b k r0 r tr es h = h.filled.own (Root me.who k) refl ∙ cond-true _ _ _ (same_spot_self (Root me.who k))
-
--- whatever it answers, it takes at most a word step for each root besides those of a step up
-pub up_root_bound : (me : Me) (b : ℕ) (r0 r : Memo) (tr : Trail) (es : List Event) (a : Result ℕ ShareFault) → UpRootLeaves me b r0 r tr es a → IsWithin (up_steps me.geometry.wide + 16) tr
-up_root_bound me b r0 r tr es (Ok k) h = let x = h.bound in let l = h.low in omega arith
-up_root_bound me b r0 r tr es (Err (EraSpent e)) h = let x = h.bound in omega arith
-up_root_bound me b r0 r tr es (Err RootsFull) h = let x = h.bound in omega arith
-up_root_bound me b r0 r tr es (Err (CountFull d n)) h = h.bound

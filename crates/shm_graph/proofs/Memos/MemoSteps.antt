@@ -79,10 +79,6 @@ acts-on m t p e = acts_after m t p ∙ (ap (λ b. cond (is_gone (memo_on m t p).
 pub acts-here : (m : Memo) (t : Step) (p : Spot) → (memo_on m t p).status ≢ Gone → acts (memo_on m t p) ≡ acts m
 acts-here m t p n = acts_after m t p ∙ ap (λ b. cond (b && t.ends) false (acts m)) (not_gone (memo_on m t p).status n)
 
--- a step that ends the machine and leaves the status gone ends the agent
-pub acts-gone : (m : Memo) (t : Step) (p : Spot) → t.ends ≡ true → (memo_on m t p).status ≡ Gone → acts (memo_on m t p) ≡ false
-acts-gone m t p e s = acts_after m t p ∙ (ap (λ b. cond (is_gone (memo_on m t p).status && b) false (acts m)) e ∙ ap (λ z. cond (is_gone z && true) false (acts m)) s)
-
 pub acts-died : (m : Memo) → acts (died m) ≡ false
 acts-died m = ap acts_by (last-with_last fallen m.agents) ∙ acts_fallen (last_agent m.agents)
 

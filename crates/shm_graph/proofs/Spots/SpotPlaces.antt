@@ -71,9 +71,6 @@ spot_is_in g class a f = in_from_place g class a (layout.place_at g a) (place_in
 pub at_is_in : (g : Geometry) (class : ℕ → ℕ → ℕ) (p : Spot) → layout.GeometryFits g → IsAt g class p → spot_in g p ≡ true
 at_is_in g class p f at = subst (λ (q : Spot). spot_in g q ≡ true) at (spot_is_in g class (spot_address g p) f)
 
-pub seen_is_in : (g : Geometry) (ws : List ℕ) (p : Spot) → layout.GeometryFits g → see g ws p ≢ 0 → spot_in g p ≡ true
-seen_is_in g ws p f h = at_is_in g (classes_in g ws) p f (seen_is_at g ws p h)
-
 -- where a header lies
 pub head_block : (class : ℕ → ℕ → ℕ) (s p a b i : ℕ) → block_spot (class s p) a i ≡ Head b → (class s p ≢ 0) × (i % class s p ≡ 0) × (a ≡ b)
 head_block class s p a b i e = (grind (arith, nat_tests), grind (arith, nat_tests), grind (arith, nat_tests))
@@ -81,10 +78,6 @@ head_block class s p a b i e = (grind (arith, nat_tests), grind (arith, nat_test
 pub head_place : (class : ℕ → ℕ → ℕ) (a b : ℕ) (q : Place) → spot_of class a q ≡ Head b → (s p i : ℕ) × (q ≡ place.Body s p i) × (class s p ≢ 0) × (i % class s p ≡ 0) × (a ≡ b)
 head_place class a b (place.Body s p i) e = let t = head_block class s p a b i e in (s, p, i, refl, t.0, t.1, t.2)
 head_place class a b q e = absurd (cc)
-
-pub head_at_place : (g : Geometry) (class : ℕ → ℕ → ℕ) (a b : ℕ) → spot_at g class a ≡ Head b → (s p i : ℕ) × (layout.place_at g a ≡ place.Body s p i) × (class s p ≢ 0) × (i % class s p ≡ 0) × (a ≡ b)
-unfolding spot_at
-head_at_place g class a b e = head_place class a b (layout.place_at g a) e
 
 -- ---- from places to spots
 

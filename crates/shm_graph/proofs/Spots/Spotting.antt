@@ -291,12 +291,6 @@ body_block g class a b i e =
       w.1,
     )
 
-pub class_of_block : (g : Geometry) (class : ℕ → ℕ → ℕ) (a b r : ℕ) → bodies g ≤ a → r ≤ (a - bodies g) % 128 → b ≡ a - r → class_at g class b ≡ class_at g class a
-class_of_block g class a b r w l e =
-    let p = back_in_page (a - bodies g) r l in
-    let x : b - bodies g ≡ a - bodies g - r = omega arith in
-    rw (x, p.0, p.1) refl
-
 -- the block of a tag
 block_tag : (k a i b : ℕ) → block_spot k a i ≡ Tag b → (k ≢ 0) × (b ≡ a - 1) × (i % k ≡ 1)
 block_tag k a i b e = grind (arith, nat_tests)

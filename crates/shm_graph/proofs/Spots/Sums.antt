@@ -32,10 +32,6 @@ pub one_hit : (n : ℕ) (t : ℕ → ℕ) (b x : ℕ) → x < n → t x ≡ b �
 one_hit n t b x l e h =
     sum_one n (λ a. one_if (t a == b)) x l (ap one_if (eq-eqb (t x) b e)) (λ a m d. ap one_if (ne_eqb (t a) b (λ q. d (h a m q))))
 
-pub one_reference : (g : Geometry) (class : ℕ → ℕ → ℕ) (t : Spot → ℕ) (b x : ℕ) → x < total_of g → t (spot_at g class x) ≡ b → ((a : ℕ) → a < total_of g → t (spot_at g class a) ≡ b → a ≡ x) → references_to g class t b ≡ 1
-unfolding references_to
-one_reference g class t b x l e h = one_hit (total_of g) (λ a. t (spot_at g class a)) b x l e h
-
 -- ---- sums of sums
 
 pub sum_each : (n : ℕ) (f h : ℕ → ℕ) → ((a : ℕ) → a < n → f a ≡ h a) → sum_below n f ≡ sum_below n h

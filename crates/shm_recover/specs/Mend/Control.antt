@@ -10,7 +10,7 @@ use Rattle.shm_calls.specs.{CallsControl.{calls_control, calls_of}, Either.or_co
 use Rattle.shm_calls.specs.Steering.{Steered}
 use Rattle.shm_count.specs.declared.commit_test.Commit.{Commit, TheVariants.{Committed, NotCommitted}}
 use Rattle.shm_count.specs.declared.commit_test.TestingState.{TestingState}
-use Rattle.shm_count.specs.CommitTest.{Control.{testing, testing_steered}, is_first_half}
+use Rattle.shm_count.specs.CommitTest.Control.{testing, testing_steered, is_first_half}
 use Rattle.shm_recover.specs.declared.mend.MendPoint.{MendPoint}
 use Rattle.shm_recover.specs.declared.mend.MendPoint.TheVariants.{Dead, Era, Redo, More, Test, Slot, Close, Lower, Unlatch}
 use Rattle.shm_recover.specs.declared.{mend.MendState.MendState, mend_lower.MendLowerState.MendLowerState}

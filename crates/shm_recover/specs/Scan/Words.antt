@@ -14,7 +14,7 @@ use Rattle.shm_graph.proofs.States.Holders.{held_live_block}
 use Rattle.shm_calls.specs.{declared.word.Word.Word, Parts.IsHeld, Words.IsWord}
 use Rattle.shm_steps.specs.WordParts.{HeaderSeen, PageLoaded}
 use Rattle.shm_steps.proofs.Words.{Blocks.{header_see, paged_there}, Own.word_for, Shared.page_load}
-use Rattle.shm_count.specs.{DyingBlocks.live_room, Step.Control.IsInside}
+use Rattle.shm_count.specs.{Proved.DyingBlocks.live_room, Step.Control.IsInside}
 use Rattle.shm_recover.specs.Scan.Control.{place_in, words_before}
 
 -- ---- with what a held state says of the word

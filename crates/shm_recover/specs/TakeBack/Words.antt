@@ -1,22 +1,18 @@
 -- the slot at the tail of a queue to another identity: what its block is, and the step down that takes it back
-use Rattle.std.proofs.Common.{◌≡◌, ◌≢◌, ℕ, ◌+◌, ◌%◌, ◌^◌, ◌<◌, ◌≤◌, refl, sym, ap, ◌∙◌, subst, arith, Bool, true, false, inl, inr}
-use Rattle.std.proofs.lemmas.Bool.{and_from, eq-eqb, lt-ltb, true≢false}
+use Rattle.std.proofs.Common.{◌≡◌, ◌≢◌, ℕ, ◌+◌, ◌%◌, ◌^◌, ◌<◌, ◌≤◌, refl, sym, ap, ◌∙◌, subst, arith, Bool}
+use Rattle.std.proofs.lemmas.Bool.{and_from, eq-eqb, lt-ltb}
 use Rattle.std.specs.{Prelude.slice_index, List.Contains}
-use Rattle.shm_words.specs.Layout.{GeometryFits, address, is_in, total_of}
+use Rattle.shm_words.specs.Layout.{address, total_of}
 use Rattle.shm_words.specs.declared.place.Place.TheVariants as place
-use Rattle.shm_words.proofs.Placing.{address_small, total_small}
 use Rattle.shm_graph.specs.declared.{ask.{Ask.TheVariants.Load, Me.Me}, spot.Spot.Spot}
 use Rattle.shm_graph.specs.declared.{spot.Spot.TheVariants.{Era, QueueHead, Slot, Tail}, memo.Fact.TheVariants.Counter}
-use Rattle.shm_graph.specs.declared.{memo.{Memo.Memo, Op.TheVariants.Nothing}, table.Part.Part}
-use Rattle.shm_graph.specs.{declared.table.Part.TheVariants.{Loose, Table}, Core.core, Held.HeldAt, Laws.framed}
-use Rattle.shm_graph.specs.{Spots.spot_address, Views.{own_word, view}}
-use Rattle.shm_graph.proofs.{Spots.{SpotPlaces.spot-place, Spotting.in_pool}, States.Holders.target_counted}
-use Rattle.shm_steps.specs.{Conditions.IsHere, Raising.is_read}
+use Rattle.shm_graph.specs.{declared.memo.{Memo.Memo, Op.TheVariants.Nothing}, Core.core, Held.HeldAt, Laws.framed}
+use Rattle.shm_graph.specs.Views.{own_word, view}
+use Rattle.shm_graph.proofs.{Spots.SpotPlaces.spot-place, States.Holders.target_counted}
+use Rattle.shm_steps.specs.Conditions.{IsHere}
 use Rattle.shm_steps.proofs.{BeginSlots.room_unsent, Words.Own.{at_step, word_for}}
-use Rattle.shm_calls.specs.{Parts.IsHeld, Words.IsWord, WordSteps.load_at}
-use Rattle.shm_count.specs.{declared.point.{Aim.TheVariants.Down, StepState.StepState}, DyingBlocks.live_room}
-use Rattle.shm_count.specs.{Slots.MayStepAt, Step.{Control.IsInside, CanStep}}
-use Rattle.shm_count.specs.declared.point.StepPoint.TheVariants as point
+use Rattle.shm_calls.specs.{Parts.IsHeld, Words.IsWord, Proved.WordSteps.load_at}
+use Rattle.shm_count.specs.{Proved.DyingBlocks.live_room, Step.Control.IsInside}
 
 -- ---- the head
 
@@ -34,11 +30,6 @@ pub record IsUnsent (me : Me) (i b : ℕ) (m : Memo) : Type 0 where
   pub inside : IsInside me b
   pub room : b + 2 ≤ total_of me.geometry
   pub counted : Contains m.dying b → ⊥
-
--- no partition is read from a queue
-slot_unread : (part : Part) (s i k : ℕ) → is_read part (Slot s i k) ≡ false
-slot_unread Loose s i k = refl
-slot_unread (Table chains) s i k = refl
 
 module _ (me : Me) (l : me.who < me.geometry.clients) (i : ℕ) (li : i < me.geometry.clients) (other : i ≢ me.who) where
   abbrev c : ℕ
@@ -84,52 +75,3 @@ pub record MayBackAt (me : Me) (i k b : ℕ) (r : Memo) : Type 0 where
   pub some : b ≢ 0
   pub unsent : IsUnsent me i b r
   pub era : own_word r.own (Era me.who me.who) + 1 < 2 ^ 47
-
-module _ (me : Me) (fits : GeometryFits me.geometry) (l : me.who < me.geometry.clients) (i k b : ℕ) (r : Memo) (may : MayBackAt me i k b r) where
-  abbrev at : ℕ
-  at = address me.geometry (place.Slot me.who i k)
-
-  low : k < 8
-  low = let e = may.next in omega arith
-
-  slot_in : is_in me.geometry (place.Slot me.who i k) ≡ true
-  slot_in = and_from _ _ (and_from _ _ (lt-ltb me.who me.geometry.clients l) (lt-ltb i me.geometry.clients may.to)) (lt-ltb k 8 low)
-
-  slot_inside : (0 < at) × (at < total_of me.geometry)
-  slot_inside = in_pool me.geometry (λ x y. 0) at (Slot me.who i k) (spot-place me.geometry (λ x y. 0) (place.Slot me.who i k) slot_in) (λ e. cc)
-
-  abbrev back_step : StepState
-  back_step = record { me = me; slot = at; aim = Down b; point = point.Era }
-
-  back_can : CanStep me at (Down b) (Slot me.who i k) r
-  unfolding spot_address
-  back_can =
-      record {
-        geometry = fits;
-        who = l;
-        here = may.here;
-        idle = may.idle;
-        client = λ e. absurd (true≢false (sym e));
-        at = refl;
-        inside = slot_inside;
-        blocks = may.unsent.inside;
-        can = λ room. inr (refl, record { may = record { here = may.here; idle = may.idle; room = omega arith }; to = may.to; other = λ e. may.other (sym e); next = may.next; some = may.some; unsent = may.unsent.names });
-        put = tt;
-        reach = λ e. absurd (true≢false (sym e));
-        part = inl (slot_unread r.part me.who i k);
-        queued = λ loose slot up. absurd (true≢false (sym up));
-      }
-
-  pub back_may : MayStepAt (Slot me.who i k) false back_step r
-  back_may =
-      let total = total_small me.geometry fits in
-      let inside = may.unsent.inside.1 in
-      record {
-        step = record {
-          made = refl;
-          knows = record { geometry = fits; who = l; slot = address_small me.geometry (place.Slot me.who i k) slot_in fits; aim = omega arith; point = tt };
-          can = back_can;
-        };
-        at = (refl, may.other);
-        era = may.era;
-      }

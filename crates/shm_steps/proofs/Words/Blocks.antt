@@ -23,7 +23,8 @@ use Rattle.shm_graph.proofs.Memos.LoadTold.{claim_found, claim_in_all, claim_her
 use Rattle.shm_graph.proofs.Spots.{SpotPlaces.body_spot_at, Spotting.{block_within, body_spot, in_pool, tag_spot}}
 use Rattle.shm_graph.proofs.States.{Claims.{ClaimSound, claims_sound}, Holders.{Holds, held_live_block, reach_counted}}
 use Rattle.shm_graph.proofs.{States.Reached.reached_here, StepKinds.Loads.choice}
-use Rattle.shm_calls.specs.{Parts.IsHeld, Placed.MayStand, Words.{IsWord, word_more}, WordSteps.{IsThere, word_in}}
+use Rattle.shm_calls.specs.{Parts.IsHeld, Placed.MayStand, Words.IsWord, Proved.Words.word_more}
+use Rattle.shm_calls.specs.Proved.WordSteps.{IsThere, word_in}
 use Rattle.shm_laws.specs.Slotting.{Writes}
 use Rattle.shm_steps.specs.{Conditions.MayWrite, LoadNeeds.{IsCovered, IsSettled, IsTold, MayLookBy}}
 use Rattle.shm_steps.specs.WordParts.{BodyStored, HeaderLoaded, HeaderSeen, IsDyingWord, IsLatchedWord, IsPlainWord, ReferenceLoaded, WordLoaded}

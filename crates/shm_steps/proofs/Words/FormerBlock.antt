@@ -12,7 +12,7 @@ use Rattle.shm_graph.specs.{Events.Nothing, MemoAfterExchange.{committed, cut, e
 use Rattle.shm_graph.specs.{Laws.{event_of, framed}, References.words_of, Reach.sifted}
 use Rattle.shm_graph.specs.MemoAfterRead.{header_read, is_held, op_refused, raised_by}
 use Rattle.shm_graph.specs.declared.memo.Op.TheVariants as op
-use Rattle.shm_calls.specs.{EventWords.{IsEventWord, event_in}, WordSteps.IsThere}
+use Rattle.shm_calls.specs.{EventWords.IsEventWord, Proved.{EventWords.event_in, WordSteps.IsThere}}
 use Rattle.shm_laws.specs.HeaderExchanges.{dying_after}
 use Rattle.shm_steps.specs.{Lowering.MayLowerFormer, WordParts.{FormerLowered, former_event}}
 use Rattle.shm_steps.proofs.{BodyLoads.header_lost, ChangeLowered.change_lowered, Cores.header_core}

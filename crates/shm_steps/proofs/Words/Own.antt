@@ -16,7 +16,8 @@ use Rattle.shm_graph.specs.declared.memo.Status.TheVariants as status
 use Rattle.shm_graph.proofs.{Machines.Calling.called_by, StepKinds.{Keeping.live_kept, Loads.choice}}
 use Rattle.shm_graph.proofs.{StepKinds.StatusKeeping.{dead_kept, gone_kept}, Spots.SpotPlaces.spot-place}
 use Rattle.shm_graph.proofs.Memos.MemoSteps.{recovers_called}
-use Rattle.shm_calls.specs.{declared.word.Word.Word, Words.{IsWord, word_more}, WordSteps.{KindKept, load_at, word_at}}
+use Rattle.shm_calls.specs.{declared.word.Word.Word, Words.IsWord, Proved.Words.word_more}
+use Rattle.shm_calls.specs.Proved.WordSteps.{KindKept, load_at, word_at}
 use Rattle.shm_steps.specs.{Conditions.MayWrite, OwnWords.{MayShow, MayHold, MayClose}}
 use Rattle.shm_steps.specs.WordParts.{OwnLoaded, StatusLoaded, HoldLoaded, HoldStored, LiveStored, DeadStored, GoneStored, RowStored, EraClosed, EraClosedLowering, EraStored, CountLoaded, Makes, NamedStored}
 use Rattle.shm_steps.proofs.{Cores.{called_core, core_cond}, OwnStores.{hold_stored, row_stored}}

@@ -13,7 +13,7 @@ use Rattle.shm_graph.specs.{MemoAfterRead.{is_head_slot, is_tail_above, valued},
 use Rattle.shm_graph.specs.{MemoAfterStore.{head_stored, tail_stored, written}, Views.{own_word, targets, view}}
 use Rattle.shm_graph.proofs.{Memos.Calls.FactHolds, States.Holders.Holds, StepKinds.Loads.choice}
 use Rattle.shm_graph.proofs.Spots.SpotPlaces.{spot-place}
-use Rattle.shm_calls.specs.{Words.IsWord, WordSteps.load_at}
+use Rattle.shm_calls.specs.{Words.IsWord, Proved.WordSteps.load_at}
 use Rattle.shm_steps.specs.{Conditions.MayWrite, OwnWords.{MayReceive, MaySend}}
 use Rattle.shm_steps.specs.WordParts.{HeadSlotLoaded, HeadStored, IsHeadSlot, IsTailSlot, SlotStored, TailSlotLoaded, TailStored}
 use Rattle.shm_steps.proofs.{BeginAt.word_target, BeginSlots.{room_left, room_unsent, tail_has}, BeginWords.known_here}

@@ -11,7 +11,7 @@ use Rattle.shm_graph.specs.{declared.memo.{Memo.Memo, Step.Step}, Blocks.classes
 use Rattle.shm_graph.specs.{Core.core, Laws.framed, Reach.unlatched, MemoAfterRead.is_held, Spots.spot_at}
 use Rattle.shm_graph.specs.{MemoAfterStore.not_segment, Views.own_word}
 use Rattle.shm_graph.proofs.{StepKinds.{LoadKeeping.lost_kept, Loads.choice}, Spots.SpotPlaces.spot-place}
-use Rattle.shm_calls.specs.{Words.IsWord, WordSteps.{load_at, word_at}}
+use Rattle.shm_calls.specs.{Words.IsWord, Proved.WordSteps.{load_at, word_at}}
 use Rattle.shm_steps.specs.{Conditions.IsHere, Preparing.{MayGive, MayLatch}, Unlatching.MayUnlatch}
 use Rattle.shm_steps.specs.WordParts.{HomeLoaded, HomeLooked, LatchGiven, LatchLoaded, LatchTaken, PageLoaded, SegmentGiven, SegmentLoaded, SegmentTaken}
 use Rattle.shm_steps.proofs.{LatchBack.latch_back, PageSteps.{claimed, given_up, latched}}

@@ -11,7 +11,7 @@ use Rattle.shm_graph.specs.{Blocks.classes, Changes.{called, test_before}, Core.
 use Rattle.shm_graph.specs.{MemoAfterRead.{op_refused, row_read, test_from, test_on}, Spots.segment_of, Views.own_word}
 use Rattle.shm_graph.proofs.{Spots.{SpotPlaces.spot-place, Spotting.spot_zero}, StepKinds.LoadKeeping.load_kept}
 use Rattle.shm_graph.proofs.Memos.MemoSteps.{recovers_called}
-use Rattle.shm_calls.specs.{Words.IsWord, WordSteps.{IsThere, load_at, word_in}}
+use Rattle.shm_calls.specs.{Words.IsWord, Proved.WordSteps.{IsThere, load_at, word_in}}
 use Rattle.shm_steps.specs.WordParts.{TestBegun, TestGoesOn}
 use Rattle.shm_steps.proofs.{BodyLoads.header_loaded, Cores.header_core, Words.Blocks.recoverer_goes_on}
 use Rattle.shm_steps.proofs.Words.Own.{at_step, word_for}

@@ -11,7 +11,7 @@ use Rattle.shm_alloc.specs.declared.alloc.AllocFault.{AllocFault}
 use Rattle.shm_count.specs.declared.{answer.{EraSpent.EraSpent, ShareFault.ShareFault, UpFault.UpFault}, point.Aim.Aim}
 use Rattle.shm_count.specs.declared.up_root.{RootingPoint.RootingPoint, RootingState.RootingState}
 use Rattle.shm_count.specs.Step.{Asks.{first_trail, more_trail, point_trail, redo_trail}, Control.first_point}
-use Rattle.shm_count.specs.Step.{Machines.up_answer, Refusing.first_reads}
+use Rattle.shm_count.specs.{Step.Machines.up_answer, Proved.Step.Refusing.first_reads}
 use Rattle.shm_count.specs.UpRoot.Control.{RootingAnswer, rooting_after, rooting_ask, rooting_call, rooting_turns, share_fault, taken_up as taken_up_at}
 use Rattle.shm_count.specs.UpRoot.{rooting_part, rooting_plan}
 use Rattle.shm_count.specs.declared.answer.ShareFault.TheVariants as share
@@ -19,7 +19,7 @@ use Rattle.shm_count.specs.declared.answer.UpFault.TheVariants as up
 use Rattle.shm_count.specs.declared.point.Aim.TheVariants as aims
 use Rattle.shm_count.specs.declared.point.StepPoint.TheVariants as point
 use Rattle.shm_count.specs.declared.up_root.RootingPoint.TheVariants as rooting
-use Rattle.shm_ref.specs.{declared.drop_root.{DropPoint.DropPoint, DropState.DropState}, AskedParts.one_pair}
+use Rattle.shm_ref.specs.{declared.drop_root.{DropPoint.DropPoint, DropState.DropState}, Proved.AskedParts.one_pair}
 use Rattle.shm_ref.specs.DropRoot.Control.{DropAnswer, drop_after, drop_call_at, drop_turns, dropping, root_at}
 use Rattle.shm_ref.specs.{DropRoot.drop_plan, HomeParts.home_address}
 use Rattle.shm_ref.specs.declared.drop_root.DropPoint.TheVariants as drop

@@ -11,20 +11,21 @@ use Rattle.shm_script.specs.declared.line.Line.TheVariants as line
 use Rattle.shm_script.specs.declared.log.Answer.TheVariants as answer
 use Rattle.shm_table.specs.declared.del.{DelPoint.DelPoint, DelState.DelState}
 use Rattle.shm_table.specs.Command.{CommandCall, CommandFits, command_control, command_effect, command_of}
-use Rattle.shm_table.specs.{Command.{Laws.command_laws, Maps.{MapSoFar, answered_map}}, CopyKey.Control.copy_parts}
-use Rattle.shm_table.specs.CopyKey.{copy_plan, Laws.copy_laws}
+use Rattle.shm_table.specs.{Command.Maps.{MapSoFar, answered_map}, Proved.Command.Laws.command_laws}
+use Rattle.shm_table.specs.Proved.{CopyKey.Laws.copy_laws, Del.Laws.{del_laws, found_unlinks}, Enter.Laws.enter_laws}
+use Rattle.shm_table.specs.Proved.{Fetch.Laws.fetch_laws, FetchHead.Laws.fetch_head_laws, Get.Laws.get_laws}
+use Rattle.shm_table.specs.Proved.{Locate.Laws.locate_laws, OpenTable.Laws.open_laws, Put.Laws.put_laws}
+use Rattle.shm_table.specs.Proved.{PutRoot.{Laws.put_root_laws, Steps.same_more}, RecvKey.Laws.recv_laws}
+use Rattle.shm_table.specs.Proved.{Replace.Laws.replace_laws, SendKey.Laws.send_key_laws}
+use Rattle.shm_table.specs.Proved.{Staying.Laws.{latched_else, rests_read, same_map}, TakeHead.Laws.take_head_laws}
+use Rattle.shm_table.specs.{Proved.Unlink.Laws.unlink_laws, CopyKey.{Control.copy_parts, copy_plan}}
 use Rattle.shm_table.specs.Del.Control.{DelCall, DelCalls, del_call_at, del_parts}
-use Rattle.shm_table.specs.Del.{DelKnows, DelSays, del_part, del_plan, Laws.{del_laws, found_unlinks}}
+use Rattle.shm_table.specs.Del.{DelKnows, DelSays, del_part, del_plan}
 use Rattle.shm_table.specs.Effects.{copy_at, del_at, is_removed, put_at, recv_at, send_key_at, unlink_decided}
-use Rattle.shm_table.specs.{Enter.Laws.enter_laws, Fetch.Laws.fetch_laws, FetchHead.Laws.fetch_head_laws}
-use Rattle.shm_table.specs.{Get.{Control.get_parts, get_plan, Laws.get_laws}, Locate.Laws.locate_laws}
-use Rattle.shm_table.specs.{Machines.Change.del, OpenTable.Laws.open_laws, Put.{Control.put_parts, put_plan}}
-use Rattle.shm_table.specs.{Put.Laws.put_laws, PutRoot.{Laws.put_root_laws, Steps.same_more}}
-use Rattle.shm_table.specs.{RecvKey.{Control.recv_parts, recv_plan, Laws.recv_laws}, Replace.Laws.replace_laws}
-use Rattle.shm_table.specs.SendKey.{Control.send_key_parts, send_key_plan, Laws.send_key_laws}
-use Rattle.shm_table.specs.Staying.{MapCut, SameMap, Laws.{latched_else, rests_read, same_map}}
-use Rattle.shm_table.specs.{TakeHead.Laws.take_head_laws, Unlink.Control.{unlink_parts, unlinking, unlink_steered}}
-use Rattle.shm_table.specs.Unlink.{unlink_plan, Laws.unlink_laws}
+use Rattle.shm_table.specs.{Get.{Control.get_parts, get_plan}, Machines.Change.del, Put.{Control.put_parts, put_plan}}
+use Rattle.shm_table.specs.{RecvKey.{Control.recv_parts, recv_plan}, SendKey.{Control.send_key_parts, send_key_plan}}
+use Rattle.shm_table.specs.{Staying.{MapCut, SameMap}, Unlink.Control.{unlink_parts, unlinking, unlink_steered}}
+use Rattle.shm_table.specs.Unlink.{unlink_plan}
 use Rattle.shm_table.specs.declared.del.DelPoint.TheVariants as deletes
 use Rattle.shm_table.proofs.{DecidingEvents.{kept_along, plan_kept}, Running.Entries.{MapBy, UnlinkDoes, unlink_so}}
 use Rattle.shm_table.proofs.Running.{Fetching.{get_still, send_key_still}, Puts.{copy_so, put_so, recv_so}}

@@ -11,9 +11,9 @@ use Rattle.shm_table.specs.declared.enter.{EnterPoint.EnterPoint, EnterState.Ent
 use Rattle.shm_table.specs.Effects.{enter_at, enter_decided}
 use Rattle.shm_table.specs.Enter.Control.{EnterCall, enter_call_at, enter_parts, enter_to}
 use Rattle.shm_table.specs.Enter.{EnterKnows, IsMade, enter_part, enter_plan}
-use Rattle.shm_table.specs.Enter.Steps.{bucket_own, entry_own, first_apart, value_number}
-use Rattle.shm_table.specs.{PutRoot.{Control.{EnterCalls, enter_control}, Steps.same_more}, Staying.{MapSet, SameMap}}
-use Rattle.shm_table.specs.Staying.{Laws.same_map, Steps.map_word}
+use Rattle.shm_table.specs.Proved.Enter.Steps.{bucket_own, entry_own, first_apart, value_number}
+use Rattle.shm_table.specs.Proved.{PutRoot.Steps.same_more, Staying.{Laws.same_map, Steps.map_word}}
+use Rattle.shm_table.specs.{PutRoot.Control.{EnterCalls, enter_control}, Staying.{MapSet, SameMap}}
 use Rattle.shm_table.specs.declared.enter.EnterPoint.TheVariants as entering
 use Rattle.shm_table.proofs.{DecidingEvents.kept_along, Running.{Entries.{MapBy, aimed_part, by_part}, Steps.PartBy}}
 use Rattle.shm_table.proofs.Running.Still.{alloc_still, same_now}

@@ -10,10 +10,9 @@ use Rattle.shm_count.specs.declared.point.Aim.TheVariants as aims
 use Rattle.shm_table.specs.declared.replace.{ReplacePoint.ReplacePoint, ReplaceState.ReplaceState}
 use Rattle.shm_table.specs.declared.unlink.{UnlinkPoint.UnlinkPoint, UnlinkState.UnlinkState}
 use Rattle.shm_table.specs.Effects.{replace_at, replace_decided, unlink_at, unlink_decided}
-use Rattle.shm_table.specs.PutRoot.{Control.{ReplaceCalls, replace_control}, Steps.same_more}
-use Rattle.shm_table.specs.Replace.Control.{ReplaceCall, replace_call_at, replace_parts}
+use Rattle.shm_table.specs.{PutRoot.Control.{ReplaceCalls, replace_control}, Proved.PutRoot.Steps.same_more}
+use Rattle.shm_table.specs.{Proved.Staying.Laws.same_map, Replace.Control.{ReplaceCall, replace_call_at, replace_parts}}
 use Rattle.shm_table.specs.{Replace.{IsSeen, MayReplace, ReplaceKnows, replace_plan}, Staying.{MapCut, MapSet, SameMap}}
-use Rattle.shm_table.specs.Staying.Laws.{same_map}
 use Rattle.shm_table.specs.Unlink.Control.{UnlinkCall, unlink_call_at, unlink_parts, UnlinkCalls, unlink_control}
 use Rattle.shm_table.specs.Unlink.{IsSeen as IsNextSeen, MayUnlink, UnlinkKnows, unlink_plan}
 use Rattle.shm_table.specs.declared.replace.ReplacePoint.TheVariants as replacing

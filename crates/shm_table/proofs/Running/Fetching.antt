@@ -21,10 +21,11 @@ use Rattle.shm_table.specs.FetchHead.{Control.fetch_head_parts, FetchHeadKnows, 
 use Rattle.shm_table.specs.{Get.{Control.get_parts, GetKnows, get_plan}, Locate.Control.{locate_parts, locate_control}}
 use Rattle.shm_table.specs.{Locate.locate_plan, Machines.{Get.get, Send.send_key}}
 use Rattle.shm_table.specs.OpenTable.{Control.{OpenCall, open_call_at, open_parts}, OpenKnows, open_plan}
-use Rattle.shm_table.specs.PutRoot.{Control.{OpenCalls, open_control}, Steps.same_more}
-use Rattle.shm_table.specs.{RecvKey.Control.fetch_head_control, SendKey.Control.send_key_parts}
+use Rattle.shm_table.specs.{PutRoot.Control.{OpenCalls, open_control}, Proved.PutRoot.Steps.same_more}
+use Rattle.shm_table.specs.{Proved.Staying.{Laws.same_map, Steps.map_home}, RecvKey.Control.fetch_head_control}
+use Rattle.shm_table.specs.SendKey.Control.{send_key_parts}
 use Rattle.shm_table.specs.{SendKey.{GiveKnows as SaysKnows, SendKeyKnows, got as sent, send_key_plan}, Staying.SameMap}
-use Rattle.shm_table.specs.{Staying.{Laws.same_map, Steps.map_home}, Unlatch.{unlatch_control, unlatch_plan}}
+use Rattle.shm_table.specs.Unlatch.{unlatch_plan, Control.unlatch_control}
 use Rattle.shm_table.specs.declared.fetch.Fetched.TheVariants as fetched
 use Rattle.shm_table.specs.declared.fetch.FetchPoint.TheVariants as fetching
 use Rattle.shm_table.specs.declared.fetch_head.FetchHeadPoint.TheVariants as heading

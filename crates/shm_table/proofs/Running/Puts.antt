@@ -7,15 +7,14 @@ use Rattle.shm_table.specs.declared.{put.{PutPoint.PutPoint, PutState.PutState},
 use Rattle.shm_table.specs.{declared.recv.RecvState.RecvState, Commands.ValueSo}
 use Rattle.shm_table.specs.CopyKey.Control.{CopyCall, CopyCalls, copy_call_at, copy_parts}
 use Rattle.shm_table.specs.CopyKey.{CopyKnows, copy_part, copy_plan}
-use Rattle.shm_table.specs.{Effects.{copy_at, put_at, put_root_decided, recv_at, settled}, Enter.Laws.enter_laws}
-use Rattle.shm_table.specs.{Locate.Laws.locate_laws, Machines.{Copy.copy_control, Put.put, Recv.recv_control}}
-use Rattle.shm_table.specs.{OpenTable.Laws.open_laws, Put.Control.{PutCall, PutCalls, put_call_at, put_parts}}
-use Rattle.shm_table.specs.Put.{PutKnows, put_part, put_plan}
+use Rattle.shm_table.specs.{Effects.{copy_at, put_at, put_root_decided, recv_at, settled}, Proved.Enter.Laws.enter_laws}
+use Rattle.shm_table.specs.Proved.{Locate.Laws.locate_laws, OpenTable.Laws.open_laws, PutRoot.Laws.put_root_laws}
+use Rattle.shm_table.specs.Proved.{PutRoot.Steps.{same_more, set_after, set_then}, Replace.Laws.replace_laws}
+use Rattle.shm_table.specs.Machines.{Copy.copy_control, Put.put, Recv.recv_control}
+use Rattle.shm_table.specs.Put.{Control.{PutCall, PutCalls, put_call_at, put_parts}, PutKnows, put_part, put_plan}
 use Rattle.shm_table.specs.PutRoot.Control.{PutRootCalls, put_root_parts, putting_root, put_root_steered, put_root_control}
-use Rattle.shm_table.specs.PutRoot.{put_root_plan, Laws.put_root_laws, Steps.{same_more, set_after, set_then}}
-use Rattle.shm_table.specs.RecvKey.Control.{RecvCall, RecvCalls, recv_call_at, recv_parts}
-use Rattle.shm_table.specs.{RecvKey.{RecvKnows, recv_part, recv_plan}, Replace.Laws.replace_laws}
-use Rattle.shm_table.specs.Staying.{MapSet, SameMap}
+use Rattle.shm_table.specs.{PutRoot.put_root_plan, RecvKey.Control.{RecvCall, RecvCalls, recv_call_at, recv_parts}}
+use Rattle.shm_table.specs.{RecvKey.{RecvKnows, recv_part, recv_plan}, Staying.{MapSet, SameMap}}
 use Rattle.shm_table.specs.declared.copy.CopyPoint.TheVariants as copies
 use Rattle.shm_table.specs.declared.put.PutPoint.TheVariants as puts
 use Rattle.shm_table.specs.declared.recv.RecvPoint.TheVariants as receives

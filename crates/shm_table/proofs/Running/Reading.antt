@@ -22,9 +22,9 @@ use Rattle.shm_table.specs.declared.{locate.LocateState.LocateState, take_head.T
 use Rattle.shm_table.specs.declared.{take_head.TakeHeadState.TakeHeadState, unlatch.UnlatchPoint.UnlatchPoint}
 use Rattle.shm_table.specs.{declared.unlatch.UnlatchState.UnlatchState, Find.{FindKnows, find_plan}}
 use Rattle.shm_table.specs.Locate.{Control.{find_control, locate_parts, locate_control}, LocateKnows, locate_plan}
-use Rattle.shm_table.specs.{RecvKey.Control.take_head_control, Staying.{SameMap, Laws.same_map}}
+use Rattle.shm_table.specs.{RecvKey.Control.take_head_control, Staying.SameMap, Proved.Staying.Laws.same_map}
 use Rattle.shm_table.specs.TakeHead.{Control.take_head_parts, TakeHeadKnows, take_head_plan}
-use Rattle.shm_table.specs.Unlatch.{UnlatchKnows, unlatch_control, unlatch_plan}
+use Rattle.shm_table.specs.Unlatch.{UnlatchKnows, unlatch_plan, Control.unlatch_control}
 use Rattle.shm_table.specs.declared.find.FindPoint.TheVariants as finding
 use Rattle.shm_table.specs.declared.locate.LocatePoint.TheVariants as locating
 use Rattle.shm_table.specs.declared.take_head.TakeHeadPoint.TheVariants as taking

@@ -8,12 +8,13 @@ use Rattle.shm_steps.specs.Reparting.{IsValue, sight}
 use Rattle.shm_table.specs.declared.{answer.PutFault.PutFault, put_root.PutRootPoint.PutRootPoint}
 use Rattle.shm_table.specs.declared.put_root.PutRootState.{PutRootState}
 use Rattle.shm_table.specs.Effects.{put_root_at, put_root_decided, replace_decided, enter_decided, settled}
-use Rattle.shm_table.specs.Enter.{Control.{enter_parts, entering, enter_steered}, enter_plan, Laws.enter_laws}
+use Rattle.shm_table.specs.Enter.{Control.{enter_parts, entering, enter_steered}, enter_plan}
+use Rattle.shm_table.specs.Proved.{Enter.Laws.enter_laws, PutRoot.Steps.{same_more, set_after}}
+use Rattle.shm_table.specs.Proved.Replace.Laws.{replace_laws}
 use Rattle.shm_table.specs.PutRoot.Control.{PutRootCall, PutRootCalls, put_root_call, put_root_parts, put_root_control}
 use Rattle.shm_table.specs.PutRoot.{IsPutting, MapSo, PutRootKnows, put_root_part, put_root_plan}
-use Rattle.shm_table.specs.PutRoot.Steps.{same_more, set_after}
 use Rattle.shm_table.specs.Replace.{Control.{replace_parts, replacing, replace_steered}, MayReplace, replace_plan}
-use Rattle.shm_table.specs.{Replace.Laws.replace_laws, Staying.{MapSet, SameMap}}
+use Rattle.shm_table.specs.Staying.{MapSet, SameMap}
 use Rattle.shm_table.specs.declared.put_root.PutRootPoint.TheVariants as rooting
 use Rattle.shm_table.proofs.{DecidingEvents.{kept_along, plan_kept}, Running.Entering.{EnterDoes, enter_so}}
 use Rattle.shm_table.proofs.Running.{Entries.{MapBy, ReplaceDoes, replace_so}, Fetching.open_still}

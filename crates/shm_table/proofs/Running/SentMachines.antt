@@ -4,8 +4,8 @@ use Rattle.shm_graph.specs.{declared.memo.Memo.Memo, Asks.Trail, Bounds.redo_ste
 use Rattle.shm_graph.specs.declared.spot.Spot.TheVariants as spot
 use Rattle.shm_calls.specs.{CallsControl.calls_control, CallsFit.CallsFits, Either.or_control, Words.word_control}
 use Rattle.shm_count.specs.declared.up_root.{RootingPoint.RootingPoint, RootingState.RootingState}
-use Rattle.shm_count.specs.Step.{Control.{first_point, step_control}, Machines.{down_control, up_control}}
-use Rattle.shm_count.specs.{Step.{BeforeExchange.ready_part, PointHas}, StepsAt.{ChangeFitsAt, DownFitsAt, UpFitsAt}}
+use Rattle.shm_count.specs.Step.{Control.{first_point, step_control}, Machines.{down_control, up_control}, PointHas}
+use Rattle.shm_count.specs.{Proved.Step.BeforeExchange.ready_part, StepsAt.{ChangeFitsAt, DownFitsAt, UpFitsAt}}
 use Rattle.shm_count.specs.{StepsFrom.FitsFrom, Tear.{Control.tear_control, TearFits}, UpRoot.AsPart.up_root}
 use Rattle.shm_count.specs.UpRoot.{Control.rooting_parts, RootingKnows, rooting_part, rooting_plan}
 use Rattle.shm_count.specs.declared.point.StepPoint.TheVariants as point
@@ -48,9 +48,9 @@ use Rattle.shm_table.specs.PutRoot.{PutRootKnows, put_root_plan}
 use Rattle.shm_table.specs.RecvKey.Control.{fetch_head_control, recv_parts, take_head_control}
 use Rattle.shm_table.specs.{RecvKey.{ItemSo, RecvKnows, recv_plan}, Replace.Control.replace_parts}
 use Rattle.shm_table.specs.{Replace.{ReplaceKnows, replace_plan}, TakeHead.Control.take_head_parts}
-use Rattle.shm_table.specs.TakeHead.{TakeHeadKnows, take_head_plan}
-use Rattle.shm_table.specs.Unlatch.{UnlatchKnows, unlatch_control, unlatch_plan}
-use Rattle.shm_table.specs.Unlink.{Control.{unlink_parts, unlink_control}, UnlinkKnows, unlink_plan}
+use Rattle.shm_table.specs.{TakeHead.{TakeHeadKnows, take_head_plan}, Unlatch.{UnlatchKnows, unlatch_plan}}
+use Rattle.shm_table.specs.{Unlatch.Control.unlatch_control, Unlink.Control.{unlink_parts, unlink_control}}
+use Rattle.shm_table.specs.Unlink.{UnlinkKnows, unlink_plan}
 use Rattle.shm_table.specs.declared.copy.CopyPoint.TheVariants as copies
 use Rattle.shm_table.specs.declared.del.DelPoint.TheVariants as deletes
 use Rattle.shm_table.specs.declared.enter.EnterPoint.TheVariants as entering

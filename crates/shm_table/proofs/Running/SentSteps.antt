@@ -20,9 +20,10 @@ use Rattle.shm_count.specs.declared.point.{Half.TheVariants.{First, Second}, Ste
 use Rattle.shm_count.specs.declared.tear_point.TearPoint.{TearPoint}
 use Rattle.shm_count.specs.Step.Control.{header_after, is_over, step_control, value_after}
 use Rattle.shm_count.specs.Step.{AtFirst, InHalf, PointHas, StepFits, set_memo, slot_memo}
-use Rattle.shm_count.specs.Step.{Machines.{down_control, up_control}, Memos.closed_part, BeforeExchange.ready_part}
-use Rattle.shm_count.specs.{StepsAt.{DownFitsAt, UpFitsAt}, Tear.Control.{tear_control, word_address}}
-use Rattle.shm_count.specs.Tear.{Events.{tear_event, tear_start}, TearFits, TearHolds}
+use Rattle.shm_count.specs.{Step.Machines.{down_control, up_control}, Proved.Step.Memos.closed_part}
+use Rattle.shm_count.specs.{Proved.Step.BeforeExchange.ready_part, StepsAt.{DownFitsAt, UpFitsAt}}
+use Rattle.shm_count.specs.Tear.{Control.{tear_control, word_address}, Events.{tear_event, tear_start}}
+use Rattle.shm_count.specs.Tear.{TearFits, TearHolds}
 use Rattle.shm_count.specs.declared.point.StepPoint.TheVariants as point
 use Rattle.shm_count.specs.declared.tear_point.TearPoint.TheVariants as tear
 use Rattle.shm_alloc.specs.Alloc.{Control.alloc_control, AllocFits}

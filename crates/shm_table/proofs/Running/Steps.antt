@@ -20,8 +20,9 @@ use Rattle.shm_count.specs.declared.point.{Aim.{Aim, TheVariants.{Up, Down, Chan
 use Rattle.shm_count.specs.declared.point.{Half.TheVariants.{First, Second}, StepPoint.StepPoint, StepState.StepState}
 use Rattle.shm_count.specs.Step.Control.{PartFits, PointFits, header_after, is_over, step_control, value_after}
 use Rattle.shm_count.specs.Step.ExchangeMade.{exchanged_at, is_second, step_exchanged}
-use Rattle.shm_count.specs.Step.{AtFirst, InHalf, PointHas, StepFits, set_memo, slot_memo, Memos.closed_part}
-use Rattle.shm_count.specs.{Step.{Parts.{first_sight, part_after}, BeforeExchange.ready_part}, StepsFrom.FitsFrom}
+use Rattle.shm_count.specs.Step.{AtFirst, InHalf, PointHas, StepFits, set_memo, slot_memo, Parts.part_after}
+use Rattle.shm_count.specs.Proved.Step.{Memos.closed_part, Parts.first_sight, BeforeExchange.ready_part}
+use Rattle.shm_count.specs.StepsFrom.{FitsFrom}
 use Rattle.shm_count.specs.declared.point.StepPoint.TheVariants as point
 
 -- ---- slots

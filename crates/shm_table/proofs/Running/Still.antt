@@ -14,15 +14,15 @@ use Rattle.shm_count.specs.declared.{answer.UpFault.UpFault, point.{Aim.TheVaria
 use Rattle.shm_count.specs.declared.{point.StepPoint.StepPoint, tear_point.TearNext.TheVariants.{Answer, Go}}
 use Rattle.shm_count.specs.declared.tear_point.{TearPoint.TearPoint, TearState.TearState}
 use Rattle.shm_count.specs.Step.Control.{PointFits, answer_of as next_answer, is_over, point_of as next_point, step_next}
-use Rattle.shm_count.specs.Step.{ExchangeMade.exchanged_at, Laws.step_steady, Machines.{down_control, up_control}}
-use Rattle.shm_count.specs.{Step.{Parts.part_after, PointHas}, StepsAt.{DownFitsAt, UpFitsAt}}
+use Rattle.shm_count.specs.Step.{ExchangeMade.exchanged_at, Machines.{down_control, up_control}, Parts.part_after}
+use Rattle.shm_count.specs.{Step.PointHas, Proved.Step.Laws.step_steady, StepsAt.{DownFitsAt, UpFitsAt}}
 use Rattle.shm_count.specs.Tear.Control.{TearPointFits, down_next, down_state, lowered_next, point_of, relinked, tag_read, tear_control, tear_next_at, word_address, word_or_free}
 use Rattle.shm_count.specs.Tear.{Events.{tear_event, tear_start}, Memos.IsFound, TearFits, TearHolds}
 use Rattle.shm_count.specs.declared.point.StepNext.TheVariants as next
 use Rattle.shm_count.specs.declared.point.StepPoint.TheVariants as step
 use Rattle.shm_count.specs.declared.tear_point.TearPoint.TheVariants as tear
 use Rattle.shm_alloc.specs.Alloc.{Control.alloc_control, AllocFits}
-use Rattle.shm_table.specs.{PutRoot.Steps.same_more, Staying.{SameMap, Laws.same_map}}
+use Rattle.shm_table.specs.{Proved.{PutRoot.Steps.same_more, Staying.Laws.same_map}, Staying.SameMap}
 use Rattle.shm_table.proofs.{DecidingEvents.kept_along, Running.Steps.{lane_part, point_part, quiet_by, root_part}}
 
 -- ---- the form

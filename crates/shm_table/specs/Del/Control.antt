@@ -11,7 +11,7 @@ use Rattle.shm_script.specs.declared.line.Line.TheVariants as line
 use Rattle.shm_table.specs.declared.del.{DelPoint.{DelPoint, TheVariants.{Search, Cut, Back}}, DelState.DelState}
 use Rattle.shm_table.specs.{declared.find.Found.{Found, TheVariants.{Absent, At}}, Answers.{fault_answer, raised_fault}}
 use Rattle.shm_table.specs.Locate.Control.{locating, locate_steered, LocateCalls, locate_control}
-use Rattle.shm_table.specs.Unlatch.{UnlatchCalls, unlatch_control, unlatching, unlatch_steered}
+use Rattle.shm_table.specs.Unlatch.Control.{UnlatchCalls, unlatch_control, unlatching, unlatch_steered}
 use Rattle.shm_table.specs.Unlink.Control.{unlinking, unlink_steered, UnlinkCalls, unlink_control}
 
 -- its calls, and what they answer

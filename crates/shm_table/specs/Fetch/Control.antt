@@ -13,7 +13,7 @@ use Rattle.shm_table.specs.declared.fetch.{FetchState.FetchState, Fetched.Fetche
 use Rattle.shm_table.specs.declared.{fetch.Fetched.TheVariants.{Missing, Refused, Rooted}, find.Found.Found}
 use Rattle.shm_table.specs.{declared.find.Found.TheVariants.{Absent, At}, Find.Control.word_ask}
 use Rattle.shm_table.specs.Locate.Control.{locating, locate_steered, LocateCalls, locate_control}
-use Rattle.shm_table.specs.Unlatch.{UnlatchCalls, unlatch_control, unlatching, unlatch_steered}
+use Rattle.shm_table.specs.Unlatch.Control.{UnlatchCalls, unlatch_control, unlatching, unlatch_steered}
 
 -- its calls, and what they answer
 abbrev pub FetchCall : Type 0

@@ -11,7 +11,7 @@ use Rattle.shm_table.specs.declared.{find.Found.{Found, TheVariants.{Absent, At}
 use Rattle.shm_table.specs.declared.get.GetPoint.TheVariants.{Search, Value, Number, Missing, Known}
 use Rattle.shm_table.specs.{declared.get.GetState.GetState, Find.Control.word_ask}
 use Rattle.shm_table.specs.Locate.Control.{locating, locate_steered, LocateCalls, locate_control}
-use Rattle.shm_table.specs.Unlatch.{UnlatchCalls, unlatch_control, unlatching, unlatch_steered}
+use Rattle.shm_table.specs.Unlatch.Control.{UnlatchCalls, unlatch_control, unlatching, unlatch_steered}
 
 -- its calls, and what they answer
 abbrev pub GetCall : Type 0

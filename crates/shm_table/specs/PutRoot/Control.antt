@@ -15,7 +15,7 @@ use Rattle.shm_table.specs.Enter.Control.{EnterAnswer, EnterCall, enter_parts, e
 use Rattle.shm_table.specs.Locate.Control.{locating, locate_steered, LocateCalls, locate_control}
 use Rattle.shm_table.specs.OpenTable.Control.{OpenAnswer, OpenCall, open_parts, opening, open_steered}
 use Rattle.shm_table.specs.Replace.Control.{ReplaceAnswer, ReplaceCall, replace_parts, replacing, replace_steered}
-use Rattle.shm_table.specs.Unlatch.{UnlatchCalls, unlatch_control, unlatching, unlatch_steered}
+use Rattle.shm_table.specs.Unlatch.Control.{UnlatchCalls, unlatch_control, unlatching, unlatch_steered}
 use Rattle.shm_table.specs.declared.put_root.PutRootPoint.TheVariants as point
 
 -- ---- its calls

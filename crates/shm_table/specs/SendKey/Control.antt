@@ -14,7 +14,7 @@ use Rattle.shm_table.specs.declared.{find.Found.{Found, TheVariants.{Absent, At}
 use Rattle.shm_table.specs.declared.send_key.SendKeyPoint.TheVariants.{Search, Value, Send, Give}
 use Rattle.shm_table.specs.{declared.send_key.SendKeyState.SendKeyState, Find.Control.word_ask}
 use Rattle.shm_table.specs.Locate.Control.{locating, locate_steered, LocateCalls, locate_control}
-use Rattle.shm_table.specs.Unlatch.{UnlatchCalls, unlatch_control, unlatching, unlatch_steered}
+use Rattle.shm_table.specs.Unlatch.Control.{UnlatchCalls, unlatch_control, unlatching, unlatch_steered}
 
 -- its calls, and what they answer
 abbrev pub SendKeyCall : Type 0

@@ -7,7 +7,8 @@ use Rattle.shm_steps.proofs.Cores.{here_same}
 use Rattle.shm_calls.specs.{CallsPart.{MayCall, calls_part_laws}, Plans.{PlanLaws, PlanStays, Follows}}
 use Rattle.shm_calls.specs.{Tasks.{IsNew, TaskLaws}, Words.word_control}
 use Rattle.shm_count.specs.Roots.{root_word}
-use Rattle.shm_ref.specs.{LatchTasks.may_drop, Lefts.MayDrop, RootOf.{naming_ask, naming_plan, Laws.naming_laws}}
+use Rattle.shm_ref.specs.{Proved.{LatchTasks.may_drop, RootOf.Laws.naming_laws}, Lefts.MayDrop}
+use Rattle.shm_ref.specs.RootOf.{naming_ask, naming_plan}
 use Rattle.t_uses.specs.declared.machine.ComparePoint.{ComparePoint, TheVariants.{First, Second}}
 use Rattle.t_uses.specs.declared.machine.CompareState.{CompareState}
 use Rattle.t_uses.specs.Compare.{CompareKnows, CompareMay, compare_call, compare_plan, root_of, compare_steered}

@@ -1,4 +1,4 @@
-use Rattle.shm_alloc.specs.Turning.{turned_all, turned_first, turned_none}
+use Rattle.shm_alloc.specs.Proved.Turning.{turned_all, turned_first, turned_none}
 use Rattle.shm_alloc.proofs.answers.search_goes_to_each.Goals as goal
 
 pub returns-clause-plain : goal.returns-clause-plain

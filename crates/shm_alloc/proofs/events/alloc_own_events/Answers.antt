@@ -2,8 +2,8 @@ use Rattle.std.proofs.Common.{ap, ◌∙◌}
 use Rattle.shm_graph.specs.{Tells.happens_along, Runs.memos_of}
 use Rattle.shm_count.proofs.CallEvents.{call_tells}
 use Rattle.shm_alloc.specs.{declared.point.AllocPoint.AllocPoint, Alloc.Control.{alloc_control, is_first}}
-use Rattle.shm_alloc.specs.Alloc.{Events.alloc_event, AllocFits, AllocGives, Going.begins, Laws.alloc_laws}
-use Rattle.shm_alloc.specs.Alloc.Tells.{alloc_tells}
+use Rattle.shm_alloc.specs.{Alloc.{Events.alloc_event, AllocFits, AllocGives}, Proved.Alloc.Going.begins}
+use Rattle.shm_alloc.specs.Proved.Alloc.{Laws.alloc_laws, Tells.alloc_tells}
 use Rattle.shm_alloc.proofs.events.alloc_own_events.Goals as goal
 
 pub returns : goal.returns

@@ -1,7 +1,7 @@
 use Rattle.std.proofs.{Common.{◌≡◌, ap, ◌∙◌, arith, List, refl, sym}, lemmas.Bool.{cond-true, cond-false}}
 use Rattle.shm_graph.specs.{declared.{memo.Stored.Stored, spot.Spot.TheVariants.Root}, Views.own_word}
 use Rattle.shm_graph.proofs.Spots.Spotting.{same_spot_self, same_spot_not}
-use Rattle.shm_alloc.specs.Alloc.{goal_of, Steps.ready_word}
+use Rattle.shm_alloc.specs.{Alloc.goal_of, Proved.Alloc.Steps.ready_word}
 use Rattle.shm_alloc.proofs.lasting.alloc_least_root.Goals as goal
 
 pub returns-clause-empty : goal.returns-clause-empty

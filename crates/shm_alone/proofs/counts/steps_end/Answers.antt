@@ -1,4 +1,4 @@
-use Rattle.shm_alone.specs.StepEnds.{down_ends_at}
+use Rattle.shm_alone.specs.Proved.StepEnds.{down_ends_at}
 use Rattle.shm_alone.proofs.counts.steps_end.Goals as goal
 
 pub returns-clause-ends : goal.returns-clause-ends

@@ -1,4 +1,4 @@
-use Rattle.shm_alone.specs.TearEnds.{tear_ends}
+use Rattle.shm_alone.specs.Proved.TearEnds.{tear_ends}
 use Rattle.shm_alone.proofs.counts.tears_end.Goals as goal
 
 pub returns-clause-ends : goal.returns-clause-ends

@@ -1,4 +1,4 @@
-use Rattle.shm_alone.specs.LeaveEnds.{leave_ends, leave_few}
+use Rattle.shm_alone.specs.Proved.LeaveEnds.{leave_ends, leave_few}
 use Rattle.shm_alone.proofs.recovering.leave_ends.Goals as goal
 
 pub returns-clause-ends : goal.returns-clause-ends

@@ -1,4 +1,4 @@
-use Rattle.shm_alone.specs.RecoverEnds.{recover_ends, recover_few}
+use Rattle.shm_alone.specs.Proved.RecoverEnds.{recover_ends, recover_few}
 use Rattle.shm_alone.proofs.recovering.recover_ends.Goals as goal
 
 pub returns-clause-ends : goal.returns-clause-ends

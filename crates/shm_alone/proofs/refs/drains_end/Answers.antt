@@ -1,4 +1,4 @@
-use Rattle.shm_alone.specs.QueuesEnd.{drain_ends}
+use Rattle.shm_alone.specs.Proved.QueuesEnd.{drain_ends}
 use Rattle.shm_alone.proofs.refs.drains_end.Goals as goal
 
 pub returns-clause-ends : goal.returns-clause-ends

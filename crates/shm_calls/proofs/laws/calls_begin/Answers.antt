@@ -1,4 +1,4 @@
-use Rattle.shm_calls.specs.CallsKeep.{calls_begin}
+use Rattle.shm_calls.specs.Proved.CallsKeep.{calls_begin}
 use Rattle.shm_calls.proofs.laws.calls_begin.Goals as goal
 
 pub returns : goal.returns

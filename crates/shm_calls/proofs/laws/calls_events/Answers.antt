@@ -1,4 +1,4 @@
-use Rattle.shm_calls.specs.CallsKeep.{calls_tells}
+use Rattle.shm_calls.specs.Proved.CallsKeep.{calls_tells}
 use Rattle.shm_calls.proofs.laws.calls_events.Goals as goal
 
 pub returns : goal.returns

@@ -1,4 +1,4 @@
-use Rattle.shm_calls.specs.Deciding.{answers_along, shown_along, stays_along}
+use Rattle.shm_calls.specs.Proved.Deciding.{answers_along, shown_along, stays_along}
 use Rattle.shm_calls.proofs.laws.foretold_answers.Goals as goal
 
 pub returns-clause-shown : goal.returns-clause-shown

@@ -1,4 +1,4 @@
-use Rattle.shm_calls.specs.Grown.{grows_on}
+use Rattle.shm_calls.specs.Proved.Grown.{grows_on}
 use Rattle.shm_calls.proofs.laws.step_grows.Goals as goal
 
 pub returns : goal.returns

@@ -6,7 +6,8 @@ use Rattle.shm_graph.specs.{declared.memo.Status.TheVariants.{New, Live, Gone}, 
 use Rattle.shm_graph.specs.{Agents.{entered, is_recoverer, recovers}, Asks.{Trail, call_before}}
 use Rattle.shm_graph.proofs.Memos.MemoSteps.{recovers-entered}
 use Rattle.shm_recover.specs.declared.join.JoinState.{JoinState}
-use Rattle.shm_recover.specs.Join.{JoinFits, JoinGives, is_start, join_control, join_fresh, Keeps.join_begins}
+use Rattle.shm_recover.specs.Join.{JoinFits, JoinGives, is_start, join_control, join_fresh}
+use Rattle.shm_recover.specs.Proved.Join.Keeps.{join_begins}
 use Rattle.shm_plain.specs.{Pools.{memo_of, readied}, Calls.{Did, Ran}, Tracks.kind_next}
 use Rattle.shm_plain.proofs.{Answering.of_done, Calling.ready_status, Turning.ready_memo, Called.{Called, ran_fresh}}
 use Rattle.shm_client.proofs.JoinEvents.{join_tells, none_along, none_of}

@@ -11,7 +11,8 @@ use Rattle.shm_client.specs.Running.{LeavesOpen, MapSo, RunLeaves}
 use Rattle.shm_count.specs.Roots.{member}
 use Rattle.shm_script.specs.declared.log.Answer.{Answer}
 use Rattle.shm_table.specs.Command.{CommandCall, CommandGives, MayStand, command_control, command_does, command_of}
-use Rattle.shm_table.specs.{Command.Operates.{CommandLeaves, CommandMay, command_may}, Staying.Ended}
+use Rattle.shm_table.specs.{Command.Operates.{CommandLeaves, CommandMay}, Proved.Command.Operates.command_may}
+use Rattle.shm_table.specs.Staying.{Ended}
 
 -- ---- the machine
 

@@ -7,14 +7,14 @@ use Rattle.shm_steps.specs.Reparting.{map_in}
 use Rattle.shm_plain.specs.{Pools.{Pool, memo_of}, Calls.{Did, Ran}}
 use Rattle.shm_plain.proofs.Called.{Called}
 use Rattle.shm_calls.specs.{CallsControl.{calls_control, calls_does, calls_of}, CallsFit.{CallsFits, CallsGives}}
-use Rattle.shm_calls.specs.{CallsKeep.{calls_begin, calls_tells}, Plans.PlanLaws}
+use Rattle.shm_calls.specs.{Proved.CallsKeep.{calls_begin, calls_tells}, Plans.PlanLaws}
 use Rattle.shm_count.specs.{declared.answer.EraSpent.EraSpent, Roots.member}
-use Rattle.shm_ref.specs.DropRoots.Laws.{roots_laws}
-use Rattle.shm_recover.specs.{declared.recover.RecoverState.RecoverState, FinishTakes.Laws.finish_laws}
-use Rattle.shm_recover.specs.{GiveUp.Laws.give_laws, Machines.Recovering.RecoverGives, Mend.Laws.mend_laws}
-use Rattle.shm_recover.specs.Recover.Control.{recover_parts, recovering, recover_steered}
-use Rattle.shm_recover.specs.Recover.{Laws.{recover_begin, recover_laws}, RecoverLeaves, recover_plan}
-use Rattle.shm_recover.specs.{Scan.Laws.scan_laws, TakeBack.Laws.back_laws}
+use Rattle.shm_ref.specs.Proved.DropRoots.Laws.{roots_laws}
+use Rattle.shm_recover.specs.{declared.recover.RecoverState.RecoverState, Proved.FinishTakes.Laws.finish_laws}
+use Rattle.shm_recover.specs.Proved.{GiveUp.Laws.give_laws, Mend.Laws.mend_laws}
+use Rattle.shm_recover.specs.Proved.{Recover.Laws.{recover_begin, recover_laws}, Scan.Laws.scan_laws}
+use Rattle.shm_recover.specs.{Proved.TakeBack.Laws.back_laws, Machines.Recovering.RecoverGives}
+use Rattle.shm_recover.specs.Recover.{Control.{recover_parts, recovering, recover_steered}, RecoverLeaves, recover_plan}
 use Rattle.shm_recover.proofs.Steady.{recover_steady}
 use Rattle.shm_client.proofs.Cut.{cut_map, either_way, long}
 use Rattle.shm_client.proofs.Fallen.{fallen_first, fallen_fits, fallen_gave, fallen_ran, fallen_told, may_begin}

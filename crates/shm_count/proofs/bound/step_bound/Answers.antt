@@ -1,4 +1,4 @@
-use Rattle.shm_count.specs.Step.Bound.{step_bound}
+use Rattle.shm_count.specs.Proved.Step.Bound.{step_bound}
 use Rattle.shm_count.proofs.bound.step_bound.Goals as goal
 
 pub returns : goal.returns

@@ -1,4 +1,4 @@
-use Rattle.shm_count.specs.Step.Going.{begins}
+use Rattle.shm_count.specs.Proved.Step.Going.{begins}
 use Rattle.shm_count.proofs.events.step_begins.Goals as goal
 
 pub returns : goal.returns

@@ -1,4 +1,4 @@
-use Rattle.shm_count.specs.Step.Decides.{down_decides, step_decides, up_decides}
+use Rattle.shm_count.specs.Proved.Step.Decides.{down_decides, step_decides, up_decides}
 use Rattle.shm_count.proofs.events.steps_decide.Goals as goal
 
 pub returns-clause-up : goal.returns-clause-up

@@ -2,9 +2,9 @@ use Rattle.std.proofs.Common.{ap, ◌∙◌, sym, subst, List, true}
 use Rattle.shm_graph.specs.{Events.Event, Runs.memos_of, Tells.happens_along}
 use Rattle.shm_count.proofs.CallEvents.{call_tells}
 use Rattle.shm_count.proofs.events.tear_own_events.Goals as goal
-use Rattle.shm_count.specs.{CountParts.tear_part_laws, declared.tear_point.TearState.TearState}
-use Rattle.shm_count.specs.Tear.{Control.{tear_control, is_begin}, Events.tear_event, TearFits, TearGives, TearLeaves}
-use Rattle.shm_count.specs.Tear.{Keeps.tear_laws, Tells.tear_tells}
+use Rattle.shm_count.specs.Proved.{CountParts.tear_part_laws, Tear.{Keeps.tear_laws, Tells.tear_tells}}
+use Rattle.shm_count.specs.{declared.tear_point.TearState.TearState, Tear.Control.{tear_control, is_begin}}
+use Rattle.shm_count.specs.Tear.{Events.tear_event, TearFits, TearGives, TearLeaves}
 
 pub returns : goal.returns
 returns c m a ms b r tr x n call g =

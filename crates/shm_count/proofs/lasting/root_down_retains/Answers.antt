@@ -1,8 +1,8 @@
 use Rattle.std.proofs.Common.{◌≡◌, ℕ, ◌<◌, ◌^◌, subst, arith, Bool}
 use Rattle.std.specs.Prelude.{Ok}
 use Rattle.shm_graph.specs.{declared.{memo.Memo.Memo, spot.Spot.TheVariants.{Era, Root}}, Asks.Trail, Views.own_word}
-use Rattle.shm_count.specs.{declared.point.{Aim.{Aim, TheVariants.Down}, StepState.StepState}, Retaining.slot_known}
-use Rattle.shm_count.specs.{Roots.RootLowered, Step.{Done, StepGives}}
+use Rattle.shm_count.specs.declared.point.{Aim.{Aim, TheVariants.Down}, StepState.StepState}
+use Rattle.shm_count.specs.{Proved.Retaining.slot_known, Roots.RootLowered, Step.{Done, StepGives}}
 use Rattle.shm_count.proofs.RootLeaves.{root_leaves}
 use Rattle.shm_count.proofs.lasting.root_down_retains.Goals as goal
 

@@ -1,6 +1,6 @@
 use Rattle.std.proofs.{Common.{ap, ◌∙◌}, lemmas.Bool.cond-false}
 use Rattle.shm_graph.specs.declared.memo.Memo.{Memo}
-use Rattle.shm_count.specs.Step.{Parts.lasting_not, Refusing.step_reads}
+use Rattle.shm_count.specs.Proved.Step.{Parts.lasting_not, Refusing.step_reads}
 use Rattle.shm_count.proofs.lasting.step_refusals.Goals as goal
 
 pub returns-clause-spent : goal.returns-clause-spent

@@ -1,5 +1,5 @@
-use Rattle.shm_calls.specs.Grown.{grown_laws}
-use Rattle.shm_count.specs.{MadeSteps.{tear_making, tear_making_laws}, Tear.Control.tear_control}
+use Rattle.shm_calls.specs.Proved.Grown.{grown_laws}
+use Rattle.shm_count.specs.{MadeSteps.tear_making, Proved.MadeSteps.tear_making_laws, Tear.Control.tear_control}
 use Rattle.shm_count.proofs.lasting.tear_in_call.Goals as goal
 
 pub returns : goal.returns

@@ -2,8 +2,8 @@ use Rattle.std.proofs.Common.{◌≡◌, ℕ, refl, ap, List, Result}
 use Rattle.std.specs.{Prelude.{Ok, Err, IfOk, slice_index}, List.filter}
 use Rattle.shm_graph.specs.{declared.{ask.Me.Me, memo.Memo.Memo, spot.Spot.TheVariants.Root}, Asks.Trail, Events.Event}
 use Rattle.shm_graph.specs.{Held.is_loose, MemoAfterStore.not_block}
-use Rattle.shm_count.specs.{declared.answer.EraSpent.EraSpent, Idles.stays_idle, Operating.{TearDownLeaves, tearing}}
-use Rattle.shm_count.specs.Tear.Memos.{TearStays}
+use Rattle.shm_count.specs.{declared.answer.EraSpent.EraSpent, Proved.Idles.stays_idle}
+use Rattle.shm_count.specs.{Operating.{TearDownLeaves, tearing}, Tear.Memos.TearStays}
 use Rattle.shm_count.proofs.RootSpots.{roots_reached}
 use Rattle.shm_count.proofs.lasting.tear_keeps.Goals as goal
 

@@ -1,4 +1,4 @@
-use Rattle.shm_count.specs.Tear.Laws.{tear_retains}
+use Rattle.shm_count.specs.Proved.Tear.Laws.{tear_retains}
 use Rattle.shm_count.proofs.lasting.tear_lasts.Goals as goal
 
 pub returns : goal.returns

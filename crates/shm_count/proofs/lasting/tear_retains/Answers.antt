@@ -1,7 +1,8 @@
 use Rattle.std.specs.Prelude.{Result, Ok, Err}
 use Rattle.shm_graph.specs.{declared.memo.Memo.Memo, Asks.Trail}
 use Rattle.shm_count.specs.declared.{answer.EraSpent.EraSpent, tear_point.TearState.TearState}
-use Rattle.shm_count.specs.{Retaining.{named_stays, slot_known}, Tear.{TearGives, Laws.tear_retains, Memos.TearStays}}
+use Rattle.shm_count.specs.{Proved.{Retaining.{named_stays, slot_known}, Tear.Laws.tear_retains}, Tear.TearGives}
+use Rattle.shm_count.specs.Tear.Memos.{TearStays}
 use Rattle.shm_count.proofs.lasting.tear_retains.Goals as goal
 
 stays : (m : TearState) (r0 r : Memo) (tr : Trail) (a : Result (Unit {0}) EraSpent) → TearGives m r0 r tr a → TearStays m.me.who r0 r

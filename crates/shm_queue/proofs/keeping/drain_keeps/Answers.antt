@@ -2,7 +2,7 @@ use Rattle.std.proofs.Common.{refl, ◌∙◌, inl, inr}
 use Rattle.std.specs.Prelude.{Ok, Err}
 use Rattle.shm_graph.specs.declared.spot.Spot.TheVariants.{Root}
 use Rattle.shm_count.proofs.RootSpots.{roots_reached}
-use Rattle.shm_queue.specs.{QueueTasks.drain_rests, Drain.Control.draining}
+use Rattle.shm_queue.specs.{Proved.QueueTasks.drain_rests, Drain.Control.draining}
 use Rattle.shm_queue.proofs.Queues.{drain_queues}
 use Rattle.shm_queue.proofs.keeping.drain_keeps.Goals as goal
 

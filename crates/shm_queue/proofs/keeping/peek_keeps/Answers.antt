@@ -7,7 +7,7 @@ use Rattle.shm_graph.proofs.Spots.Spotting.{same_spot_self}
 use Rattle.shm_count.specs.Tear.Memos.{Knows}
 use Rattle.shm_count.proofs.RootSpots.{roots_reached}
 use Rattle.shm_queue.specs.declared.answer.PeekFault.TheVariants.{CountFull, Empty, EraSpent, RootsFull}
-use Rattle.shm_queue.specs.{QueueTasks.peek_rests, Peek.Control.peeking}
+use Rattle.shm_queue.specs.{Proved.QueueTasks.peek_rests, Peek.Control.peeking}
 use Rattle.shm_queue.proofs.Queues.{other_root, peek_queues}
 use Rattle.shm_queue.proofs.keeping.peek_keeps.Goals as goal
 

@@ -3,7 +3,7 @@ use Rattle.std.specs.Prelude.{Ok, Err}
 use Rattle.shm_graph.specs.{declared.{memo.Memo.Memo, spot.Spot.TheVariants.Root}, MemoAfterStore.lane_with}
 use Rattle.shm_graph.proofs.Spots.Spotting.{same_spot_self}
 use Rattle.shm_count.proofs.RootSpots.{roots_reached}
-use Rattle.shm_queue.specs.{QueueTasks.receive_rests, Receive.Control.receiving}
+use Rattle.shm_queue.specs.{Proved.QueueTasks.receive_rests, Receive.Control.receiving}
 use Rattle.shm_queue.proofs.Queues.{other_root, receive_queues}
 use Rattle.shm_queue.proofs.keeping.receive_keeps.Goals as goal
 

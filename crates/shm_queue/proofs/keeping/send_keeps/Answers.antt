@@ -3,7 +3,7 @@ use Rattle.std.specs.Prelude.{Ok, Err}
 use Rattle.shm_graph.specs.{declared.{memo.Memo.Memo, spot.Spot.TheVariants.Root}, Views.own_word}
 use Rattle.shm_count.proofs.RootSpots.{roots_reached}
 use Rattle.shm_queue.specs.declared.answer.SendFault.TheVariants.{CountFull, EraSpent, QueueFull}
-use Rattle.shm_queue.specs.{QueueTasks.send_rests, Send.Control.sending}
+use Rattle.shm_queue.specs.{Proved.QueueTasks.send_rests, Send.Control.sending}
 use Rattle.shm_queue.proofs.Queues.{send_queues}
 use Rattle.shm_queue.proofs.keeping.send_keeps.Goals as goal
 

@@ -2,7 +2,7 @@ use Rattle.std.proofs.Common.{ℕ, ◌+◌, refl, ap, ◌∙◌, inl, inr}
 use Rattle.std.specs.Prelude.{Ok, Err}
 use Rattle.shm_graph.specs.{declared.{memo.Memo.Memo, spot.Spot.TheVariants.Root}, Views.own_word}
 use Rattle.shm_count.proofs.RootSpots.{roots_reached}
-use Rattle.shm_queue.specs.{declared.answer.TakeFault.TheVariants.{Empty, EraSpent}, QueueTasks.take_rests}
+use Rattle.shm_queue.specs.{declared.answer.TakeFault.TheVariants.{Empty, EraSpent}, Proved.QueueTasks.take_rests}
 use Rattle.shm_queue.specs.Take.Control.{taking}
 use Rattle.shm_queue.proofs.Queues.{take_queues}
 use Rattle.shm_queue.proofs.keeping.take_keeps.Goals as goal

@@ -1,5 +1,5 @@
-use Rattle.shm_calls.specs.CallsKeep.{calls_tells}
-use Rattle.shm_recover.specs.Mend.{Control.mend_parts, mend_plan, Laws.mend_laws}
+use Rattle.shm_calls.specs.Proved.CallsKeep.{calls_tells}
+use Rattle.shm_recover.specs.{Mend.{Control.mend_parts, mend_plan}, Proved.Mend.Laws.mend_laws}
 use Rattle.shm_recover.proofs.mend.mend_events.Goals as goal
 
 pub returns : goal.returns

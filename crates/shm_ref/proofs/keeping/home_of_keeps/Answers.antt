@@ -1,4 +1,4 @@
-use Rattle.shm_ref.specs.{HomeOf.finding, OnlyRead.home_reads}
+use Rattle.shm_ref.specs.{HomeOf.finding, Proved.OnlyRead.home_reads}
 use Rattle.shm_ref.proofs.ReadKeeps.{home_of_loose, home_of_other, home_of_reached, home_of_stays}
 use Rattle.shm_ref.proofs.keeping.home_of_keeps.Goals as goal
 

@@ -1,4 +1,4 @@
-use Rattle.shm_ref.specs.{Look.looking, OnlyRead.look_reads}
+use Rattle.shm_ref.specs.{Look.looking, Proved.OnlyRead.look_reads}
 use Rattle.shm_ref.proofs.ReadKeeps.{look_loose, look_reached, look_stays}
 use Rattle.shm_ref.proofs.keeping.look_keeps.Goals as goal
 

@@ -1,4 +1,4 @@
-use Rattle.shm_ref.specs.{OnlyRead.read_reads, Read.reading}
+use Rattle.shm_ref.specs.{Proved.OnlyRead.read_reads, Read.reading}
 use Rattle.shm_ref.proofs.ReadKeeps.{read_loose, read_stays}
 use Rattle.shm_ref.proofs.keeping.read_keeps.Goals as goal
 

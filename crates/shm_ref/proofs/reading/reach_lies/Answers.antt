@@ -1,4 +1,4 @@
-use Rattle.shm_ref.specs.ReadParts.{reached_room}
+use Rattle.shm_ref.specs.Proved.ReadParts.{reached_room}
 use Rattle.shm_ref.proofs.reading.reach_lies.Goals as goal
 
 pub returns : goal.returns

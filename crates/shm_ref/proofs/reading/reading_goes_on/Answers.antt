@@ -1,4 +1,4 @@
-use Rattle.shm_ref.specs.OnlyRead.{still_asks, still_drops, still_reached}
+use Rattle.shm_ref.specs.Proved.OnlyRead.{still_asks, still_drops, still_reached}
 use Rattle.shm_ref.proofs.reading.reading_goes_on.Goals as goal
 
 pub returns-clause-asks : goal.returns-clause-asks

@@ -1,4 +1,5 @@
-use Rattle.shm_ref.specs.{HomeOf.finding, Look.looking, OnlyRead.{home_reads, look_reads, read_reads}, Read.reading}
+use Rattle.shm_ref.specs.{HomeOf.finding, Look.looking, Proved.OnlyRead.{home_reads, look_reads, read_reads}}
+use Rattle.shm_ref.specs.Read.{reading}
 use Rattle.shm_ref.proofs.reading.reads_only.Goals as goal
 
 pub returns-clause-home : goal.returns-clause-home

@@ -1,6 +1,6 @@
 use Rattle.std.proofs.{Common.sym, lemmas.Bool.ne_eqb}
 use Rattle.std.specs.Prelude.{◌==◌}
-use Rattle.shm_ref.specs.Leaving.{left_root}
+use Rattle.shm_ref.specs.Proved.Leaving.{left_root}
 use Rattle.shm_ref.proofs.RefusedDrops.{spent_emptied, spent_kept, spent_some}
 use Rattle.shm_ref.proofs.refusals.drop_root_refusals.Goals as goal
 

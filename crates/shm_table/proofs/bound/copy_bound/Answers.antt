@@ -1,4 +1,4 @@
-use Rattle.shm_table.specs.CopyKey.Bound.{copy_short, copy_within}
+use Rattle.shm_table.specs.Proved.CopyKey.Bound.{copy_short, copy_within}
 use Rattle.shm_table.proofs.bound.copy_bound.Goals as goal
 
 pub returns-clause-own : goal.returns-clause-own

@@ -1,4 +1,4 @@
-use Rattle.shm_table.specs.Del.Bound.{del_short, del_within}
+use Rattle.shm_table.specs.Proved.Del.Bound.{del_short, del_within}
 use Rattle.shm_table.proofs.bound.del_bound.Goals as goal
 
 pub returns-clause-own : goal.returns-clause-own

@@ -1,4 +1,4 @@
-use Rattle.shm_table.specs.Find.Bound.{find_within}
+use Rattle.shm_table.specs.Proved.Find.Bound.{find_within}
 use Rattle.shm_table.proofs.bound.find_bound.Goals as goal
 
 pub returns : goal.returns

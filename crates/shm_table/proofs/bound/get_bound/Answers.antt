@@ -1,6 +1,6 @@
 use Rattle.std.proofs.Common.{arith}
 use Rattle.shm_script.specs.declared.log.Answer.TheVariants as answer
-use Rattle.shm_table.specs.Get.Bound.{found_within, missing_within}
+use Rattle.shm_table.specs.Proved.Get.Bound.{found_within, missing_within}
 use Rattle.shm_table.proofs.bound.get_bound.Goals as goal
 
 pub returns-clause-missing : goal.returns-clause-missing

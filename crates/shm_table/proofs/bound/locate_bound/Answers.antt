@@ -1,4 +1,4 @@
-use Rattle.shm_table.specs.Get.Bound.{locate_within}
+use Rattle.shm_table.specs.Proved.Get.Bound.{locate_within}
 use Rattle.shm_table.proofs.bound.locate_bound.Goals as goal
 
 pub returns : goal.returns

@@ -1,4 +1,4 @@
-use Rattle.shm_table.specs.Put.Bound.{put_short, put_within}
+use Rattle.shm_table.specs.Proved.Put.Bound.{put_short, put_within}
 use Rattle.shm_table.proofs.bound.put_bound.Goals as goal
 
 pub returns-clause-own : goal.returns-clause-own

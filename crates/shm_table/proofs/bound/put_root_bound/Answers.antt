@@ -1,4 +1,4 @@
-use Rattle.shm_table.specs.PutRoot.Bound.{put_root_short, put_root_within}
+use Rattle.shm_table.specs.Proved.PutRoot.Bound.{put_root_short, put_root_within}
 use Rattle.shm_table.proofs.bound.put_root_bound.Goals as goal
 
 pub returns-clause-own : goal.returns-clause-own

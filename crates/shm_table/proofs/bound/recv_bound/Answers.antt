@@ -1,4 +1,4 @@
-use Rattle.shm_table.specs.RecvKey.Bound.{recv_short, recv_within}
+use Rattle.shm_table.specs.Proved.RecvKey.Bound.{recv_short, recv_within}
 use Rattle.shm_table.proofs.bound.recv_bound.Goals as goal
 
 pub returns-clause-own : goal.returns-clause-own

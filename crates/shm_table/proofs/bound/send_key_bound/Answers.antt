@@ -1,4 +1,4 @@
-use Rattle.shm_table.specs.SendKey.Bound.{send_key_short, send_key_within}
+use Rattle.shm_table.specs.Proved.SendKey.Bound.{send_key_short, send_key_within}
 use Rattle.shm_table.proofs.bound.send_key_bound.Goals as goal
 
 pub returns-clause-own : goal.returns-clause-own

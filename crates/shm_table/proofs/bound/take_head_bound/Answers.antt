@@ -1,4 +1,4 @@
-use Rattle.shm_table.specs.RecvKey.Bound.{take_head_short}
+use Rattle.shm_table.specs.Proved.RecvKey.Bound.{take_head_short}
 use Rattle.shm_table.proofs.bound.take_head_bound.Goals as goal
 
 pub returns-clause-within : goal.returns-clause-within

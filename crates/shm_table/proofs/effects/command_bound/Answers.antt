@@ -1,5 +1,5 @@
 use Rattle.std.proofs.Common.{arith}
-use Rattle.shm_table.specs.Command.Bound.{command_short}
+use Rattle.shm_table.specs.Proved.Command.Bound.{command_short}
 use Rattle.shm_table.proofs.effects.command_bound.Goals as goal
 
 pub returns-clause-within : goal.returns-clause-within

@@ -1,10 +1,10 @@
 use Rattle.std.proofs.Common.{refl}
 use Rattle.shm_script.specs.declared.line.Line.TheVariants as line
-use Rattle.shm_table.specs.{Command.Laws.command_laws, CopyKey.Laws.copy_laws, Del.Laws.del_laws, Enter.Laws.enter_laws}
-use Rattle.shm_table.specs.{FetchHead.Laws.fetch_head_laws, Fetch.Laws.fetch_laws, Get.Laws.get_laws}
-use Rattle.shm_table.specs.{Locate.Laws.locate_laws, OpenTable.Laws.open_laws, Put.Laws.put_laws}
-use Rattle.shm_table.specs.{PutRoot.Laws.put_root_laws, RecvKey.Laws.recv_laws, Replace.Laws.replace_laws}
-use Rattle.shm_table.specs.{SendKey.Laws.send_key_laws, TakeHead.Laws.take_head_laws}
+use Rattle.shm_table.specs.Proved.{Command.Laws.command_laws, CopyKey.Laws.copy_laws, Del.Laws.del_laws}
+use Rattle.shm_table.specs.Proved.{Enter.Laws.enter_laws, FetchHead.Laws.fetch_head_laws, Fetch.Laws.fetch_laws}
+use Rattle.shm_table.specs.Proved.{Get.Laws.get_laws, Locate.Laws.locate_laws, OpenTable.Laws.open_laws}
+use Rattle.shm_table.specs.Proved.{Put.Laws.put_laws, PutRoot.Laws.put_root_laws, RecvKey.Laws.recv_laws}
+use Rattle.shm_table.specs.Proved.{Replace.Laws.replace_laws, SendKey.Laws.send_key_laws, TakeHead.Laws.take_head_laws}
 use Rattle.shm_table.proofs.effects.command_lines.Goals as goal
 
 pub returns-clause-begun : goal.returns-clause-begun

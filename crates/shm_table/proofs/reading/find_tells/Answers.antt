@@ -1,4 +1,4 @@
-use Rattle.shm_table.specs.Find.Tells.{absent_tells, found_tells, has_read}
+use Rattle.shm_table.specs.Proved.Find.Tells.{absent_tells, found_tells, has_read}
 use Rattle.shm_table.proofs.reading.find_tells.Goals as goal
 
 pub returns-clause-absent : goal.returns-clause-absent

@@ -1,4 +1,4 @@
-use Rattle.shm_table.specs.Get.Tells.{named_maps, ready_maps, ready_told}
+use Rattle.shm_table.specs.Proved.Get.Tells.{named_maps, ready_maps, ready_told}
 use Rattle.shm_table.proofs.reading.get_tells.Goals as goal
 
 pub returns-clause-missing : goal.returns-clause-missing

@@ -1,4 +1,4 @@
-use Rattle.shm_table.specs.Get.Tells.{located_absent, located_found, located_read}
+use Rattle.shm_table.specs.Proved.Get.Tells.{located_absent, located_found, located_read}
 use Rattle.shm_table.proofs.reading.locate_tells.Goals as goal
 
 pub returns-clause-absent : goal.returns-clause-absent

@@ -1,4 +1,4 @@
-use Rattle.shm_table.specs.Find.Tells.{author_has, author_maps, author_names, read_kept}
+use Rattle.shm_table.specs.Proved.Find.Tells.{author_has, author_maps, author_names, read_kept}
 use Rattle.shm_table.proofs.reading.read_tells.Goals as goal
 
 pub returns : goal.returns

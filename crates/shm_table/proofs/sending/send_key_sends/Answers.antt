@@ -1,4 +1,4 @@
-use Rattle.shm_table.specs.SendKey.Steps.{sent_joins}
+use Rattle.shm_table.specs.Proved.SendKey.Steps.{sent_joins}
 use Rattle.shm_table.proofs.sending.send_key_sends.Goals as goal
 
 pub returns : goal.returns

@@ -1,4 +1,4 @@
-use Rattle.shm_table.specs.Staying.Laws.{keeps_more, keeps_self}
+use Rattle.shm_table.specs.Proved.Staying.Laws.{keeps_more, keeps_self}
 use Rattle.shm_table.proofs.staying.keeps_on.Goals as goal
 
 pub returns-clause-none : goal.returns-clause-none

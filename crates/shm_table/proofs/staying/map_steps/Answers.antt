@@ -1,4 +1,4 @@
-use Rattle.shm_table.specs.Staying.Steps.{map_home, map_word}
+use Rattle.shm_table.specs.Proved.Staying.Steps.{map_home, map_word}
 use Rattle.shm_table.proofs.staying.map_steps.Goals as goal
 
 pub returns-clause-word : goal.returns-clause-word

@@ -6,7 +6,7 @@ use Rattle.shm_calls.specs.CallsControl.{calls_control, calls_of, calls_does}
 use Rattle.shm_plain.specs.{Calls.{Ran, Took}, Pools.{Pool, memo_of}}
 use Rattle.shm_count.specs.{Roots.{member, root_word}, Tear.Events.frees}
 use Rattle.shm_ref.specs.{declared.drop_root.DropState.DropState, DropRoot.Control.{drop_parts, dropping, drop_steered}}
-use Rattle.shm_ref.specs.{DropRoot.{DropLeaves, drop_plan}, RootTasks.DropMay}
+use Rattle.shm_ref.specs.{DropRoot.{DropLeaves, drop_plan}, Proved.RootTasks.DropMay}
 use Rattle.shm_ref.proofs.RefusedDrops.{spent_some}
 use Rattle.shm_client.proofs.Running.{plan_may}
 use Rattle.shm_tree.specs.{Keeping.IsStill, Working.{IsSameLatch, IsSpent, IsWorking, Reaches}, Falling.AreFalling}

@@ -4,7 +4,7 @@ use Rattle.shm_graph.specs.{declared.ask.Me.Me, Reach.is_reached}
 use Rattle.shm_plain.specs.{Pools.memo_of, Calls.Ran}
 use Rattle.shm_calls.specs.{Words.word_control, CallsControl.{calls_control, calls_does, calls_of}}
 use Rattle.shm_count.specs.Roots.{member}
-use Rattle.shm_ref.specs.{LatchTasks.ReadMay, Read.{read_plan, reading, read_steered}}
+use Rattle.shm_ref.specs.{Proved.LatchTasks.ReadMay, Read.{read_plan, reading, read_steered}}
 use Rattle.shm_client.proofs.{Reaching.reached_small, Running.plan_may}
 use Rattle.shm_tree.proofs.{Alive.went_alive, Answering.plan_answered, Counts.taken_by}
 use Rattle.shm_tree.proofs.Findings.{plain_is, plain_refused, plain_still, read_only, read_reaches, read_works}

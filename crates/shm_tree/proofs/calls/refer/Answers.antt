@@ -6,7 +6,7 @@ use Rattle.shm_graph.specs.{declared.ask.Me.Me, Asks.IsWithin, Reach.is_reached,
 use Rattle.shm_calls.specs.CallsControl.{calls_control, calls_of, calls_does}
 use Rattle.shm_plain.specs.{Calls.{IsAtWork, Ran, Took, Did}, Pools.{Pool, memo_of}}
 use Rattle.shm_count.specs.Roots.{member}
-use Rattle.shm_ref.specs.{declared.{answer.SetFault.SetFault, set_ref.SetState.SetState}, RootTasks.SetMay}
+use Rattle.shm_ref.specs.{declared.{answer.SetFault.SetFault, set_ref.SetState.SetState}, Proved.RootTasks.SetMay}
 use Rattle.shm_ref.specs.SetRef.{Control.{set_parts, setting, set_steered}, set_plan}
 use Rattle.shm_ref.specs.declared.answer.SetFault.TheVariants as fault
 use Rattle.shm_client.proofs.{Reaching.{reached_small, reached_whole}, Running.{MachineLeft, plan_may}}

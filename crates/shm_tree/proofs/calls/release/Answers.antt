@@ -2,7 +2,7 @@ use Rattle.std.proofs.Common.{refl, true, Bool, false}
 use Rattle.shm_plain.specs.{Pools.memo_of, Calls.Ran}
 use Rattle.shm_calls.specs.{Words.word_control, CallsControl.{calls_control, calls_does, calls_of}}
 use Rattle.shm_count.specs.Roots.{member}
-use Rattle.shm_ref.specs.{LatchTasks.ReleaseMay, Release.{release_plan, releasing, release_steered}}
+use Rattle.shm_ref.specs.{Proved.LatchTasks.ReleaseMay, Release.{release_plan, releasing, release_steered}}
 use Rattle.shm_client.proofs.Running.{plan_may}
 use Rattle.shm_tree.proofs.{Alive.{went_alive, went_dead}, Answering.plan_answered, Counts.taken_by}
 use Rattle.shm_tree.proofs.{Latches.{released_still, released_works}, Anytime.always_falls, CutOffs.cut_ran}

@@ -4,7 +4,7 @@ use Rattle.shm_graph.specs.declared.ask.Me.{Me}
 use Rattle.shm_calls.specs.CallsControl.{calls_control, calls_of, calls_does}
 use Rattle.shm_plain.specs.{Calls.{Took, Ran, IsAtWork}, Pools.memo_of}
 use Rattle.shm_count.specs.{declared.{up_root.RootingState.RootingState, answer.ShareFault.ShareFault}, Roots.member}
-use Rattle.shm_count.specs.{ShareTask.ShareMay, UpRoot.Control.{rooting, rooting_parts, rooting_steered}}
+use Rattle.shm_count.specs.{Proved.ShareTask.ShareMay, UpRoot.Control.{rooting, rooting_parts, rooting_steered}}
 use Rattle.shm_count.specs.UpRoot.{rooting_plan}
 use Rattle.shm_count.specs.declared.answer.ShareFault.TheVariants as fault
 use Rattle.shm_client.proofs.{Reaching.reached_small, Running.{plan_may, MachineLeft}}

@@ -2,7 +2,7 @@ use Rattle.std.proofs.Common.{refl}
 use Rattle.shm_graph.specs.declared.ask.Me.{Me}
 use Rattle.shm_plain.specs.Pools.{memo_of}
 use Rattle.shm_count.specs.Roots.{member}
-use Rattle.shm_ref.specs.{DropRoot.{Control.{drop_parts, dropping}, drop_plan}, RootTasks.DropMay}
+use Rattle.shm_ref.specs.{DropRoot.{Control.{drop_parts, dropping}, drop_plan}, Proved.RootTasks.DropMay}
 use Rattle.t_calls.proofs.{Plans.{has_left, may_begin}, Answered.settles}
 use Rattle.t_calls.proofs.counting.drop_root.Goals as goal
 

@@ -1,7 +1,7 @@
 use Rattle.std.proofs.Common.{refl}
 use Rattle.shm_plain.specs.Pools.{memo_of}
 use Rattle.shm_count.specs.Roots.{member}
-use Rattle.shm_recover.specs.{Leave.{Control.leaving, leave_plan}, LeaveTask.LeaveMay}
+use Rattle.shm_recover.specs.{Leave.{Control.leaving, leave_plan}, Proved.LeaveTask.LeaveMay}
 use Rattle.t_calls.proofs.{Plans.may_begin, Knowing.after_ran}
 use Rattle.t_calls.proofs.counting.leave.Goals as goal
 

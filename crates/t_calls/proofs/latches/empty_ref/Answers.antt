@@ -3,7 +3,7 @@ use Rattle.shm_words.specs.Layout.{total_of}
 use Rattle.shm_graph.specs.declared.ask.Me.{Me}
 use Rattle.shm_plain.specs.Pools.{memo_of}
 use Rattle.shm_count.specs.Roots.{member}
-use Rattle.shm_ref.specs.{SetRef.{Control.{set_parts, setting}, set_plan}, RootTasks.SetMay}
+use Rattle.shm_ref.specs.{SetRef.{Control.{set_parts, setting}, set_plan}, Proved.RootTasks.SetMay}
 use Rattle.t_calls.proofs.{Plans.{has_left, may_begin}, Answered.settles}
 use Rattle.t_calls.proofs.latches.empty_ref.Goals as goal
 use Rattle.shm_client.proofs.Reaching.{reached_whole}

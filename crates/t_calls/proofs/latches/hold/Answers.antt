@@ -4,7 +4,7 @@ use Rattle.shm_graph.specs.declared.ask.Me.{Me}
 use Rattle.shm_plain.specs.Pools.{memo_of}
 use Rattle.shm_calls.specs.Words.{word_control}
 use Rattle.shm_count.specs.Roots.{member}
-use Rattle.shm_ref.specs.{Hold.{Control.holding, hold_plan}, LatchTasks.HoldMay}
+use Rattle.shm_ref.specs.{Hold.{Control.holding, hold_plan}, Proved.LatchTasks.HoldMay}
 use Rattle.t_calls.proofs.{Plans.{has_left, may_begin}, Answered.holds}
 use Rattle.t_calls.proofs.latches.hold.Goals as goal
 

@@ -4,7 +4,7 @@ use Rattle.shm_graph.specs.declared.ask.Me.{Me}
 use Rattle.shm_plain.specs.Pools.{memo_of}
 use Rattle.shm_calls.specs.Words.{word_control}
 use Rattle.shm_count.specs.Roots.{member}
-use Rattle.shm_ref.specs.{HomeOf.{finding, home_of_plan}, LatchTasks.HomeOfMay}
+use Rattle.shm_ref.specs.{HomeOf.{finding, home_of_plan}, Proved.LatchTasks.HomeOfMay}
 use Rattle.t_calls.proofs.{Plans.{has_left, may_begin}, Answered.finds}
 use Rattle.t_calls.proofs.latches.home_of.Goals as goal
 

@@ -3,7 +3,7 @@ use Rattle.shm_graph.specs.declared.ask.Me.{Me}
 use Rattle.shm_plain.specs.Pools.{memo_of}
 use Rattle.shm_calls.specs.Words.{word_control}
 use Rattle.shm_count.specs.Roots.{member}
-use Rattle.shm_ref.specs.{Read.{read_plan, reading}, LatchTasks.ReadMay}
+use Rattle.shm_ref.specs.{Read.{read_plan, reading}, Proved.LatchTasks.ReadMay}
 use Rattle.t_calls.proofs.{Plans.{has_left, may_begin}, Answered.sees}
 use Rattle.t_calls.proofs.latches.read.Goals as goal
 use Rattle.t_calls.specs.Known.{told}

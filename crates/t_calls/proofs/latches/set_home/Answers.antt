@@ -2,7 +2,7 @@ use Rattle.std.proofs.Common.{refl, ap, ◌∙◌, inl}
 use Rattle.shm_graph.specs.declared.ask.Me.{Me}
 use Rattle.shm_plain.specs.Pools.{memo_of}
 use Rattle.shm_count.specs.Roots.{member}
-use Rattle.shm_ref.specs.{SetHome.{home_parts, home_plan, homing}, RootTasks.HomeMay}
+use Rattle.shm_ref.specs.{SetHome.{home_parts, home_plan, homing}, Proved.RootTasks.HomeMay}
 use Rattle.t_calls.proofs.{Plans.{has_left, may_begin}, Answered.unsettles}
 use Rattle.t_calls.proofs.latches.set_home.Goals as goal
 use Rattle.t_calls.specs.Known.{told}

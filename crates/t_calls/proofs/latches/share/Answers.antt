@@ -1,7 +1,8 @@
 use Rattle.std.proofs.Common.{refl, ap, ◌∙◌}
 use Rattle.shm_graph.specs.declared.ask.Me.{Me}
 use Rattle.shm_plain.specs.Pools.{memo_of}
-use Rattle.shm_count.specs.{Roots.member, ShareTask.ShareMay, UpRoot.{Control.{rooting, rooting_parts}, rooting_plan}}
+use Rattle.shm_count.specs.{Roots.member, Proved.ShareTask.ShareMay, UpRoot.Control.{rooting, rooting_parts}}
+use Rattle.shm_count.specs.UpRoot.{rooting_plan}
 use Rattle.t_calls.proofs.{Plans.{has_left, may_begin}, Answered.keeps}
 use Rattle.t_calls.proofs.latches.share.Goals as goal
 use Rattle.t_calls.specs.Known.{told}

@@ -3,7 +3,7 @@ use Rattle.shm_words.specs.declared.geometry.Geometry.{Geometry}
 use Rattle.shm_graph.specs.declared.ask.Me.{Me}
 use Rattle.shm_plain.specs.Pools.{memo_of}
 use Rattle.shm_count.specs.Roots.{member}
-use Rattle.shm_queue.specs.{QueueTasks.SendMay, Send.{Control.{send_parts, sending}, send_plan}}
+use Rattle.shm_queue.specs.{Proved.QueueTasks.SendMay, Send.{Control.{send_parts, sending}, send_plan}}
 use Rattle.t_calls.proofs.{Plans.{has_left, may_begin}, Answered.keeps}
 use Rattle.t_calls.proofs.queues.send.Goals as goal
 use Rattle.t_calls.specs.Known.{told}

@@ -1,7 +1,7 @@
 use Rattle.std.proofs.Common.{refl}
 use Rattle.shm_plain.specs.Pools.{memo_of}
 use Rattle.shm_count.specs.Roots.{member}
-use Rattle.shm_queue.specs.{Drain.{Control.{drain_parts, draining}, drain_plan}, QueueTasks.DrainMay}
+use Rattle.shm_queue.specs.{Drain.{Control.{drain_parts, draining}, drain_plan}, Proved.QueueTasks.DrainMay}
 use Rattle.t_calls.proofs.{Plans.{has_left, may_begin}, Answered.drains}
 use Rattle.t_calls.proofs.tables.drain.Goals as goal
 use Rattle.shm_client.proofs.Opens.{open_other}

@@ -1,7 +1,7 @@
 use Rattle.std.proofs.Common.{refl}
 use Rattle.shm_graph.specs.declared.ask.Me.{Me}
 use Rattle.shm_plain.specs.Pools.{memo_of}
-use Rattle.shm_count.specs.{Roots.member, ShareTask.ShareMay, UpRoot.{Control.rooting, rooting_plan}}
+use Rattle.shm_count.specs.{Roots.member, Proved.ShareTask.ShareMay, UpRoot.{Control.rooting, rooting_plan}}
 use Rattle.shm_client.proofs.{Reaching.reached_small, Running.plan_may}
 use Rattle.t_uses.proofs.machine.share.Goals as goal
 

@@ -6,7 +6,7 @@ use Rattle.shm_plain.specs.Pools.{memo_of}
 use Rattle.shm_plain.proofs.Calling.{still_kind}
 use Rattle.shm_count.specs.{Roots.member, Tear.Memos.Knows}
 use Rattle.shm_count.proofs.RootSpots.{roots_reached}
-use Rattle.shm_ref.specs.{RootTasks.HomeMay, SetHome.{home_parts, home_plan, homing}}
+use Rattle.shm_ref.specs.{Proved.RootTasks.HomeMay, SetHome.{home_parts, home_plan, homing}}
 use Rattle.shm_client.proofs.{Reaching.{home_unread, reached_small}, Running.{plan_done, plan_may}}
 use Rattle.t_uses.proofs.{Done.renamed, Frees.free_again, Names.{known_word, own_here}, Pairs.home_rests}
 use Rattle.t_uses.proofs.memory.set_home.Goals.{After-me}

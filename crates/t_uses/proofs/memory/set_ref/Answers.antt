@@ -5,7 +5,7 @@ use Rattle.shm_plain.specs.Pools.{memo_of}
 use Rattle.shm_plain.proofs.Calling.{still_kind}
 use Rattle.shm_count.specs.Roots.{member, root_word}
 use Rattle.shm_count.proofs.RootSpots.{roots_reached}
-use Rattle.shm_ref.specs.{RootTasks.SetMay, SetRef.{Control.{set_parts, setting}, set_plan}}
+use Rattle.shm_ref.specs.{Proved.RootTasks.SetMay, SetRef.{Control.{set_parts, setting}, set_plan}}
 use Rattle.shm_client.proofs.{Reaching.{reached_small, reached_whole}, Running.{plan_done, plan_may}}
 use Rattle.t_uses.proofs.{Done.renamed, Frees.{holds_still, queues_rests}, Names.root_named}
 use Rattle.t_uses.proofs.memory.set_ref.Goals.{After-me}

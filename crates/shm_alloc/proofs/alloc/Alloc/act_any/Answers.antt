@@ -1,6 +1,6 @@
 use Rattle.std.proofs.Common.{sym, subst}
 use Rattle.shm_alloc.specs.declared.point.{AllocNext.AllocNext, AllocState.AllocState}
-use Rattle.shm_alloc.specs.Alloc.{Control.{PointFits, point_of}, Ranges.knows_next}
+use Rattle.shm_alloc.specs.{Alloc.Control.{PointFits, point_of}, Proved.Alloc.Ranges.knows_next}
 use Rattle.shm_alloc.proofs.alloc.Alloc.act_any.Goals as goal
 
 pub go_on-requires : goal.go_on-requires

@@ -1,7 +1,7 @@
 use Rattle.std.proofs.Common.{arith, subst}
 use Rattle.shm_words.proofs.Placing.{total_most_wide}
 use Rattle.shm_alloc.specs.{declared.point.AllocPoint.AllocPoint, Alloc.{Control.PointFits, Passing.AtHeader}}
-use Rattle.shm_alloc.specs.BlockPlaces.{block_of_next, block_of_within}
+use Rattle.shm_alloc.specs.Proved.BlockPlaces.{block_of_next, block_of_within}
 use Rattle.shm_alloc.proofs.alloc.Alloc.pass.Goals as goal
 
 pub overflow_add-self : goal.overflow_add-self

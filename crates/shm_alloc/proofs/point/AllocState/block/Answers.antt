@@ -1,6 +1,6 @@
 use Rattle.std.proofs.Common.{arith, ◌≡◌, ◌+◌, ◌*◌}
 use Rattle.shm_words.proofs.Placing.{total_most_wide}
-use Rattle.shm_alloc.specs.{Alloc.Control.block_of, BlockPlaces.block_of_within}
+use Rattle.shm_alloc.specs.{Alloc.Control.block_of, Proved.BlockPlaces.block_of_within}
 use Rattle.shm_alloc.proofs.point.AllocState.block.Goals as goal
 
 pub overflow_add-result : goal.overflow_add-result

@@ -1,6 +1,6 @@
 use Rattle.std.proofs.Common.{sym, ap, ◌∙◌, subst}
 use Rattle.shm_count.specs.declared.point.{StepState.StepState, StepNext.StepNext}
-use Rattle.shm_count.specs.Step.{Control.{StepInRange, point_of}, Ranges.knows_next}
+use Rattle.shm_count.specs.{Step.Control.{StepInRange, point_of}, Proved.Step.Ranges.knows_next}
 use Rattle.shm_count.proofs.point.StepState.take.Goals as goal
 
 pub returns-clause-knows : goal.returns-clause-knows

@@ -1,6 +1,6 @@
 use Rattle.std.proofs.Common.{sym, ap, ◌∙◌, subst}
 use Rattle.shm_count.specs.declared.tear_point.{TearState.TearState, TearNext.TearNext}
-use Rattle.shm_count.specs.Tear.{Control.{TearInRange, block_of, point_of}, Ranges.knows_after}
+use Rattle.shm_count.specs.{Tear.Control.{TearInRange, block_of, point_of}, Proved.Tear.Ranges.knows_after}
 use Rattle.shm_count.proofs.tear_point.TearState.act_on.Goals as goal
 
 pub returns-clause-knows : goal.returns-clause-knows

@@ -1,7 +1,7 @@
 use Rattle.std.proofs.Common.{◌≡◌, refl, sym, ap, ◌∙◌, subst}
 use Rattle.shm_graph.specs.declared.ask.Me.{Me}
-use Rattle.shm_table.specs.Command.{CommandCall, MayStand, command_control, command_of}
-use Rattle.shm_table.specs.Command.Operates.{CommandMay, command_may}
+use Rattle.shm_table.specs.Command.{CommandCall, MayStand, command_control, command_of, Operates.CommandMay}
+use Rattle.shm_table.specs.Proved.Command.Operates.{command_may}
 use Rattle.shm_pool.specs.{declared.reply.Reply.TheVariants.Died, Called.HasCommanded, Tokens.{Acting, me_of}}
 use Rattle.shm_pool.proofs.Commanded.{commanded_dead, commanded_died, commanded_done, me_of_command, stands}
 use Rattle.shm_pool.proofs.token.Client.command.Goals.{After-new-command}

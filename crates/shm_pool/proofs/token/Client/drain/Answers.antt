@@ -1,6 +1,6 @@
 use Rattle.std.proofs.Common.{◌≡◌, refl, sym, ap, ◌∙◌, subst}
 use Rattle.shm_graph.specs.declared.ask.Me.{Me}
-use Rattle.shm_queue.specs.{Drain.{Control.{drain_parts, draining}, drain_plan}, QueueTasks.DrainMay}
+use Rattle.shm_queue.specs.{Drain.{Control.{drain_parts, draining}, drain_plan}, Proved.QueueTasks.DrainMay}
 use Rattle.shm_queue.specs.declared.drain.DrainState.{DrainState}
 use Rattle.shm_pool.specs.Tokens.{me_of}
 use Rattle.shm_pool.proofs.{Named.{called_by, called_dead}, token.Client.drain.Goals.After-new}

@@ -1,6 +1,6 @@
 use Rattle.std.proofs.Common.{◌≡◌, refl, sym, ap, ◌∙◌, subst}
 use Rattle.shm_graph.specs.declared.ask.Me.{Me}
-use Rattle.shm_ref.specs.{DropRoot.{Control.{drop_parts, dropping}, drop_plan}, RootTasks.DropMay}
+use Rattle.shm_ref.specs.{DropRoot.{Control.{drop_parts, dropping}, drop_plan}, Proved.RootTasks.DropMay}
 use Rattle.shm_ref.specs.declared.drop_root.DropState.{DropState}
 use Rattle.shm_pool.specs.Tokens.{me_of}
 use Rattle.shm_pool.proofs.{Named.{called_by, called_dead}, token.Client.drop_root.Goals.After-new}

@@ -1,7 +1,8 @@
 use Rattle.std.proofs.Common.{◌≡◌, ◌<◌, refl, sym, ap, ◌∙◌, subst}
 use Rattle.shm_graph.specs.declared.ask.Me.{Me}
 use Rattle.shm_calls.specs.Words.{word_control}
-use Rattle.shm_ref.specs.{Hold.{Control.holding, hold_plan}, LatchTasks.HoldMay, declared.hold.HoldState.HoldState}
+use Rattle.shm_ref.specs.{Hold.{Control.holding, hold_plan}, Proved.LatchTasks.HoldMay}
+use Rattle.shm_ref.specs.declared.hold.HoldState.{HoldState}
 use Rattle.shm_pool.specs.Tokens.{me_of}
 use Rattle.shm_pool.proofs.{Named.{called_by, called_dead}, token.Client.hold.Goals.After-new}
 use Rattle.shm_pool.proofs.token.Client.hold.Goals as goal

@@ -1,6 +1,6 @@
 use Rattle.std.proofs.Common.{◌≡◌, ◌<◌, refl, sym, ap, ◌∙◌, subst}
 use Rattle.shm_graph.specs.declared.ask.Me.{Me}
-use Rattle.shm_queue.specs.{QueueTasks.ReceiveMay, Receive.{Control.{receive_parts, receiving}, receive_plan}}
+use Rattle.shm_queue.specs.{Proved.QueueTasks.ReceiveMay, Receive.{Control.{receive_parts, receiving}, receive_plan}}
 use Rattle.shm_queue.specs.declared.receive.ReceiveState.{ReceiveState}
 use Rattle.shm_pool.specs.Tokens.{me_of}
 use Rattle.shm_pool.proofs.{Named.{called_by, called_dead}, token.Client.receive.Goals.After-new}

@@ -1,7 +1,8 @@
 use Rattle.std.proofs.Common.{◌≡◌, refl, sym, ap, ◌∙◌, subst}
 use Rattle.shm_graph.specs.declared.ask.Me.{Me}
 use Rattle.shm_calls.specs.Words.{word_control}
-use Rattle.shm_ref.specs.{LatchTasks.NamingMay, RootOf.{naming, naming_plan}, declared.root_of.NamingState.NamingState}
+use Rattle.shm_ref.specs.{Proved.LatchTasks.NamingMay, RootOf.{naming, naming_plan}}
+use Rattle.shm_ref.specs.declared.root_of.NamingState.{NamingState}
 use Rattle.shm_pool.specs.Tokens.{me_of}
 use Rattle.shm_pool.proofs.{Named.{called_by, called_dead}, token.Client.root_of.Goals.After-new}
 use Rattle.shm_pool.proofs.token.Client.root_of.Goals as goal

@@ -1,6 +1,6 @@
 use Rattle.std.proofs.Common.{◌≡◌, ◌<◌, refl, sym, ap, ◌∙◌, subst}
 use Rattle.shm_graph.specs.declared.ask.Me.{Me}
-use Rattle.shm_queue.specs.{QueueTasks.SendMay, Send.{Control.{send_parts, sending}, send_plan}}
+use Rattle.shm_queue.specs.{Proved.QueueTasks.SendMay, Send.{Control.{send_parts, sending}, send_plan}}
 use Rattle.shm_queue.specs.declared.send.SendState.{SendState}
 use Rattle.shm_pool.specs.Tokens.{me_of}
 use Rattle.shm_pool.proofs.{Named.{called_by, called_dead, reach_small}, token.Client.send.Goals.After-new}

@@ -1,6 +1,6 @@
 use Rattle.std.proofs.Common.{◌≡◌, refl, sym, ap, ◌∙◌, subst}
 use Rattle.shm_graph.specs.declared.ask.Me.{Me}
-use Rattle.shm_ref.specs.{RootTasks.HomeMay, SetHome.{home_parts, home_plan, homing}}
+use Rattle.shm_ref.specs.{Proved.RootTasks.HomeMay, SetHome.{home_parts, home_plan, homing}}
 use Rattle.shm_ref.specs.declared.set_home.HomeState.{HomeState}
 use Rattle.shm_pool.specs.Tokens.{me_of}
 use Rattle.shm_pool.proofs.{Named.{called_by, called_dead, reach_small}, token.Client.set_home.Goals.After-new}

@@ -1,6 +1,6 @@
 use Rattle.std.proofs.Common.{◌≡◌, refl, sym, ap, ◌∙◌, subst}
 use Rattle.shm_graph.specs.declared.ask.Me.{Me}
-use Rattle.shm_ref.specs.{RootTasks.SetMay, SetRef.{Control.{set_parts, setting}, set_plan}}
+use Rattle.shm_ref.specs.{Proved.RootTasks.SetMay, SetRef.{Control.{set_parts, setting}, set_plan}}
 use Rattle.shm_ref.specs.declared.set_ref.SetState.{SetState}
 use Rattle.shm_pool.specs.Tokens.{me_of}
 use Rattle.shm_pool.proofs.Named.{called_by, called_dead, reach_room, target_small}

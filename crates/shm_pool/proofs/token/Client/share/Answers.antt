@@ -1,6 +1,6 @@
 use Rattle.std.proofs.Common.{◌≡◌, refl, sym, ap, ◌∙◌, subst}
 use Rattle.shm_graph.specs.declared.ask.Me.{Me}
-use Rattle.shm_count.specs.{ShareTask.ShareMay, UpRoot.{Control.{rooting, rooting_parts}, rooting_plan}}
+use Rattle.shm_count.specs.{Proved.ShareTask.ShareMay, UpRoot.{Control.{rooting, rooting_parts}, rooting_plan}}
 use Rattle.shm_count.specs.declared.up_root.RootingState.{RootingState}
 use Rattle.shm_pool.specs.Tokens.{me_of}
 use Rattle.shm_pool.proofs.{Named.{called_by, called_dead, reach_small}, token.Client.share.Goals.After-new}

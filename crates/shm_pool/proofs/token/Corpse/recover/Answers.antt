@@ -2,16 +2,17 @@ use Rattle.std.proofs.{Common.{◌≡◌, ◌<◌, refl, sym, ap, ◌∙◌, sub
 use Rattle.std.specs.Prelude.{IfOk, IfErr}
 use Rattle.shm_words.specs.Layout.{GeometryFits}
 use Rattle.shm_calls.specs.{declared.calls.Calls.Calls, CallsControl.{calls_does, calls_of}}
-use Rattle.shm_calls.specs.{CallsFit.{CallsFits, CallsGives}, CallsKeep.{calls_begin, calls_tells}}
+use Rattle.shm_calls.specs.{CallsFit.{CallsFits, CallsGives}, Proved.CallsKeep.{calls_begin, calls_tells}}
 use Rattle.shm_graph.specs.declared.{ask.Me.Me, memo.{Kind.TheVariants.Recoverer, Memo.Memo}, run.Account.Account}
 use Rattle.shm_graph.specs.{Agents.recovers, Asks.Trail, Runs.account_died, Tells.Tells, Whole.{fits_now, gives_now}}
 use Rattle.shm_graph.proofs.Memos.MemoSteps.{recovers-entered}
-use Rattle.shm_ref.specs.DropRoots.Laws.{roots_laws}
-use Rattle.shm_recover.specs.{declared.recover.RecoverState.RecoverState, FinishTakes.Laws.finish_laws}
-use Rattle.shm_recover.specs.{GiveUp.Laws.give_laws, Machines.Recovering.recover, Mend.Laws.mend_laws}
+use Rattle.shm_ref.specs.Proved.DropRoots.Laws.{roots_laws}
+use Rattle.shm_recover.specs.{declared.recover.RecoverState.RecoverState, Proved.FinishTakes.Laws.finish_laws}
+use Rattle.shm_recover.specs.Proved.{GiveUp.Laws.give_laws, Mend.Laws.mend_laws}
+use Rattle.shm_recover.specs.Proved.{Recover.Laws.{recover_begin, recover_laws}, Scan.Laws.scan_laws}
+use Rattle.shm_recover.specs.{Proved.TakeBack.Laws.back_laws, Machines.Recovering.recover}
 use Rattle.shm_recover.specs.Recover.Control.{RecoverAnswer, RecoverCall, recover_parts, recovering as recovery, recover_steered}
-use Rattle.shm_recover.specs.{Recover.{Laws.{recover_begin, recover_laws}, recover_plan}, Scan.Laws.scan_laws}
-use Rattle.shm_recover.specs.TakeBack.Laws.{back_laws}
+use Rattle.shm_recover.specs.Recover.{recover_plan}
 use Rattle.shm_pool.specs.Endings.{Answer, HasEnded, HasNotRecovered, HasRecovered, HasStopped}
 use Rattle.shm_pool.specs.Tokens.{Its, begun_account, me_of, recovering}
 use Rattle.shm_pool.proofs.{Told.{end_told, stop_told}, token.Corpse.recover.Goals.After-new-recover}

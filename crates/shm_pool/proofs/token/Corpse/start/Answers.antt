@@ -1,14 +1,14 @@
 use Rattle.std.proofs.Common.{◌≡◌, ◌<◌, ℕ, refl, sym, ap, ◌∙◌, subst, true, true≢false}
-use Rattle.shm_calls.specs.{CallsControl.calls_of, CallsFit.CallsFits, CallsKeep.calls_begin}
+use Rattle.shm_calls.specs.{CallsControl.calls_of, CallsFit.CallsFits, Proved.CallsKeep.calls_begin}
 use Rattle.shm_graph.specs.declared.{ask.Me.Me, memo.{Kind.TheVariants.Recoverer, Memo.Memo}, run.Account.Account}
 use Rattle.shm_graph.specs.{Agents.recovers, Runs.account_died, Whole.fits_now}
 use Rattle.shm_graph.proofs.Memos.MemoSteps.{recovers-entered}
-use Rattle.shm_ref.specs.DropRoots.Laws.{roots_laws}
-use Rattle.shm_recover.specs.{declared.recover.RecoverState.RecoverState, FinishTakes.Laws.finish_laws}
-use Rattle.shm_recover.specs.{GiveUp.Laws.give_laws, Machines.Recovering.recover, Mend.Laws.mend_laws}
-use Rattle.shm_recover.specs.Recover.Control.{recover_parts, recovering as recovery, recover_steered}
-use Rattle.shm_recover.specs.{Recover.{Laws.{recover_begin, recover_laws}, recover_plan}, Scan.Laws.scan_laws}
-use Rattle.shm_recover.specs.TakeBack.Laws.{back_laws}
+use Rattle.shm_ref.specs.Proved.DropRoots.Laws.{roots_laws}
+use Rattle.shm_recover.specs.{declared.recover.RecoverState.RecoverState, Proved.FinishTakes.Laws.finish_laws}
+use Rattle.shm_recover.specs.Proved.{GiveUp.Laws.give_laws, Mend.Laws.mend_laws}
+use Rattle.shm_recover.specs.Proved.{Recover.Laws.{recover_begin, recover_laws}, Scan.Laws.scan_laws}
+use Rattle.shm_recover.specs.{Proved.TakeBack.Laws.back_laws, Machines.Recovering.recover}
+use Rattle.shm_recover.specs.Recover.{Control.{recover_parts, recovering as recovery, recover_steered}, recover_plan}
 use Rattle.shm_pool.specs.{Rescues.RecoverMachine, Rules.alone, Tokens.{Token, begun_account, its, me_of, recovering}}
 use Rattle.shm_pool.proofs.token.Corpse.start.Goals.{After-new-machine}
 use Rattle.shm_pool.proofs.token.Corpse.start.Goals as goal

@@ -5,7 +5,7 @@ use Rattle.shm_graph.specs.Runs.{account_entered}
 use Rattle.shm_graph.proofs.Memos.MemoSteps.{acts-entered, recovers-entered}
 use Rattle.shm_recover.specs.declared.join.JoinState.{JoinState}
 use Rattle.shm_recover.specs.Join.{IsMember, JoinFits, JoinGives, is_over, is_start, join_control, join_fresh}
-use Rattle.shm_recover.specs.{Join.Keeps.join_begins, Leave.MayLeave}
+use Rattle.shm_recover.specs.{Proved.Join.Keeps.join_begins, Leave.MayLeave}
 use Rattle.shm_pool.specs.{Rules.alone, Calls.{Calls, shown}, Tokens.{Its, Token, has_left, its, me_of}}
 use Rattle.shm_pool.proofs.{Calling.{acts_stay, live_here}, Joining.joined_may_leave}
 use Rattle.shm_pool.proofs.token.Vacant.join.Goals.{After-top-2}

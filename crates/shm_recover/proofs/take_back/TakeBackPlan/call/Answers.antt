@@ -2,7 +2,7 @@ use Rattle.std.proofs.{Common.{sym, subst, arith, ◌%◌, ◌<◌}, lemmas.Bool
 use Rattle.shm_words.specs.Layout.{address_limit}
 use Rattle.shm_words.specs.declared.place.Place.TheVariants as place
 use Rattle.shm_words.proofs.Placing.{address_small}
-use Rattle.shm_recover.specs.Others.{other_low}
+use Rattle.shm_recover.specs.Proved.Others.{other_low}
 use Rattle.shm_recover.proofs.take_back.TakeBackPlan.call.Goals as goal
 
 pub new-requires-clause-slot : goal.new-requires-clause-slot

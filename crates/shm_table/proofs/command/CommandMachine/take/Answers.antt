@@ -1,7 +1,8 @@
 use Rattle.std.proofs.Common.{◌≡◌, refl, subst}
 use Rattle.std.specs.Option.{option_map}
 use Rattle.shm_graph.specs.{declared.ask.Turn.TheVariants.{Done, More, Died}, Laws.turn_of}
-use Rattle.shm_table.specs.Command.{CommandCall, command_parts, given, Laws.{told_done, told_more, told_died}}
+use Rattle.shm_table.specs.Command.{CommandCall, command_parts, given}
+use Rattle.shm_table.specs.Proved.Command.Laws.{told_done, told_more, told_died}
 use Rattle.shm_table.proofs.command.CommandMachine.take.Goals.{in-Done, in-More, in-Died}
 use Rattle.shm_table.proofs.command.CommandMachine.take.Goals as goal
 

@@ -1,0 +1,183 @@
+/* lojarnek.h: sessions of a shared pool, one word step at a time.
+ *
+ * A pool is a table of 64-bit words. The caller says where they lie: in mapped memory, on another machine, in an array, anywhere that has an
+ * 8-byte load, store and compare-exchange, each of them atomic and all of them in one order (sequentially consistent). Up to 16 identities
+ * work in a pool, each with a table of keys and numbers of its own that the others may read. A session is what one identity is at. It makes
+ * no word step itself: it says which one is next, and is told the word that was found.
+ *
+ *     lj_said s = lj_put(session, key, number);                the first word step, or a refusal
+ *     while (lj_is_step(s)) s = lj_tell(session, make(s));     the next one, or the answer
+ *
+ * All that somebody needs to go on after the caller's death is in the pool's words; a session holds nothing else. So a caller may be killed
+ * between any two word steps: whoever then has its identity recovers it. lojarnek_map.h does all of this for a mapped file that processes
+ * share, lojarnek_fabric.h for the memory of another machine.
+ *
+ * What no call can test, and stays the caller's:
+ * 1. The word steps are made, at the pool's words and in the order in which they are asked for, and what is told is the word that was there
+ *    (for a store 0).
+ * 2. One identity has one session that makes word steps, in the whole world, at any time; and whoever had it before makes no word step any
+ *    more, not one that was sent before, either. (lojarnek_map.h: by a lock that the kernel takes back from the dead. lojarnek_fabric.h: by a
+ *    key that is revoked.)
+ * 3. Nobody else writes the pool's words.
+ * 4. A session is one of lj_open, isn't closed, and is in one call at a time. Any thread may make the call.
+ * 5. Whoever opens a session read the status word after it had the identity.
+ *
+ * Everything else that can be done wrong is answered by a refusal, and changes nothing. No call waits, prints, starts a thread, opens a
+ * file, or keeps anything outside of the session; lj_open and lj_close alone allocate and free, by malloc and free.
+ */
+#ifndef LOJARNEK_H
+#define LOJARNEK_H
+
+#include <stdint.h>
+
+#ifdef __cplusplus
+extern "C" {
+#endif
+
+/* The version of this header: the first number changes where a program has to change. */
+#define LJ_VERSION_MAJOR 1
+#define LJ_VERSION_MINOR 0
+#define LJ_VERSION "1.0"
+
+/* What an identity is at. */
+typedef struct lj_session lj_session;
+
+/* What a call says: a word step, an answer or a refusal, by its code. Numbers that a code doesn't speak of are 0. */
+typedef struct {
+    uint32_t code;
+    uint32_t at;     /* a word's address, from 0, or a block */
+    uint64_t first;
+    uint64_t second;
+} lj_said;
+
+enum {
+    /* A word step. Addresses count words and not bytes, and are below lj_total. */
+    LJ_LOAD = 0,        /* load the word `at`; tell what was found */
+    LJ_STORE = 1,       /* store `second` in the word `at`; tell 0 */
+    LJ_EXCHANGE = 2,    /* where the word `at` is `first`, store `second`; tell the word that was there, in either case */
+
+    /* An answer: the operation is over. */
+    LJ_OK = 16,         /* of join, leave, recover, del, send */
+    LJ_STORED = 17,     /* of put: the value's block is `at` */
+    LJ_VALUE = 18,      /* of get, copy, recv: the number is `first`, its block `at` */
+    LJ_MISSING = 19,    /* there is no such key; nothing was changed */
+    LJ_FULL = 20,       /* an allocation found no free block: `first` segments are others', `second` blocks were looked at */
+    LJ_COUNT_FULL = 21, /* the block `at` has as many references as one can have, `first` */
+    LJ_QUEUE_FULL = 22, /* of send: the queue is full, its head `first`, its tail `second` */
+    LJ_EMPTY = 23,      /* of recv: the queue is empty, its head `first` */
+    LJ_ROOTS_FULL = 24, /* the identity has no empty root left */
+    LJ_ERA_SPENT = 25,  /* the identity's era, `first`, is the greatest one: it can change no count any more. A pool of usual age never says it */
+
+    /* How an identity stands (lj_stage), and what is certain of what was given up (lj_fall). */
+    LJ_VACANT = 32,     /* it is new or has left: it may join; `first` is 1 where an operation is in progress */
+    LJ_LIVE = 33,       /* it has joined; `first` the same */
+    LJ_DEAD = 34,       /* it is to be recovered; `first` the same */
+    LJ_UNDECIDED = 35,
+
+    /* A refusal: nothing was done, and nothing changed. */
+    LJ_OUT_OF_RANGE = 64, /* sizes, an identity, a key, a status or an operation's number that there isn't */
+    LJ_WRONG_STAGE = 65,  /* the identity doesn't stand so: a command before the join, a second join, a recovery of one that isn't dead */
+    LJ_BUSY = 66,         /* the operation before hasn't answered */
+    LJ_IDLE = 67,         /* a word was told, and nothing had been asked for */
+    LJ_NO_MEMORY = 68     /* of lj_open alone */
+};
+
+/* ---- A pool's sizes
+ *
+ * Format 1 has 1 to 256 segments, format 2 has 1 to 8,000; both have 1 to 16 clients, as a pool's identities are called in its sizes. A pool
+ * has 1 + 21 clients + 11 clients^2 + 2,065 segments words of 8 bytes, and in format 2 one a client more: at most 4.3 MB and 132 MB. A segment
+ * is one client's from its first block on, so there are to be at least as many segments as clients. */
+
+/* How many words such a pool has, below 2^32; 0 where there is no such pool. */
+uint32_t lj_total(uint32_t format, uint32_t clients, uint32_t segments);
+
+/* The word that a new pool has at an address; 0 where there is no such pool or address. `first_era` is 1 to 2^46 - 1; 1 is right. */
+uint64_t lj_first_word(uint32_t format, uint32_t clients, uint32_t segments, uint64_t first_era, uint32_t at);
+
+/* The address of the status word of an identity, which is 0 in a new pool, 1 while the identity is live, 2 while it is being recovered, and 3 after it
+ * left or was recovered; the answer is 0 where there is no such pool or identity. */
+uint32_t lj_status_at(uint32_t format, uint32_t clients, uint32_t segments, uint32_t who);
+
+/* ---- Sessions */
+
+/* Makes a session of the identity `who`, below `clients`, whose status word is `status`: 0 or 3 says that it is vacant, 1 or 2 that its last
+ * holder is dead. Answers 0 and writes where the session lies; or LJ_OUT_OF_RANGE or LJ_NO_MEMORY, and writes nothing. The session is the
+ * caller's, to be closed once. */
+uint32_t lj_open(uint32_t format, uint32_t clients, uint32_t segments, uint32_t who, uint64_t status, lj_session **out);
+
+/* Frees a session, in whatever it is at. The pool's words stay as they are: an identity that wasn't vacant is dead from then on. */
+void lj_close(lj_session *session);
+
+/* Begins an operation, or asks something, by its number and up to three numbers. The calls below are this one. */
+lj_said lj_call(lj_session *session, uint32_t op, uint64_t a, uint64_t b, uint64_t c);
+
+/* Takes the word that was found, for a store 0: says the next word step, or the answer. LJ_IDLE where nothing had been asked for. */
+lj_said lj_tell(lj_session *session, uint64_t found);
+
+enum {
+    LJ_OP_JOIN = 1, LJ_OP_LEAVE = 2, LJ_OP_RECOVER = 3,
+    LJ_OP_PUT = 4, LJ_OP_GET = 5, LJ_OP_DEL = 6, LJ_OP_COPY = 7, LJ_OP_SEND = 8, LJ_OP_RECV = 9,
+    LJ_OP_STAGE = 16, LJ_OP_ASK = 17, LJ_OP_FALL = 18
+};
+
+/* Which of the three kinds something said is; what lj_stage says is none of them. */
+static inline int lj_is_step(lj_said s) { return s.code <= LJ_EXCHANGE; }
+static inline int lj_is_answer(lj_said s) { return s.code >= LJ_OK && s.code <= LJ_ERA_SPENT; }
+static inline int lj_is_refusal(lj_said s) { return s.code >= LJ_OUT_OF_RANGE; }
+
+/* Each of these says the first word step of an operation, or a refusal. */
+
+/* A vacant identity becomes live; its table is as it left it. Answers LJ_OK. */
+static inline lj_said lj_join(lj_session *s) { return lj_call(s, LJ_OP_JOIN, 0, 0, 0); }
+
+/* A live identity becomes vacant; its table stays. Answers LJ_OK, or LJ_ERA_SPENT, and it stays live. */
+static inline lj_said lj_leave(lj_session *s) { return lj_call(s, LJ_OP_LEAVE, 0, 0, 0); }
+
+/* A dead identity becomes vacant; its table is as before or as after the command that it died in. Whoever has the identity may do this, and may
+ * die in it: whoever has it next does it again. Answers LJ_OK, or LJ_ERA_SPENT, and it stays dead. */
+static inline lj_said lj_recover(lj_session *s) { return lj_call(s, LJ_OP_RECOVER, 0, 0, 0); }
+
+/* Commands of a live identity. Keys are any 32-bit numbers, numbers any 64-bit ones; `author` is any identity of the pool, oneself too. A table
+ * has a latch: a command goes on asking for word steps while somebody else has the latch that it needs. Where that one has died it does so until
+ * somebody has recovered it, so whoever has made some thousand word steps in vain looks whether somebody is dead (lojarnek_map.h does so).
+ * Each of them may answer LJ_ERA_SPENT, and each but get LJ_COUNT_FULL: a block would have more than 1,023 references. Where a command isn't
+ * done the table is as before. */
+
+/* The key gets the number. Answers LJ_STORED; LJ_FULL, LJ_ROOTS_FULL. */
+static inline lj_said lj_put(lj_session *s, uint32_t key, uint64_t number) { return lj_call(s, LJ_OP_PUT, key, number, 0); }
+
+/* The number at an author's key. Answers LJ_VALUE; LJ_MISSING. */
+static inline lj_said lj_get(lj_session *s, uint32_t author, uint32_t key) { return lj_call(s, LJ_OP_GET, author, key, 0); }
+
+/* The key is removed from one's own table. Answers LJ_OK; LJ_MISSING. */
+static inline lj_said lj_del(lj_session *s, uint32_t key) { return lj_call(s, LJ_OP_DEL, key, 0, 0); }
+
+/* The key gets the value that the author has at the key `other`: the same block, which then has one reference more.
+ * Answers LJ_VALUE; LJ_MISSING, LJ_FULL, LJ_ROOTS_FULL. */
+static inline lj_said lj_copy(lj_session *s, uint32_t key, uint32_t author, uint32_t other) {
+    return lj_call(s, LJ_OP_COPY, key, author, other);
+}
+
+/* The value at the key goes into the queue to another identity; the key stays. Answers LJ_OK; LJ_MISSING, LJ_QUEUE_FULL: 8 wait. */
+static inline lj_said lj_send_key(lj_session *s, uint32_t to, uint32_t key) { return lj_call(s, LJ_OP_SEND, to, key, 0); }
+
+/* The key gets the next value of the queue from another identity. Answers LJ_VALUE; LJ_EMPTY, LJ_FULL, LJ_ROOTS_FULL. */
+static inline lj_said lj_recv_key(lj_session *s, uint32_t from, uint32_t key) { return lj_call(s, LJ_OP_RECV, from, key, 0); }
+
+/* These say something at once, and ask for no word step. */
+
+/* LJ_VACANT, LJ_LIVE or LJ_DEAD, as far as this session knows; `first` is 1 where an operation is in progress. */
+static inline lj_said lj_stage(lj_session *s) { return lj_call(s, LJ_OP_STAGE, 0, 0, 0); }
+
+/* The word step that is asked for, once more; LJ_IDLE where there is none. */
+static inline lj_said lj_ask(lj_session *s) { return lj_call(s, LJ_OP_ASK, 0, 0, 0); }
+
+/* Gives up what is in progress. Says what the command will have answered where its deciding step was made, or LJ_UNDECIDED: then it did nothing to
+ * the table. (Where the last word step that was asked for was made, tell it first.) An identity that had joined or was at something is dead then:
+ * recover it, by this session or by another one. */
+static inline lj_said lj_fall(lj_session *s) { return lj_call(s, LJ_OP_FALL, 0, 0, 0); }
+
+#ifdef __cplusplus
+}
+#endif
+#endif

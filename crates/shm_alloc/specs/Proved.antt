@@ -1,0 +1,4 @@
+pub mod Alloc
+pub mod BlockPlaces
+pub mod Operating
+pub mod Turning

@@ -1,0 +1,13 @@
+pub mod AsPart
+pub mod Carrying
+pub mod Going
+pub mod Keeps
+pub mod Laws
+pub mod Live
+pub mod MakingSteps
+pub mod Ranges
+pub mod SearchPages
+pub mod SearchSegments
+pub mod SearchSteps
+pub mod Steps
+pub mod Tells

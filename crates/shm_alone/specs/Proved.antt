@@ -1,0 +1,16 @@
+pub mod BackEnds
+pub mod GiveEnds
+pub mod JoinEnds
+pub mod LeaveEnds
+pub mod Lifting
+pub mod LowerEnds
+pub mod MendEnds
+pub mod QueuesEnd
+pub mod RecoverEnds
+pub mod RootsEnd
+pub mod ScanEnds
+pub mod StepEnds
+pub mod TakesEnds
+pub mod TearEnds
+pub mod TestEnds
+pub mod UnlatchEnds

@@ -1,0 +1,37 @@
+-- what lies where a pointer of C leads
+use Rattle.std.specs.{Prelude.{◌≡◌, ℕ}, Borrow.full_share, Box.Ownership.box_owns, declared.alloc.Global.Global}
+use Rattle.std.specs.contracts.impls.GlobalAllocator.TheImpl.{ghosts}
+use base.Fml.{Fml, fex}
+use denote.RawPtr.{Ptr, lies_at}
+use Rattle.shm_session.specs.declared.said.{Call.Call, Said.Said}
+use Rattle.shm_sitting.specs.{declared.seat.Seat.Seat, contracts.seat.Seat.the_row, Seats.{IsCalled, IsTold}}
+
+-- a session lies at p
+abbrev pub seat_at : Ptr → Seat → Fml
+seat_at p x = lies_at the_row full_share p x
+
+-- a call by its number, with its three numbers
+abbrev pub call_of : ℕ → ℕ → ℕ → ℕ → Call
+call_of op a b c = record { op = op; first = a; second = b; third = c }
+
+-- what a session became in a call that said r
+pub record Called (before : Seat) (c : Call) (r : Said) : Type 0 where
+  pub now : Seat
+  pub is : IsCalled before c r now
+
+-- it lies at p
+abbrev pub called_at : Ptr → Seat → Call → Said → Fml
+called_at p before c r = fex (Called before c r) (λ t. seat_at p t.now)
+
+-- what a session became that was told the word n, and said r
+pub record Told (before : Seat) (n : ℕ) (r : Said) : Type 0 where
+  pub now : Seat
+  pub is : IsTold before n r now
+
+-- it lies at p
+abbrev pub told_at : Ptr → Seat → ℕ → Said → Fml
+told_at p before n r = fex (Told before n r) (λ t. seat_at p t.now)
+
+-- a session lies at p, with the right to free its block
+abbrev pub seat_owned : Global → Ptr → Seat → Fml
+seat_owned a p x = box_owns (ghosts.dealloc_token a) the_row p x

@@ -1,0 +1,4 @@
+pub mod Changes
+pub mod Downs
+pub mod Parts
+pub mod Ups

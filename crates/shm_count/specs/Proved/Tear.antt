@@ -1,0 +1,12 @@
+pub mod Bound
+pub mod Cores
+pub mod Going
+pub mod Keeps
+pub mod Laws
+pub mod Lowering
+pub mod Ranges
+pub mod Stacks
+pub mod Storing
+pub mod TagLoads
+pub mod Tells
+pub mod Words

@@ -1,0 +1,3 @@
+pub mod AsPart
+pub mod Laws
+pub mod Steps

@@ -1,0 +1,11 @@
+pub mod Costs
+pub mod Drain
+pub mod HeadReads
+pub mod Peek
+pub mod QueueSteps
+pub mod QueueTasks
+pub mod QueueWords
+pub mod Receive
+pub mod Refusals
+pub mod Send
+pub mod Take

@@ -1,0 +1,13 @@
+pub mod Costs
+pub mod FinishTakes
+pub mod GiveUp
+pub mod Join
+pub mod Leave
+pub mod LeaveTask
+pub mod Mend
+pub mod MendLower
+pub mod MendUnlatch
+pub mod Others
+pub mod Recover
+pub mod Scan
+pub mod TakeBack

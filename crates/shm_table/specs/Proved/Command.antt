@@ -1,0 +1,4 @@
+pub mod Bound
+pub mod Events
+pub mod Laws
+pub mod Operates

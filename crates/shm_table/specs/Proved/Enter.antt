@@ -1,0 +1,3 @@
+pub mod Laws
+pub mod Memos
+pub mod Steps

@@ -1,0 +1,3 @@
+pub mod Bound
+pub mod Fresh
+pub mod Laws

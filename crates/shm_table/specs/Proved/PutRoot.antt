@@ -1,0 +1,5 @@
+pub mod Bound
+pub mod Following
+pub mod Laws
+pub mod Steps
+pub mod Undoing
