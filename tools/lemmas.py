@@ -7,11 +7,11 @@ a lemma more in another file ends with 1, and so does a name of the list that is
 import glob, re, sys
 
 MIXED = set("""
-crates/shm_calls/specs/CallsPart.antt
-crates/shm_calls/specs/Deciding.antt
-crates/shm_calls/specs/EventWords.antt
-crates/shm_calls/specs/MadeStays.antt
-crates/shm_calls/specs/Words.antt
+crates/plans/specs/CallsPart.antt
+crates/plans/specs/Deciding.antt
+crates/plans/specs/EventWords.antt
+crates/plans/specs/MadeStays.antt
+crates/plans/specs/Words.antt
 crates/shm_count/specs/CountParts.antt
 crates/shm_count/specs/MadeSteps.antt
 crates/shm_count/specs/Slots/Parts.antt

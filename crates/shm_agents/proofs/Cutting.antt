@@ -14,10 +14,10 @@ use Rattle.shm_script.specs.declared.{line.Line.{Line, TheVariants.Del}, log.{An
 use Rattle.shm_script.specs.Values.{Scripted}
 use Rattle.shm_script.specs.declared.log.End.TheVariants as end
 use Rattle.shm_agents.specs.declared.agents.Standing.TheVariants.{AtWork, Dead, Gone}
-use Rattle.shm_agents.specs.Agents.{IsFallen, IsFold, IsFresh, IsMending, IsPlaying, IsSettled, MayPlay, Playing, Stage, Stands, one_agent, shown_by}
+use Rattle.shm_agents.specs.Agents.{IsFallen, IsFold, IsFresh, IsMending, IsPlaying, IsSettled, MayPlay, Playing, Stage, AgentsStand, one_agent, shown_by}
 use Rattle.shm_agents.specs.{Agents.Stage.{Fresh, Plays, Parted, Fallen, Mending, Mended}, Courses.AreAgents}
 use Rattle.shm_agents.specs.{Cuts.{AreCut, IsCut, IsCutOff, IsUnbegun, account_cut}, Logs.with_effect, Turns.lives_of}
-use Rattle.shm_agents.specs.Work.{Work, joining}
+use Rattle.shm_agents.specs.Work.{Work, join_work}
 use Rattle.shm_agents.proofs.{Courses.agents_more, Deaths.some_life}
 use Rattle.shm_agents.proofs.Dying.{CommandMaps, dies, mended, mended_agents, settles, shows_line}
 use Rattle.shm_agents.proofs.{Growing.steps_of-end, Joining.first_fold, Loose.has_table, Standing.fell_quiet}
@@ -62,7 +62,7 @@ none_by (Some y) e = absurd (true≢false e)
 settled_dead : (s : Scripted) (y : Playing) (e : Account) → IsSettled s y e (told_left true e) → IsSettled s (record y { standing = Dead }) e (told_left true e)
 settled_dead s y e h = record { end = h.end; ended = h.ended; log = h.log; only = h.only; unspent = h.unspent; fold = h.fold; table = h.table }
 
-module _ (start : Start) (s : Scripted) (x : Playing) (e : Account) (stands : Stands start s x e) (here : x.standing ≡ AtWork) where
+module _ (start : Start) (s : Scripted) (x : Playing) (e : Account) (stands : AgentsStand start s x e) (here : x.standing ≡ AtWork) where
   may : MayPlay start s x
   may = stands.may
 

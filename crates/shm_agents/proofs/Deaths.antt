@@ -8,7 +8,7 @@ use Rattle.shm_graph.specs.{Agents.{acts, acts_by, last_agent}, Held.is_loose, R
 use Rattle.shm_graph.proofs.Memos.MemoSteps.{last-append}
 use Rattle.shm_script.specs.{declared.{line.Line.{Line, TheVariants.Del}, log.End.End}, Ranges.IsLife, Values.Scripted}
 use Rattle.shm_agents.specs.declared.agents.Standing.{Standing, TheVariants.{AtWork, Dead, Gone}}
-use Rattle.shm_agents.specs.Agents.{IsFallen, IsMending, IsPlaying, IsSettled, MayPlay, Playing, Stage, Stands, follows, shown_by}
+use Rattle.shm_agents.specs.Agents.{IsFallen, IsMending, IsPlaying, IsSettled, MayPlay, Playing, Stage, AgentsStand, follows, shown_by}
 use Rattle.shm_agents.specs.Agents.Stage.{Fresh, Plays, Parted, Fallen, Mending, Mended}
 use Rattle.shm_agents.specs.{TurnsLeft.{turns_at, turns_by, turns_of}, Turns.lives_of}
 use Rattle.shm_agents.proofs.Dying.{CommandMaps, falls_mending, falls_playing, mended_settled, playing_settled, settles, shows_line}
@@ -75,7 +75,7 @@ follows_fewer s y left (Some n) here at =
 -- the agents x of the script s stand, and the one that is at work has no word step left
 pub record IsSpent (start : Start) (s : Scripted) (x : Playing) (e : Account) : Type 0 where
   pub stood : Stood start e
-  pub stands : Stands start s x e
+  pub stands : AgentsStand start s x e
   pub here : x.standing ≡ AtWork
   pub spent : x.life.left ≡ 0
 
@@ -237,9 +237,9 @@ module _ (start : Start) (s : Scripted) (x : Playing) (e : Account) (is : IsSpen
       pub last_script : z.script ≡ x.script
       last_script = ap (λ (w : Playing). w.script) last ∙ (follows_script next y ∙ noted_script)
 
-      pub last_stands : Stands start s z e2
+      pub last_stands : AgentsStand start s z e2
       last_stands =
-          subst (Stands start s z) (sym to)
+          subst (AgentsStand start s z) (sym to)
           (record {
             may = still z last_me (ap (λ (w : Playing). w.room) last ∙ (follows_room next y ∙ noted_room));
             stage = Fallen (subst (λ (w : Playing). IsFallen s w (account_died e)) (sym last) falls.0) (subst (λ (w : Playing). IsSettled s w (account_died e) (told_left true (account_died e))) (sym last) falls.1);

@@ -8,11 +8,10 @@ use Rattle.shm_graph.specs.{Agents.{fallen, last_agent, steps_made, steps_of, wi
 use Rattle.shm_graph.specs.{Held.is_loose, Runs.{account_died, fell_by, told_by, told_left}, Tells.after_all}
 use Rattle.shm_graph.specs.declared.memo.Fate.TheVariants as fate
 use Rattle.shm_graph.proofs.Memos.MemoSteps.{last-append}
-use Rattle.shm_calls.specs.{declared.or.Or.TheVariants.{First, Second}, CallsControl.{calls_control, calls_of}}
-use Rattle.shm_calls.specs.{Deciding.StillRuns, Either.or_control}
-use Rattle.shm_count.specs.Steady.{SameTable}
-use Rattle.shm_recover.specs.Join.{join_control}
-use Rattle.shm_recover.specs.Leave.Control.{leave_line, leave_parts, leaving as leave_state, leave_steered}
+use Rattle.plans.specs.{declared.or.Or.TheVariants.{First, Second}, CallsControl.{calls_control, calls_of}}
+use Rattle.plans.specs.{Deciding.StillRuns, Either.or_control}
+use Rattle.shm_count.specs.Steady.{SameMap}
+use Rattle.shm_recover.specs.{Join.join_control, Leave.Control.{leave_line, leave_parts, leaving, leave_steered}}
 use Rattle.shm_recover.specs.Recover.Control.{recover_line, recover_parts, recover_steered}
 use Rattle.shm_recover.proofs.Steady.{leave_steady}
 use Rattle.shm_script.specs.declared.{line.Line.Line, log.{Answer.Answer, End.TheVariants.Died, Entry.Entry}}
@@ -24,7 +23,7 @@ use Rattle.shm_agents.specs.Agents.{IsFallen, IsFold, IsMending, IsPlaying, IsSe
 use Rattle.shm_agents.specs.Courses.{AreAgents, AreCommandsTold}
 use Rattle.shm_agents.specs.Logs.{BeganWith, Was, begun_first, steps_first, with_effect}
 use Rattle.shm_agents.specs.{Logs.Was.{Between, InCommand, InLeaving}, Turns.lives_of}
-use Rattle.shm_agents.specs.Work.{LeaveCalls, Work, WorkFits, commanding, leaving, work_control}
+use Rattle.shm_agents.specs.Work.{LeaveCalls, Work, WorkFits, commanding, leave_work, work_control}
 use Rattle.shm_agents.proofs.Courses.{agents_more, effect_behind, take_more, told_aside, told_on, told_shown}
 use Rattle.shm_agents.proofs.Effects.{behind_none, behind_some, effect_line, fold_so_far, lines_so_far, none_shown, runs_first, runs_second, told_cut}
 use Rattle.shm_agents.proofs.Growing.{began_last, first_steps, get_last, index_is, log_on, steps_of-end, sum_more, with_last-end}
@@ -158,17 +157,17 @@ module _ (s : Scripted) (x : Playing) (e : Account) where
 
     module _ (all : slice_get s.lines many ≡ None) where
       abbrev n : LeaveCalls
-      n = after_all (calls_control leave_parts leave_steered) (calls_of leave_steered (leave_state x.me)) trail
+      n = after_all (calls_control leave_parts leave_steered) (calls_of leave_steered (leaving x.me)) trail
 
-      last_one : now ≡ leaving x.me
+      last_one : now ≡ leave_work x.me
       last_one = behind_none x.me s.lines many all
 
       in_leaving : x.work ≡ Second (Second n)
       in_leaving =
           sym h.course
           ∙ (ap (λ (z : Work). after_all work_control z trail) last_one
-          ∙ (after_second (or_control join_control (calls_control recover_parts recover_steered)) (or_control command_control (calls_control leave_parts leave_steered)) (Second (calls_of leave_steered (leave_state x.me))) trail
-          ∙ ap Second (after_second command_control (calls_control leave_parts leave_steered) (calls_of leave_steered (leave_state x.me)) trail)))
+          ∙ (after_second (or_control join_control (calls_control recover_parts recover_steered)) (or_control command_control (calls_control leave_parts leave_steered)) (Second (calls_of leave_steered (leaving x.me))) trail
+          ∙ ap Second (after_second command_control (calls_control leave_parts leave_steered) (calls_of leave_steered (leaving x.me)) trail)))
 
       none : shown_by x.work ≡ None
       none = ap shown_by in_leaving
@@ -312,7 +311,7 @@ module _ (s : Scripted) (x : Playing) (e : Account) where
         noted_none : entries ≡ x.entries
         noted_none = ap (with_effect x.entries line) (none all)
 
-        same : SameTable h.start e.memo
+        same : SameMap h.start e.memo
         same = leave_steady (n all) h.start e.memo trail (ap (λ (z : Work). work_control.finished z) (sym (in_leaving all)) ∙ h.going) (subst (λ (z : Work). WorkFits z h.start e.memo trail) (in_leaving all) h.fits)
 
         ended : (b : Bool) → fresh ≡ b → Left

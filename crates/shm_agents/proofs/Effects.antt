@@ -6,13 +6,13 @@ use Rattle.std.specs.{Option.{is_some, option_map}, Ordering.{eq_by_cmp, nat_cmp
 use Rattle.std.specs.FinMap as finmap
 use Rattle.shm_graph.specs.{declared.{ask.Me.Me, memo.Memo.Memo, run.LoggedLine.LoggedLine}, Asks.Trail, Laws.Control}
 use Rattle.shm_graph.specs.Runs.{told_by}
-use Rattle.shm_calls.specs.{declared.or.Or.TheVariants.{First, Second}, Deciding.StillRuns, Either.or_control}
+use Rattle.plans.specs.{declared.or.Or.TheVariants.{First, Second}, Deciding.StillRuns, Either.or_control}
 use Rattle.shm_script.specs.declared.{line.Line.Line, log.{Answer.Answer, Entry.Entry}}
 use Rattle.shm_script.specs.{Logged.{Table, folded, table_after}, Text.line_spelled}
 use Rattle.shm_script.specs.declared.line.Line.TheVariants as line
 use Rattle.shm_script.specs.declared.log.Answer.TheVariants as answer
 use Rattle.shm_table.specs.Command.{Maps.{MapSoFar, answered_map}, command_effect, command_of}
-use Rattle.shm_agents.specs.{Agents.{IsFold, behind}, Logs.with_effect, Work.{commanding, leaving}}
+use Rattle.shm_agents.specs.{Agents.{IsFold, behind}, Logs.with_effect, Work.{commanding, leave_work}}
 use Rattle.shm_agents.proofs.Courses.{take_more}
 
 -- ---- the map
@@ -73,7 +73,7 @@ behind_some me [] k l at = absurd (cc)
 behind_some me (x ∷ ls) zero l at = let e : x ≡ l = cc in ap (commanding me) e
 behind_some me (x ∷ ls) (suc k) l at = behind_some me ls k l at
 
-pub behind_none : (me : Me) (ls : List Line) (k : ℕ) → slice_get ls k ≡ None → behind me ls k ≡ leaving me
+pub behind_none : (me : Me) (ls : List Line) (k : ℕ) → slice_get ls k ≡ None → behind me ls k ≡ leave_work me
 behind_none me [] k none = refl
 behind_none me (x ∷ ls) zero none = absurd (cc)
 behind_none me (x ∷ ls) (suc k) none = behind_none me ls k none

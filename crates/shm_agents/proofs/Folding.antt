@@ -6,7 +6,7 @@ use Rattle.std.specs.Ordering.{eq_by_cmp, nat_cmp}
 use Rattle.std.specs.FinMap as finmap
 use Rattle.shm_graph.specs.{declared.{ask.Me.Me, memo.Memo.Memo, spot.Spot.TheVariants.Hold}, Agents.recovers}
 use Rattle.shm_graph.specs.{Asks.Trail, Events.Event, Core.core, Held.is_loose, Idle.hold_word, Views.own_word}
-use Rattle.shm_steps.specs.Reparting.{map_in}
+use Rattle.kind_parts.specs.Reparting.{map_in}
 use Rattle.shm_script.specs.declared.{log.{Answer.Answer, Entry.Entry}, line.Line.Line}
 use Rattle.shm_script.specs.Logged.{Table, folded, table_after}
 use Rattle.shm_script.specs.declared.log.Answer.TheVariants as answer

@@ -10,13 +10,13 @@ use Rattle.shm_graph.specs.{Changes.asked_spot, Held.is_loose, Laws.step_of}
 use Rattle.shm_graph.specs.{Runs.{account_after, account_entered, first_account, first_part}, Tables.find}
 use Rattle.shm_graph.specs.Tells.{after_all}
 use Rattle.shm_graph.proofs.{Memos.MemoSteps.{agents_after, recovers_on}, States.FirstHeld.same_everywhere}
-use Rattle.shm_calls.specs.Deciding.{StillRuns}
+use Rattle.plans.specs.Deciding.{StillRuns}
 use Rattle.shm_recover.specs.Join.{JoinGives, join_fresh}
 use Rattle.shm_script.specs.{declared.line.Line.Line, Ranges.LineFits, Values.Scripted}
-use Rattle.shm_steps.specs.Reparting.{map_in}
+use Rattle.kind_parts.specs.Reparting.{map_in}
 use Rattle.shm_agents.specs.declared.agents.Standing.TheVariants.{AtWork}
 use Rattle.shm_agents.specs.{Agents.{IsFold, IsPlaying, IsReady, Playing, behind, one_agent}, Turns.lives_of}
-use Rattle.shm_agents.specs.Work.{WorkFits, joining, work_control}
+use Rattle.shm_agents.specs.Work.{WorkFits, join_work, work_control}
 use Rattle.shm_agents.proofs.WorkLaws.{behind_fits, behind_fresh, behind_going, behind_me}
 
 -- the map of a partition without entries
@@ -33,7 +33,7 @@ module _ (start : Start) (me : Me) (n : ℕ) where
   e1 = account_entered Client (first_account start me.who)
 
   abbrev pub t : Step
-  t = step_of work_control (joining me) n
+  t = step_of work_control (join_work me) n
 
   abbrev pub e2 : Account
   e2 = account_after e1 t

@@ -12,13 +12,13 @@ use Rattle.shm_graph.specs.{Runs.{account_after, account_entered, begun_by, told
 use Rattle.shm_graph.specs.{Views.own_word, Whole.{fits_now, gives_now}}
 use Rattle.shm_graph.specs.declared.memo.Fate.TheVariants as fate
 use Rattle.shm_graph.proofs.{Machines.TellsAlong.after_all-append, Memos.MemoSteps.{agents_after, recovers-entered}}
-use Rattle.shm_calls.specs.{declared.or.Or.TheVariants.{First, Second}, CallsControl.{calls_control, calls_of}}
-use Rattle.shm_calls.specs.{Proved.CallsKeep.calls_begin, Either.or_control}
-use Rattle.shm_count.specs.{declared.answer.EraSpent.EraSpent, Steady.SameTable}
+use Rattle.plans.specs.{declared.or.Or.TheVariants.{First, Second}, CallsControl.{calls_control, calls_of}}
+use Rattle.plans.specs.{Proved.CallsKeep.calls_begin, Either.or_control}
+use Rattle.shm_count.specs.{declared.answer.EraSpent.EraSpent, Steady.SameMap}
 use Rattle.shm_recover.specs.{Join.join_control, Leave.Control.{leave_parts, leave_steered}}
 use Rattle.shm_recover.specs.Machines.Recovering.{RecoverGives}
-use Rattle.shm_recover.specs.Recover.Control.{recover_line, recover_parts, recovering as recover_state, recover_steered}
-use Rattle.shm_recover.specs.{Recover.recover_plan, Proved.Recover.Laws.recover_begin}
+use Rattle.shm_recover.specs.Recover.{Control.{recover_line, recover_parts, recovering, recover_steered}, recover_plan}
+use Rattle.shm_recover.specs.Proved.Recover.Laws.{recover_begin}
 use Rattle.shm_recover.proofs.Steady.{recover_steady}
 use Rattle.shm_script.specs.Values.{Scripted}
 use Rattle.shm_table.specs.Command.{command_control}
@@ -26,7 +26,7 @@ use Rattle.shm_agents.specs.declared.agents.Standing.TheVariants.{AtWork, Dead, 
 use Rattle.shm_agents.specs.Agents.{IsFallen, IsMended, IsMending, IsSettled, MayPlay, Playing, logged}
 use Rattle.shm_agents.specs.Courses.{AreAgents, AreCommandsTold, AreScriptAgents}
 use Rattle.shm_agents.specs.{Logs.{BeganWith, begun_first, steps_first}, Turns.lives_of}
-use Rattle.shm_agents.specs.Work.{RecoverCalls, Work, WorkAnswer, WorkFits, WorkGives, recovering, work_control}
+use Rattle.shm_agents.specs.Work.{RecoverCalls, Work, WorkAnswer, WorkFits, WorkGives, recover_work, work_control}
 use Rattle.shm_agents.proofs.Courses.{agents_more, around, told_aside}
 use Rattle.shm_agents.proofs.Growing.{began_last, began_more, begun_end, first_more, first_steps, log_on, steps_of-end, sum_more, with_last-end}
 use Rattle.shm_agents.proofs.{Trails.{after_first, after_second}, WorkLaws.{recoveries, work_laws}}
@@ -37,17 +37,17 @@ never false = refl
 
 -- ---- the map while a recovery runs
 
-module _ (me : Me) (tr : Trail) (w : Work) (course : after_all work_control (recovering me) tr ≡ w) (going : work_control.finished w ≡ false) where
+module _ (me : Me) (tr : Trail) (w : Work) (course : after_all work_control (recover_work me) tr ≡ w) (going : work_control.finished w ≡ false) where
   abbrev call : RecoverCalls
-  call = after_all (calls_control recover_parts recover_steered) (calls_of recover_steered (recover_state me)) tr
+  call = after_all (calls_control recover_parts recover_steered) (calls_of recover_steered (recovering me)) tr
 
   is_call : w ≡ First (Second call)
   is_call =
       sym course
-      ∙ (after_first (or_control join_control (calls_control recover_parts recover_steered)) (or_control command_control (calls_control leave_parts leave_steered)) (Second (calls_of recover_steered (recover_state me))) tr
-      ∙ ap First (after_second join_control (calls_control recover_parts recover_steered) (calls_of recover_steered (recover_state me)) tr))
+      ∙ (after_first (or_control join_control (calls_control recover_parts recover_steered)) (or_control command_control (calls_control leave_parts leave_steered)) (Second (calls_of recover_steered (recovering me))) tr
+      ∙ ap First (after_second join_control (calls_control recover_parts recover_steered) (calls_of recover_steered (recovering me)) tr))
 
-  mending_table : (r0 r : Memo) (t : Trail) → WorkFits w r0 r t → SameTable r0 r
+  mending_table : (r0 r : Memo) (t : Trail) → WorkFits w r0 r t → SameMap r0 r
   mending_table r0 r t fit = recover_steady call r0 r t (ap (λ (z : Work). work_control.finished z) (sym is_call) ∙ going) (subst (λ (z : Work). WorkFits z r0 r t) is_call fit)
 
 -- ---- a recoverer begins
@@ -58,7 +58,7 @@ module _ (start : Start) (s : Scripted) (x : Playing) (e : Account) (may : MayPl
   e1 = account_entered Recoverer e
 
   -- it has this life, and its work is a recovery
-  comes : (slice_get (lives_of s.life) x.agent ≡ Some x.life.left) × (x.work ≡ recovering x.me)
+  comes : (slice_get (lives_of s.life) x.agent ≡ Some x.life.left) × (x.work ≡ recover_work x.me)
   comes =
       elim h.next [
         | inl d ↦ absurd (let z : AtWork ≡ Dead = sym here ∙ d.0 in cc)
@@ -75,7 +75,7 @@ module _ (start : Start) (s : Scripted) (x : Playing) (e : Account) (may : MayPl
   pub mend_fits : fits_now work_control WorkFits x.work e1.memo e1.memo
   mend_fits =
       subst (λ (z : Work). fits_now work_control WorkFits z e1.memo e1.memo) (sym comes.1)
-      (calls_begin recover_parts recover_plan recoveries (recover_state x.me) e1.memo refl refl (recover_begin x.me e1.memo (record { geometry = geometry; who = who; recoverer = recovers-entered Recoverer e.memo })))
+      (calls_begin recover_parts recover_plan recoveries (recovering x.me) e1.memo refl refl (recover_begin x.me e1.memo (record { geometry = geometry; who = who; recoverer = recovers-entered Recoverer e.memo })))
 
   -- and isn't over with its first word step
   pub mend_starts : (n : ℕ) → work_control.turns x.work n ≡ None
@@ -122,13 +122,13 @@ module _ (start : Start) (s : Scripted) (x : Playing) (e : Account) (may : MayPl
     first_made : steps_first e_first.memo.agents ≡ steps_first e.memo.agents
     first_made = ap steps_first agents_first ∙ first_steps e.memo.agents (record { kind = Recoverer; steps = 1; fate = fate.Acts } ∷ []) (let m = h.many in let o = h.some in omega arith)
 
-    first_course : after_all work_control (recovering x.me) e_first.memo.call ≡ first_work
+    first_course : after_all work_control (recover_work x.me) e_first.memo.call ≡ first_work
     first_course =
-        ap (λ (b : Bool). after_all work_control (recovering x.me) (call_before b e1.memo.call ++ pair t.ask n ∷ [])) new
+        ap (λ (b : Bool). after_all work_control (recover_work x.me) (call_before b e1.memo.call ++ pair t.ask n ∷ [])) new
         ∙ ap (λ (z : Work). work_control.after z n) (sym comes.1)
 
     module _ (fit : fits_now work_control WorkFits first_work e1.memo e_first.memo) where
-      first_same : SameTable e1.memo e_first.memo
+      first_same : SameMap e1.memo e_first.memo
       first_same = mending_table x.me e_first.memo.call first_work first_course first_goes e1.memo e_first.memo (call_before (work_control.fresh first_work) e_first.memo.call) fit
 
       pub first_settled : IsSettled s x e (told_left true e) → IsSettled s (record x { work = first_work; life = life }) e_first e_first.told
@@ -231,13 +231,13 @@ module _ (s : Scripted) (x : Playing) (e : Account) (h : IsMending s x e) (n : �
   begun_first_same : (k : ℕ) → 0 < k → begun_first e.begun ≡ k → begun_first e2.begun ≡ k
   begun_first_same k some is = ap begun_first begun ∙ is
 
-  course : after_all work_control (recovering x.me) e2.memo.call ≡ next
+  course : after_all work_control (recover_work x.me) e2.memo.call ≡ next
   course =
-      ap (λ (b : Bool). after_all work_control (recovering x.me) (call_before b e.memo.call ++ pair again.ask n ∷ [])) h.old
-      ∙ (after_all-append work_control (recovering x.me) e.memo.call (pair again.ask n) ∙ ap (λ (z : Work). work_control.after z n) h.course)
+      ap (λ (b : Bool). after_all work_control (recover_work x.me) (call_before b e.memo.call ++ pair again.ask n ∷ [])) h.old
+      ∙ (after_all-append work_control (recover_work x.me) e.memo.call (pair again.ask n) ∙ ap (λ (z : Work). work_control.after z n) h.course)
 
   -- the map is as it was where it began its recovery
-  same_here : SameTable h.start e.memo
+  same_here : SameMap h.start e.memo
   same_here = mending_table x.me e.memo.call x.work h.course h.going h.start e.memo (call_before (work_control.fresh x.work) e.memo.call) h.fits
 
   -- ---- it goes on
@@ -252,7 +252,7 @@ module _ (s : Scripted) (x : Playing) (e : Account) (h : IsMending s x e) (n : �
     told : e2.told ≡ e.told
     told = ap (λ (b : Bool). cond b (told_by again.line e2.memo.call true (told_left again.fresh e)) (told_left again.fresh e)) goes ∙ told_before
 
-    same : SameTable h.start e2.memo
+    same : SameMap h.start e2.memo
     same = mending_table x.me e2.memo.call next course goes h.start e2.memo (call_before (work_control.fresh next) e2.memo.call) fit
 
     pub more_settled : IsSettled s x e e.told → IsSettled s (record x { work = next; life = life }) e2 e2.told
@@ -327,7 +327,7 @@ module _ (s : Scripted) (x : Playing) (e : Account) (h : IsMending s x e) (n : �
       recovered : (r : Result (Unit {0}) EraSpent) × (a ≡ First (Second r)) × RecoverGives x.me h.start e2.memo e2.memo.call r
       recovered = go a (h.gave e2.memo e2.memo.call a gives)
         where
-          go : (b : WorkAnswer) → WorkGives (recovering x.me) h.start e2.memo e2.memo.call b → (r : Result (Unit {0}) EraSpent) × (b ≡ First (Second r)) × RecoverGives x.me h.start e2.memo e2.memo.call r
+          go : (b : WorkAnswer) → WorkGives (recover_work x.me) h.start e2.memo e2.memo.call b → (r : Result (Unit {0}) EraSpent) × (b ≡ First (Second r)) × RecoverGives x.me h.start e2.memo e2.memo.call r
           go (First (First u)) g = absurd g
           go (First (Second r)) g = (r, refl, g)
           go (Second b) g = absurd g

@@ -12,8 +12,8 @@ use Rattle.shm_graph.specs.{Asks.{Trail, call_before, pair}, Changes.asked_spot,
 use Rattle.shm_graph.specs.{Laws.{Stays, is_some, step_of}, Runs.{account_after, told_by, told_left}, Tells.after_all}
 use Rattle.shm_graph.specs.{Views.own_word, Whole.{fits_now, gives_now}}
 use Rattle.shm_graph.proofs.{Machines.TellsAlong.after_all-append, Memos.MemoSteps.{agents_after, recovers_on}}
-use Rattle.shm_calls.specs.{CallsControl.calls_control, Deciding.StillRuns, Either.or_control, declared.or.Or.Or}
-use Rattle.shm_calls.specs.declared.or.Or.TheVariants.{First, Second}
+use Rattle.plans.specs.{CallsControl.calls_control, Deciding.StillRuns, Either.or_control, declared.or.Or.Or}
+use Rattle.plans.specs.declared.or.Or.TheVariants.{First, Second}
 use Rattle.shm_count.specs.declared.answer.EraSpent.{EraSpent}
 use Rattle.shm_recover.specs.{Join.join_control, Leave.Control.{leave_line, leave_parts, leave_steered}}
 use Rattle.shm_recover.specs.{Machines.LeaveGives, Recover.Control.{recover_parts, recover_steered}}
@@ -21,7 +21,7 @@ use Rattle.shm_script.specs.{declared.{line.Line.Line, log.{Answer.Answer, Entry
 use Rattle.shm_script.specs.{Text.line_spelled, Values.Scripted}
 use Rattle.shm_script.specs.declared.line.Line.TheVariants as line
 use Rattle.shm_script.specs.declared.log.End.TheVariants as end
-use Rattle.shm_steps.specs.Reparting.{map_in}
+use Rattle.kind_parts.specs.Reparting.{map_in}
 use Rattle.shm_table.specs.Command.{CommandCall, CommandGives, command_control, command_of}
 use Rattle.shm_agents.specs.declared.agents.Standing.TheVariants.{Gone}
 use Rattle.shm_agents.specs.Agents.{AreTold, HasParted, IsPlaying, IsReady, Playing, behind, one_agent}

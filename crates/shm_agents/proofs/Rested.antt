@@ -5,7 +5,7 @@ use Rattle.shm_graph.specs.declared.{memo.{Agent.Agent, Fate.TheVariants.Ended},
 use Rattle.shm_graph.specs.Runs.{told_left}
 use Rattle.shm_script.specs.{declared.line.Line.Line, Values.Scripted}
 use Rattle.shm_agents.specs.declared.agents.Standing.{Standing, TheVariants.{AtWork, Dead}}
-use Rattle.shm_agents.specs.Agents.{Fallen, Fresh, HasParted, IsFallen, Mended, Mending, Parted, Playing, Plays, Stage, Stands, is_standing_dead, one_agent}
+use Rattle.shm_agents.specs.Agents.{Fallen, Fresh, HasParted, IsFallen, Mended, Mending, Parted, Playing, Plays, Stage, AgentsStand, is_standing_dead, one_agent}
 use Rattle.shm_agents.specs.{Courses.{AreAgents, AreCommandsTold, AreScriptAgents, client_lines}, Turns.lives_of}
 
 -- a client that left after at most the word steps of its life
@@ -20,7 +20,7 @@ take_spent [] (suc i) none = refl
 take_spent (n ∷ ns) zero none = absurd (cc)
 take_spent (n ∷ ns) (suc i) none = ap (λ (ks : List ℕ). n ∷ ks) (take_spent ns i none)
 
-module _ (start : Start) (s : Scripted) (x : Playing) (e : Account) (h : Stands start s x e) (rest : x.standing ≢ AtWork) where
+module _ (start : Start) (s : Scripted) (x : Playing) (e : Account) (h : AgentsStand start s x e) (rest : x.standing ≢ AtWork) where
   parted_agents : HasParted s x e → AreScriptAgents s e.memo.agents e.begun false
   parted_agents p =
       subst (λ (xs : List Agent). AreScriptAgents s xs e.begun false) (sym p.agents)

@@ -10,9 +10,9 @@ use Rattle.shm_graph.proofs.Memos.MemoSteps.{last-append}
 use Rattle.shm_recover.specs.Recover.Control.{recover_line}
 use Rattle.shm_script.specs.{declared.{line.Line.Line, log.Entry.Entry}, Values.Scripted}
 use Rattle.shm_agents.specs.declared.agents.Standing.TheVariants.{AtWork, Dead}
-use Rattle.shm_agents.specs.Agents.{Fallen, Fresh, IsFallen, IsFresh, IsMending, IsPlaying, Mended, Mending, Parted, Playing, Plays, Stage, Stands, behind}
+use Rattle.shm_agents.specs.Agents.{Fallen, Fresh, IsFallen, IsFresh, IsMending, IsPlaying, Mended, Mending, Parted, Playing, Plays, Stage, AgentsStand, behind}
 use Rattle.shm_agents.specs.Turns.{agent_of, answered_of, begun_last, ended_by, first_of, is_ended, life_of, lives_of, next_by, over_first, steps_by, steps_of_agent, work_at}
-use Rattle.shm_agents.specs.Work.{Work, commanding, joining, leaving, recovering, work_control, work_of}
+use Rattle.shm_agents.specs.Work.{Work, commanding, join_work, leave_work, recover_work, work_control, work_of}
 
 -- ---- lists
 
@@ -48,16 +48,16 @@ fell_dead (Some a) e = fate_dead a.fate e
 
 -- ---- what comes behind the client
 
-later_work : (me : Me) (lines : List Line) (n : ℕ) → 0 < n → work_of me lines n ≡ recovering me ∷ []
+later_work : (me : Me) (lines : List Line) (n : ℕ) → 0 < n → work_of me lines n ≡ recover_work me ∷ []
 later_work me lines zero l = absurd (omega arith)
 later_work me lines (suc n) l = refl
 
-later_first : (me : Me) (n : ℕ) → 0 < n → first_of me n ≡ recovering me
+later_first : (me : Me) (n : ℕ) → 0 < n → first_of me n ≡ recover_work me
 later_first me zero l = absurd (omega arith)
 later_first me (suc n) l = refl
 
 -- what comes behind its commands
-behind_get : (me : Me) (ls : List Line) (k : ℕ) → k ≤ length ls → slice_get (map (commanding me) ls ++ leaving me ∷ []) k ≡ Some (behind me ls k)
+behind_get : (me : Me) (ls : List Line) (k : ℕ) → k ≤ length ls → slice_get (map (commanding me) ls ++ leave_work me ∷ []) k ≡ Some (behind me ls k)
 behind_get me [] zero l = refl
 behind_get me [] (suc k) l = absurd (omega arith)
 behind_get me (line ∷ ls) zero l = refl
@@ -124,7 +124,7 @@ fresh_now start s x e h =
     record {
       agent = at;
       life = left_of s x e 0 at steps (ap (slice_get (lives_of s.life)) h.agent ∙ (h.life ∙ ap Some zero_more));
-      next = ap (next_by x.me s) h.account ∙ (ap (option_map (λ (life : ℕ). joining x.me)) h.life ∙ ap Some (sym h.work));
+      next = ap (next_by x.me s) h.account ∙ (ap (option_map (λ (life : ℕ). join_work x.me)) h.life ∙ ap Some (sym h.work));
     }
 
 module _ (s : Scripted) (x : Playing) (e : Account) (h : IsPlaying s x e) where
@@ -193,10 +193,10 @@ module _ (s : Scripted) (x : Playing) (e : Account) (h : IsMending s x e) where
   mender_acts : acts e.memo ≡ true
   mender_acts = ap acts_by mender_last
 
-  mending_next : work_at (recovering x.me ∷ []) e ≡ Some x.work
+  mending_next : work_at (recover_work x.me ∷ []) e ≡ Some x.work
   mending_next =
       let count : begun_last e.begun - 1 ≡ 0 = ap (λ bs. begun_last bs - 1) h.is_begun ∙ ap (λ (k : ℕ). k - 1) (last_begun h.begun (recover_line ∷ [])) in
-      within x.me s e (recovering x.me ∷ []) 0 (recovering x.me) h.over count refl ∙ ap Some h.course
+      within x.me s e (recover_work x.me ∷ []) 0 (recover_work x.me) h.over count refl ∙ ap Some h.course
 
   mending_now : IsNow s x e
   mending_now =
@@ -221,7 +221,7 @@ module _ (s : Scripted) (x : Playing) (e : Account) (h : IsFallen s x e) where
   fallen_next = next_coming x.me s e x.agent fallen_quiet (fell_dead (last_agent e.memo.agents) h.fell) fallen_at
 
   -- another one comes
-  fallen_now : slice_get (lives_of s.life) x.agent ≡ Some x.life.left → x.work ≡ recovering x.me → IsNow s x e
+  fallen_now : slice_get (lives_of s.life) x.agent ≡ Some x.life.left → x.work ≡ recover_work x.me → IsNow s x e
   fallen_now life is =
       let zero_more : x.life.left ≡ x.life.left + 0 = omega arith in
       record {
@@ -234,16 +234,16 @@ module _ (s : Scripted) (x : Playing) (e : Account) (h : IsFallen s x e) where
   fallen_last : slice_get (lives_of s.life) x.agent ≡ None → next_by x.me s e ≡ None
   fallen_last none = fallen_next ∙ ap (option_map (λ (n : ℕ). first_of x.me x.agent)) none
 
-fallen_here : (s : Scripted) (x : Playing) (e : Account) → IsFallen s x e → x.standing ≡ AtWork → ((x.standing ≡ Dead) × (slice_get (lives_of s.life) x.agent ≡ None)) ⊎ ((x.standing ≡ AtWork) × (slice_get (lives_of s.life) x.agent ≡ Some x.life.left) × (x.work ≡ recovering x.me)) → IsNow s x e
+fallen_here : (s : Scripted) (x : Playing) (e : Account) → IsFallen s x e → x.standing ≡ AtWork → ((x.standing ≡ Dead) × (slice_get (lives_of s.life) x.agent ≡ None)) ⊎ ((x.standing ≡ AtWork) × (slice_get (lives_of s.life) x.agent ≡ Some x.life.left) × (x.work ≡ recover_work x.me)) → IsNow s x e
 fallen_here s x e f here (inl d) = absurd (let dead = d.0 in cc)
 fallen_here s x e f here (inr w) = fallen_now s x e f w.1 w.2
 
-fallen_still : (s : Scripted) (x : Playing) (e : Account) → IsFallen s x e → x.standing ≢ AtWork → ((x.standing ≡ Dead) × (slice_get (lives_of s.life) x.agent ≡ None)) ⊎ ((x.standing ≡ AtWork) × (slice_get (lives_of s.life) x.agent ≡ Some x.life.left) × (x.work ≡ recovering x.me)) → next_by x.me s e ≡ None
+fallen_still : (s : Scripted) (x : Playing) (e : Account) → IsFallen s x e → x.standing ≢ AtWork → ((x.standing ≡ Dead) × (slice_get (lives_of s.life) x.agent ≡ None)) ⊎ ((x.standing ≡ AtWork) × (slice_get (lives_of s.life) x.agent ≡ Some x.life.left) × (x.work ≡ recover_work x.me)) → next_by x.me s e ≡ None
 fallen_still s x e f rest (inl d) = fallen_last s x e f d.1
 fallen_still s x e f rest (inr w) = absurd (rest w.0)
 
 -- agents of which one acts or comes next
-pub stands_now : (start : Start) (s : Scripted) (x : Playing) (e : Account) → Stands start s x e → x.standing ≡ AtWork → IsNow s x e
+pub stands_now : (start : Start) (s : Scripted) (x : Playing) (e : Account) → AgentsStand start s x e → x.standing ≡ AtWork → IsNow s x e
 stands_now start s x e h here = go h.stage
   where
     go : Stage start s x e → IsNow s x e
@@ -261,7 +261,7 @@ ended_next s x e a is over =
     next_ended x.me s e (ap acts_by is ∙ ap is_acting over) (ap ended_by is ∙ ap is_ended over)
 
 -- nothing is left to do where the identity is gone, or all of them died
-pub stands_still : (start : Start) (s : Scripted) (x : Playing) (e : Account) → Stands start s x e → x.standing ≢ AtWork → next_by x.me s e ≡ None
+pub stands_still : (start : Start) (s : Scripted) (x : Playing) (e : Account) → AgentsStand start s x e → x.standing ≢ AtWork → next_by x.me s e ≡ None
 stands_still start s x e h rest = go h.stage
   where
     go : Stage start s x e → next_by x.me s e ≡ None
@@ -277,7 +277,7 @@ stands_still start s x e h rest = go h.stage
 -- ---- the client
 
 -- the client that is at work has not begun, or plays
-pub client_stage : (start : Start) (s : Scripted) (x : Playing) (e : Account) → Stands start s x e → x.standing ≡ AtWork → x.agent ≡ 0 → IsFresh start s x e ⊎ IsPlaying s x e
+pub client_stage : (start : Start) (s : Scripted) (x : Playing) (e : Account) → AgentsStand start s x e → x.standing ≡ AtWork → x.agent ≡ 0 → IsFresh start s x e ⊎ IsPlaying s x e
 client_stage start s x e h here client = go h.stage
   where
     go : Stage start s x e → IsFresh start s x e ⊎ IsPlaying s x e
@@ -289,7 +289,7 @@ client_stage start s x e h here client = go h.stage
     go (Fallen p l) = absurd (let some = p.some in omega arith)
 
 -- how many of its commands have answered
-pub stands_answered : (start : Start) (s : Scripted) (x : Playing) (e : Account) → Stands start s x e → x.standing ≡ AtWork → x.agent ≡ 0 → answered_of (Some s) e ≡ length x.entries
+pub stands_answered : (start : Start) (s : Scripted) (x : Playing) (e : Account) → AgentsStand start s x e → x.standing ≡ AtWork → x.agent ≡ 0 → answered_of (Some s) e ≡ length x.entries
 stands_answered start s x e h here client = go (client_stage start s x e h here client)
   where
     go : IsFresh start s x e ⊎ IsPlaying s x e → answered_of (Some s) e ≡ length x.entries

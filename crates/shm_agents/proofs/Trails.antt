@@ -4,7 +4,7 @@ use Rattle.std.proofs.lemmas.List.{length-append}
 use Rattle.std.specs.{Prelude.{if◌then◌else◌, Option, Some, None}, Option.option_map}
 use Rattle.shm_graph.specs.declared.{ask.Me.Me, memo.Seen.Seen, run.{Account.Account, LoggedLine.LoggedLine}}
 use Rattle.shm_graph.specs.{Asks.Trail, Laws.Control, Runs.{begun_by, told_by, told_left}, Tells.after_all}
-use Rattle.shm_calls.specs.{declared.or.Or.{Or, TheVariants.{First, Second}}, Deciding.StillRuns, Either.or_control}
+use Rattle.plans.specs.{declared.or.Or.{Or, TheVariants.{First, Second}}, Deciding.StillRuns, Either.or_control}
 use Rattle.shm_script.specs.{declared.{line.Line.Line, log.Entry.Entry}, Text.line_spelled}
 use Rattle.shm_script.specs.declared.line.Line.TheVariants as line
 use Rattle.shm_agents.specs.Logs.{AreEntries, IsEntry, answer_along}

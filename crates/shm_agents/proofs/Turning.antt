@@ -10,15 +10,15 @@ use Rattle.shm_graph.specs.{Runs.{Stood, account_after, account_entered, first_a
 use Rattle.shm_graph.specs.Whole.{fits_now, gives_now}
 use Rattle.shm_graph.proofs.Memos.MemoSteps.{last-append}
 use Rattle.shm_plain.specs.{Tracks.kind_next, Working.{IsWorkOf, MayWork, ready_account}}
-use Rattle.shm_calls.specs.declared.or.Or.TheVariants.{First, Second}
+use Rattle.plans.specs.declared.or.Or.TheVariants.{First, Second}
 use Rattle.shm_count.specs.declared.answer.EraSpent.{EraSpent}
 use Rattle.shm_recover.specs.{Join.{JoinGives, join_fresh}, Proved.Join.Keeps.join_begins}
 use Rattle.shm_script.specs.{declared.{line.Line.Line, log.{Answer.Answer, Entry.Entry}}, Ranges.LineFits}
 use Rattle.shm_script.specs.Values.{Scripted}
 use Rattle.shm_script.specs.declared.log.End.TheVariants as end
 use Rattle.shm_agents.specs.declared.agents.Standing.{Standing, TheVariants.{AtWork, Gone}}
-use Rattle.shm_agents.specs.Agents.{HasParted, IsFallen, IsFresh, IsMended, IsMending, IsPlaying, IsSettled, MayPlay, Playing, Stage, Stands, behind}
-use Rattle.shm_agents.specs.Work.{Work, WorkAnswer, WorkFits, WorkGives, joining as join_work, recovering, work_control}
+use Rattle.shm_agents.specs.Agents.{HasParted, IsFallen, IsFresh, IsMended, IsMending, IsPlaying, IsSettled, MayPlay, Playing, Stage, AgentsStand, behind}
+use Rattle.shm_agents.specs.Work.{Work, WorkAnswer, WorkFits, WorkGives, join_work, recover_work, work_control}
 use Rattle.shm_agents.specs.Agents as at
 use Rattle.shm_agents.proofs.{OwnEras.own_most, Standing.fell_quiet}
 use Rattle.shm_agents.proofs.Joining as joining
@@ -67,7 +67,7 @@ module _ (start : Start) (s : Scripted) (x : Playing) (e : Account) where
       ∙ ap (λ (b : Bool). account_entered (cond b Recoverer Client) e) h.fell
 
   -- where one comes next, it is a recoverer
-  fallen_work : (h : IsFallen s x e) → x.standing ≡ AtWork → x.work ≡ recovering x.me
+  fallen_work : (h : IsFallen s x e) → x.standing ≡ AtWork → x.work ≡ recover_work x.me
   fallen_work h here =
       elim h.next [
         | inl n ↦ (let z : AtWork ≡ _ = sym here ∙ n.0 in absurd (cc))
@@ -193,7 +193,7 @@ module _ (start : Start) (s : Scripted) (x : Playing) (e : Account) where
       starts h = mending.mend_starts start s x e may h here n
 
       abbrev pub Stand : Playing → Type 0
-      Stand y = Stands start s y last
+      Stand y = AgentsStand start s y last
 
       stood : (y : Playing) → y.me ≡ x.me → y.room ≡ x.room → Stage start s y last → Stand y
       stood y me room h = record { may = still y me room; stage = h }

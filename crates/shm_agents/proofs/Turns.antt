@@ -9,14 +9,15 @@ use Rattle.shm_graph.specs.{Runs.Stood, Whole.{fits_now, gives_now}}
 use Rattle.shm_graph.specs.Laws as laws
 use Rattle.shm_plain.specs.Working.{IsWorkOf, MayWork, Worked, ready_account}
 use Rattle.shm_plain.proofs.Calling.{answered_is, lives}
-use Rattle.shm_calls.specs.declared.or.Or.TheVariants.{First, Second}
+use Rattle.plans.specs.declared.or.Or.TheVariants.{First, Second}
 use Rattle.shm_count.specs.declared.answer.EraSpent.{EraSpent}
 use Rattle.shm_script.specs.{declared.{line.Line.Line, log.Answer.Answer}, Ranges.LineFits, Values.Scripted}
 use Rattle.shm_script.specs.declared.log.End.TheVariants as end
-use Rattle.shm_table.specs.Command.{MayStand}
+use Rattle.shm_table.specs.Command.{LineMayStand}
 use Rattle.shm_agents.specs.declared.agents.Standing.{Standing, TheVariants.{AtWork, Gone, Dead}}
-use Rattle.shm_agents.specs.{Agents.{Playing, Stands, behind}, TurnsLeft.{turns_at, turns_by, turns_given, turns_of}}
-use Rattle.shm_agents.specs.{Turns.lives_of, Work.{Work, WorkAnswer, WorkFits, WorkGives, work_control}}
+use Rattle.shm_agents.specs.Agents.{Playing, AgentsStand, behind}
+use Rattle.shm_agents.specs.{TurnsLeft.{turns_at, turns_by, turns_given, turns_of}, Turns.lives_of}
+use Rattle.shm_agents.specs.Work.{Work, WorkAnswer, WorkFits, WorkGives, work_control}
 use Rattle.shm_agents.proofs.{Given.given_worked, WorkLaws.{line_fits, may_stand}}
 use Rattle.shm_agents.proofs.Turning as turning
 
@@ -43,7 +44,7 @@ pub record Before (start : Start) (s : Scripted) (now x : Playing) (e : Account)
   pub stood : Stood start e
   pub named : e.who ≡ now.me.who
   pub is : x ≡ now
-  pub stands : Stands start s now e
+  pub stands : AgentsStand start s now e
   pub here : now.standing ≡ AtWork
 
 -- what the word step says of the account, the work and the life that it left, and of what it answered
@@ -56,13 +57,13 @@ pub record After (start : Start) (x : Playing) (e e2 : Account) (w : Work) (life
   pub named : e2.who ≡ x.me.who
 
 -- what is accounted for by number, before it and after it
-pub before : {start : Start} {s : Scripted} {now x : Playing} (acc : ℕ → Account) → Stood start (acc now.me.who) → (acc now.me.who).who ≡ now.me.who → x ≡ now → Stands start s now (acc now.me.who) → now.standing ≡ AtWork → Before start s now x (acc x.me.who)
+pub before : {start : Start} {s : Scripted} {now x : Playing} (acc : ℕ → Account) → Stood start (acc now.me.who) → (acc now.me.who).who ≡ now.me.who → x ≡ now → AgentsStand start s now (acc now.me.who) → now.standing ≡ AtWork → Before start s now x (acc x.me.who)
 before {start} {s} {now} {x} acc stood named is stands here =
     subst (λ (k : ℕ). Before start s now x (acc k)) (sym (ap (λ (z : Playing). z.me.who) is)) (record { stood = stood; named = named; is = is; stands = stands; here = here })
 
 -- they stand in the pool as it is after it, by the number before it
-pub finally : {start start2 : Start} {s : Scripted} {now x : Playing} (acc2 : ℕ → Account) → start2 ≡ start → x ≡ now → {y : Playing} → Stands start s y (acc2 x.me.who) → Stands start2 s y (acc2 now.me.who)
-finally {start} {start2} {s} {now} {x} acc2 same is {y} h = subst (λ (z : Start). Stands z s y (acc2 now.me.who)) (sym same) (subst (λ (z : Playing). Stands start s y (acc2 z.me.who)) is h)
+pub finally : {start start2 : Start} {s : Scripted} {now x : Playing} (acc2 : ℕ → Account) → start2 ≡ start → x ≡ now → {y : Playing} → AgentsStand start s y (acc2 x.me.who) → AgentsStand start2 s y (acc2 now.me.who)
+finally {start} {start2} {s} {now} {x} acc2 same is {y} h = subst (λ (z : Start). AgentsStand z s y (acc2 now.me.who)) (sym same) (subst (λ (z : Playing). AgentsStand start s y (acc2 z.me.who)) is h)
 
 pub stepped_on : {now x : Playing} → x ≡ now → (S : Step → Type 0) → (0 < x.life.left → (n : ℕ) × S (laws.step_of work_control x.work n)) → 0 < now.life.left → (n : ℕ) × S (laws.step_of work_control now.work n)
 stepped_on is S h = subst (λ (z : Playing). 0 < z.life.left → (n : ℕ) × S (laws.step_of work_control z.work n)) is h
@@ -76,8 +77,8 @@ none_on None e = refl
 none_on (Some a) e = absurd (cc)
 
 module _ {start : Start} {s : Scripted} {now x : Playing} {e : Account} (b : Before start s now x e) where
-  pub stood : Stands start s x e
-  stood = subst (λ (z : Playing). Stands start s z e) (sym b.is) b.stands
+  pub stood : AgentsStand start s x e
+  stood = subst (λ (z : Playing). AgentsStand start s z e) (sym b.is) b.stands
 
   pub here : x.standing ≡ AtWork
   here = ap (λ (z : Playing). z.standing) b.is ∙ b.here
@@ -98,13 +99,13 @@ module _ {start : Start} {s : Scripted} {now x : Playing} {e : Account} (b : Bef
   pub who : x.me.who < x.me.geometry.clients
   who = subst (λ (g : Geometry). x.me.who < g.clients) (sym stood.may.me) stood.may.who
 
-  pub may_begin : (k : ℕ) (l : Line) → slice_get s.lines k ≡ Some l → MayStand x.me l
+  pub may_begin : (k : ℕ) (l : Line) → slice_get s.lines k ≡ Some l → LineMayStand x.me l
   may_begin k l at =
       may_stand x.me l
       (subst (λ (g : Geometry). LineFits g.clients x.me.who l) (sym stood.may.me)
       (subst (λ (d : ℕ). LineFits start.geometry.clients d l) stood.may.client (line_fits start.geometry.clients s.client s.lines k l stood.may.script.lines at)))
 
-  pub may_begin_in : (ls : List Line) → ls ≡ s.lines → (k : ℕ) (l : Line) → slice_get ls k ≡ Some l → MayStand x.me l
+  pub may_begin_in : (ls : List Line) → ls ≡ s.lines → (k : ℕ) (l : Line) → slice_get ls k ≡ Some l → LineMayStand x.me l
   may_begin_in ls same k l at = may_begin k l (ap (λ (zs : List Line). slice_get zs k) (sym same) ∙ at)
 
   -- what the word step says, clause by clause
@@ -115,7 +116,7 @@ module _ {start : Start} {s : Scripted} {now x : Playing} {e : Account} (b : Bef
 
   module _ {e2 : Account} {w : Work} {life : Life} {u : Turn WorkAnswer} (a : After start x e e2 w life u) where
     abbrev pub Stand : Playing → Type 0
-    Stand y = Stands start s y e2
+    Stand y = AgentsStand start s y e2
 
     -- ---- a word step was made
 
@@ -147,7 +148,7 @@ module _ {start : Start} {s : Scripted} {now x : Playing} {e : Account} (b : Bef
 
       pub more : u ≡ More → Stand (record x { work = w; life = life })
       more o =
-          (subst (λ (z : Work). Stands start s (record x { work = z; life = life }) e2) (sym turn.next)
+          (subst (λ (z : Work). AgentsStand start s (record x { work = z; life = life }) e2) (sym turn.next)
           (turning.went_on start s x e stood.may here stood.stage e2 n turn.account a.stood a.named life left turn.learns (none_on (work_control.turns x.work n) (sym o ∙ turn.turn))))
 
       -- what begin leaves of them, with the lines ls
@@ -160,7 +161,7 @@ module _ {start : Start} {s : Scripted} {now x : Playing} {e : Account} (b : Bef
       recovered v o =
           let done = turning.recovered start s x e stood.may here stood.stage e2 n turn.account a.stood a.named life left turn.learns v (answer (First (Second v)) o) in (
             done.0,
-            (subst (λ (z : Work). Stands start s (record x { work = z; life = life; standing = Gone }) e2) (sym turn.next) done.1),
+            (subst (λ (z : Work). AgentsStand start s (record x { work = z; life = life; standing = Gone }) e2) (sym turn.next) done.1),
           )
 
       pub answered : (v : Answer) → u ≡ Done (Second (First v)) → (l : Line) × (slice_get s.lines (length x.entries) ≡ Some l) × Stand (record x { entries = x.entries ++ record { line = l; answer = v } ∷ []; work = behind x.me s.lines (length (x.entries ++ record { line = l; answer = v } ∷ [])); life = life })
@@ -196,8 +197,8 @@ module _ {start : Start} {s : Scripted} {now x : Playing} {e : Account} (b : Bef
           pub note_who : y.me.who < y.me.geometry.clients
           note_who = subst (λ (z : Playing). z.me.who < z.me.geometry.clients) (sym note_is) who
 
-          pub note_line : (l : Line) → slice_get ls (length y.entries) ≡ Some l → MayStand y.me l
-          note_line l there = subst (λ (z : Playing). MayStand z.me l) (sym note_is) (may_begin (length y.entries) l (ap (λ (zs : List Line). slice_get zs (length y.entries)) (sym same) ∙ there))
+          pub note_line : (l : Line) → slice_get ls (length y.entries) ≡ Some l → LineMayStand y.me l
+          note_line l there = subst (λ (z : Playing). LineMayStand z.me l) (sym note_is) (may_begin (length y.entries) l (ap (λ (zs : List Line). slice_get zs (length y.entries)) (sym same) ∙ there))
 
           -- and then begin
           module _ (z : Playing) (begun : z ≡ record y { work = behind y.me ls (length y.entries) }) where
@@ -220,7 +221,7 @@ module _ {start : Start} {s : Scripted} {now x : Playing} {e : Account} (b : Bef
       parted v o =
           let done = turning.parted start s x e stood.may here stood.stage e2 n turn.account a.stood a.named life left turn.learns v (answer (Second (Second v)) o) in (
             done.0,
-            (subst (λ (z : Work). Stands start s (record x { work = z; life = life; end = Some end.Ended; standing = Gone }) e2) (sym turn.next) done.1),
+            (subst (λ (z : Work). AgentsStand start s (record x { work = z; life = life; end = Some end.Ended; standing = Gone }) e2) (sym turn.next) done.1),
           )
 
     -- ---- no word step is left: nothing has changed, and the agent dies
@@ -232,8 +233,8 @@ module _ {start : Start} {s : Scripted} {now x : Playing} {e : Account} (b : Bef
       pub same : record x { work = w; life = life } ≡ now
       same = let h = a.stays died in ap (λ (z : Work). record x { work = z; life = life }) h.1 ∙ (ap (λ (z : Life). record x { life = z }) h.2 ∙ b.is)
 
-      pub dead_stands : Stands start s now e2
-      dead_stands = subst (Stands start s now) (sym same_account) b.stands
+      pub dead_stands : AgentsStand start s now e2
+      dead_stands = subst (AgentsStand start s now) (sym same_account) b.stands
 
       pub spent : now.life.left ≡ 0
       spent = sym (ap (λ (y : Playing). y.life.left) b.is) ∙ a.died died

@@ -1,7 +1,7 @@
 -- no command is refused for a spent own era, where the own era has room
 use Rattle.std.proofs.Common.{ℕ, Bool, true, false, List, [], ◌∷◌, ◌++◌, arith}
 use Rattle.shm_graph.specs.{declared.{ask.Me.Me, memo.Memo.Memo}, Asks.Trail, Events.Event}
-use Rattle.shm_calls.specs.{declared.or.Or.TheVariants.{First, Second}, Deciding.where_decided}
+use Rattle.plans.specs.{declared.or.Or.TheVariants.{First, Second}, Deciding.where_decided}
 use Rattle.shm_script.specs.declared.{line.Line.Line, log.{Answer.Answer, Entry.Entry}}
 use Rattle.shm_script.specs.declared.line.Line.TheVariants as line
 use Rattle.shm_script.specs.declared.log.Answer.TheVariants as answer

@@ -1,53 +1,26 @@
--- the laws of pieces of work, and what holds of each before its first word step
+-- what holds of each piece of work before its first word step
 use Rattle.std.proofs.Common.{◌≡◌, ℕ, zero, suc, ◌^◌, ◌<◌, ◌≤◌, true, false, List, [], ◌∷◌, get_or, length, refl, sym, subst, arith}
 use Rattle.std.specs.{Prelude.{Some, slice_get}, List.AllByRecursion}
 use Rattle.shm_words.specs.Layout.{GeometryFits}
-use Rattle.shm_graph.specs.{declared.{ask.Me.Me, memo.Memo.Memo}, Laws.Laws}
-use Rattle.shm_calls.specs.{CallsControl.calls_control, CallsFit.{CallsFits, CallsGives}}
-use Rattle.shm_calls.specs.Proved.{CallsKeep.{calls_begin, calls_laws}, Either.or_laws}
-use Rattle.shm_calls.specs.{Either.{OrFits, OrGives, or_control}, Plans.PlanLaws}
-use Rattle.shm_ref.specs.Proved.DropRoots.Laws.{roots_laws}
-use Rattle.shm_recover.specs.Proved.{FinishTakes.Laws.finish_laws, GiveUp.Laws.give_laws, Mend.Laws.mend_laws}
-use Rattle.shm_recover.specs.Proved.{Recover.Laws.recover_laws, Scan.Laws.scan_laws, TakeBack.Laws.back_laws}
-use Rattle.shm_recover.specs.Proved.{Join.Keeps.join_laws, Leave.{Gone.idle_may_leave, Laws.{leave_begin, leave_laws}}}
-use Rattle.shm_recover.specs.Recover.{Control.{recover_parts, recover_steered}, recover_plan}
-use Rattle.shm_recover.specs.Join.{JoinFits, JoinGives, join_control}
-use Rattle.shm_recover.specs.Leave.{Control.{leave_parts, leaving as leave_state, leave_steered}, leave_plan}
+use Rattle.shm_graph.specs.declared.{ask.Me.Me, memo.Memo.Memo}
+use Rattle.plans.specs.Proved.CallsKeep.{calls_begin}
+use Rattle.shm_recover.specs.{Leave.{Control.{leave_parts, leaving}, leave_plan}, Proved.Leave.Gone.idle_may_leave}
+use Rattle.shm_recover.specs.Proved.Leave.Laws.{leave_begin, leave_laws}
 use Rattle.shm_script.specs.{declared.{line.Line.Line, log.Entry.Entry}, Ranges.LineFits}
 use Rattle.shm_script.specs.declared.line.Line.TheVariants as line
-use Rattle.shm_table.specs.Command.{CommandFits, CommandGives, MayStand, command_control, command_of}
-use Rattle.shm_table.specs.Proved.{Command.Laws.command_laws, CopyKey.Laws.{copy_begin, copy_laws}}
-use Rattle.shm_table.specs.Proved.{Del.Laws.{del_begin, del_laws}, Enter.Laws.enter_laws}
+use Rattle.shm_table.specs.Command.{CommandFits, LineMayStand, command_control, command_of}
+use Rattle.shm_table.specs.Proved.{CopyKey.Laws.{copy_begin, copy_laws}, Del.Laws.{del_begin, del_laws}}
 use Rattle.shm_table.specs.Proved.{FetchHead.Laws.fetch_head_laws, Fetch.Laws.fetch_laws}
-use Rattle.shm_table.specs.Proved.{Get.Laws.{get_begin, get_laws}, Locate.Laws.locate_laws, OpenTable.Laws.open_laws}
-use Rattle.shm_table.specs.Proved.{Put.Laws.put_laws, PutRoot.Laws.put_root_laws, RecvKey.Laws.{recv_begin, recv_laws}}
-use Rattle.shm_table.specs.Proved.{Replace.Laws.replace_laws, SendKey.Laws.{send_key_begin, send_key_laws}}
+use Rattle.shm_table.specs.Proved.{Get.Laws.{get_begin, get_laws}, Put.Laws.put_laws}
+use Rattle.shm_table.specs.Proved.{RecvKey.Laws.{recv_begin, recv_laws}, SendKey.Laws.{send_key_begin, send_key_laws}}
 use Rattle.shm_table.specs.{Proved.TakeHead.Laws.take_head_laws, Commands.MayCommand}
 use Rattle.shm_table.specs.{CopyKey.{Control.{copy_parts, copying}, copy_plan}, Del.Control.{del_parts, deleting}}
 use Rattle.shm_table.specs.{Del.del_plan, Get.{Control.{get_parts, getting}, get_plan}, Locate.MayLocate}
-use Rattle.shm_table.specs.{Put.{Control.{put_parts, putting}, put_plan}, PutRoot.Control.put_root_parts}
-use Rattle.shm_table.specs.{PutRoot.put_root_plan, RecvKey.{Control.{receiving_key, recv_parts}, recv_plan}}
-use Rattle.shm_table.specs.SendKey.{Control.{send_key_parts, sending_key}, send_key_plan}
-use Rattle.shm_agents.specs.{Agents.{IsReady, behind}, Work.{WorkFits, WorkGives, commanding, leaving, work_control}}
-
--- ---- the laws
-
-puts : PlanLaws put_root_parts put_root_plan
-puts = put_root_laws open_laws locate_laws replace_laws enter_laws
-
-commands : Laws command_control CommandFits CommandGives
-commands = command_laws (put_laws puts) (copy_laws fetch_laws puts) del_laws get_laws send_key_laws (recv_laws fetch_head_laws take_head_laws puts)
-
-pub recoveries : PlanLaws recover_parts recover_plan
-recoveries = recover_laws mend_laws roots_laws back_laws finish_laws scan_laws give_laws
-
-pub work_laws : Laws work_control WorkFits WorkGives
-work_laws =
-    or_laws (or_control join_control (calls_control recover_parts recover_steered)) (or_control command_control (calls_control leave_parts leave_steered))
-    (OrFits JoinFits (CallsFits recover_parts recover_plan)) (OrGives JoinGives (CallsGives recover_parts recover_plan))
-    (OrFits CommandFits (CallsFits leave_parts leave_plan)) (OrGives CommandGives (CallsGives leave_parts leave_plan))
-    (or_laws join_control (calls_control recover_parts recover_steered) JoinFits JoinGives (CallsFits recover_parts recover_plan) (CallsGives recover_parts recover_plan) join_laws (calls_laws recover_parts recover_plan recoveries))
-    (or_laws command_control (calls_control leave_parts leave_steered) CommandFits CommandGives (CallsFits leave_parts leave_plan) (CallsGives leave_parts leave_plan) commands (calls_laws leave_parts leave_plan leave_laws))
+use Rattle.shm_table.specs.{Put.{Control.{put_parts, putting}, put_plan}, RecvKey.Control.{receiving_key, recv_parts}}
+use Rattle.shm_table.specs.{RecvKey.recv_plan, SendKey.{Control.{send_key_parts, sending_key}, send_key_plan}}
+use Rattle.shm_agents.specs.{Agents.{IsReady, behind}, Proved.WorkLaws.puts}
+use Rattle.shm_agents.specs.Work.{WorkFits, commanding, leave_work, work_control}
+pub use Rattle.shm_agents.specs.Proved.WorkLaws.{recoveries, work_laws}
 
 -- ---- what comes behind commands, before its first word step
 
@@ -96,7 +69,7 @@ behind_at me [] k d l = absurd (omega arith)
 behind_at me (l ∷ ls) zero d low = refl
 behind_at me (l ∷ ls) (suc k) d low = behind_at me ls k d (omega arith)
 
-pub behind_past : (me : Me) (ls : List Line) (k : ℕ) → length ls ≤ k → behind me ls k ≡ leaving me
+pub behind_past : (me : Me) (ls : List Line) (k : ℕ) → length ls ≤ k → behind me ls k ≡ leave_work me
 behind_past me [] k far = refl
 behind_past me (l ∷ ls) zero far = absurd (omega arith)
 behind_past me (l ∷ ls) (suc k) far = behind_past me ls k (omega arith)
@@ -110,7 +83,7 @@ line_fits clients who (x ∷ ls) (suc k) l all at = line_fits clients who ls k l
 -- ---- a client that may begin
 
 -- the numbers of a line that fits
-pub may_stand : (me : Me) (l : Line) → LineFits me.geometry.clients me.who l → MayStand me l
+pub may_stand : (me : Me) (l : Line) → LineFits me.geometry.clients me.who l → LineMayStand me l
 may_stand me (line.Put key n) f = tt
 may_stand me (line.Del key) f = tt
 may_stand me (line.Get a key) f = f.0
@@ -140,6 +113,6 @@ module _ (me : Me) (geometry : GeometryFits me.geometry) (who : me.who < me.geom
 
   pub behind_fits : (ls : List Line) (k : ℕ) → AllByRecursion (LineFits me.geometry.clients me.who) ls → WorkFits (behind me ls k) r r []
   behind_fits [] k all =
-      calls_begin leave_parts leave_plan leave_laws (leave_state me) r refl refl (leave_begin me r (idle_may_leave me r (record { geometry = geometry; who = who }) h.idle h.latch h.dying h.unsent h.untaken))
+      calls_begin leave_parts leave_plan leave_laws (leaving me) r refl refl (leave_begin me r (idle_may_leave me r (record { geometry = geometry; who = who }) h.idle h.latch h.dying h.unsent h.untaken))
   behind_fits (l ∷ ls) zero all = command_fits l all.0
   behind_fits (l ∷ ls) (suc k) all = behind_fits ls k all.1

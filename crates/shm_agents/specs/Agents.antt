@@ -9,8 +9,8 @@ use Rattle.shm_graph.specs.{Agents.{last_agent, recovers, steps_made, steps_of},
 use Rattle.shm_graph.specs.{Held.is_loose, Idle.IsIdle, Laws.GoneNow, Runs.{fell_by, first_account, told_left}}
 use Rattle.shm_graph.specs.{Tells.after_all, Whole.fits_now}
 use Rattle.shm_graph.specs.declared.memo.Status.TheVariants as status
-use Rattle.shm_calls.specs.{declared.or.Or.TheVariants.{First, Second}, Deciding.StillRuns}
-use Rattle.shm_steps.specs.Reparting.{map_in}
+use Rattle.plans.specs.{declared.or.Or.TheVariants.{First, Second}, Deciding.StillRuns}
+use Rattle.kind_parts.specs.Reparting.{map_in}
 use Rattle.shm_recover.specs.Recover.Control.{recover_line}
 use Rattle.shm_script.specs.declared.{line.Line.Line, log.{Answer.Answer, End.End, Entry.Entry}}
 use Rattle.shm_script.specs.{Logged.{Logged, folded}, Ranges.ScriptFits, Values.Scripted}
@@ -19,7 +19,7 @@ use Rattle.shm_table.specs.Command.{command_effect}
 use Rattle.shm_agents.specs.declared.agents.Standing.{Standing, TheVariants.{AtWork, Gone, Dead}}
 use Rattle.shm_agents.specs.Courses.{AreAgents, AreCommandsTold, AreScriptAgents, client_lines}
 use Rattle.shm_agents.specs.{Logs.{AreEntries, AreUnspent, IsLogOf, steps_first}, Turns.lives_of}
-use Rattle.shm_agents.specs.Work.{Work, WorkAnswer, WorkFits, WorkGives, commanding, joining, leaving, recovering, work_control}
+use Rattle.shm_agents.specs.Work.{Work, WorkAnswer, WorkFits, WorkGives, commanding, join_work, leave_work, recover_work, work_control}
 
 -- what contracts see of the agents of a script: which script is theirs, the number of the agent that acts or comes next, what it runs or ran last, the word steps that it has left, the entries of the client, for how many there is room, how the client ended, and whether one of them is at work, the identity is gone, or all of them died
 pub record Playing : Type 0 where
@@ -69,11 +69,11 @@ shown_by (Second (Second m)) = None
 -- one of them has died: the next one comes, if there is one with so many word steps, and recovers the identity
 abbrev pub follows : Option ℕ → Playing → Playing
 follows None x = record x { agent = x.agent + 1; standing = Dead }
-follows (Some n) x = record x { agent = x.agent + 1; work = recovering x.me; life = record { left = n } }
+follows (Some n) x = record x { agent = x.agent + 1; work = recover_work x.me; life = record { left = n } }
 
 -- what comes behind so many commands: the next one, and behind the last one the leaving
 abbrev pub behind : Me → List Line → ℕ → Work
-behind me [] k = leaving me
+behind me [] k = leave_work me
 behind me (line ∷ lines) zero = commanding me line
 behind me (line ∷ lines) (suc k) = behind me lines k
 
@@ -112,7 +112,7 @@ pub record AreTold (me : Me) (told : List LoggedLine) (es : List Entry) : Type 0
 pub record IsFresh (start : Start) (s : Scripted) (x : Playing) (e : Account) : Type 0 where
   pub account : e ≡ first_account start x.me.who
   pub agent : x.agent ≡ 0
-  pub work : x.work ≡ joining x.me
+  pub work : x.work ≡ join_work x.me
   pub entries : x.entries ≡ []
   pub life : slice_get (lives_of s.life) 0 ≡ Some x.life.left
   pub end : x.end ≡ None
@@ -186,7 +186,7 @@ pub record IsFallen (s : Scripted) (x : Playing) (e : Account) : Type 0 where
   pub fell : fell_by (last_agent e.memo.agents) ≡ true
   pub died : AreAgents s.lines (take x.agent (lives_of s.life)) e.memo.agents e.begun true
   pub made : steps_made e.memo ≡ sum (take x.agent (lives_of s.life))
-  pub next : ((x.standing ≡ Dead) × (slice_get (lives_of s.life) x.agent ≡ None)) ⊎ ((x.standing ≡ AtWork) × (slice_get (lives_of s.life) x.agent ≡ Some x.life.left) × (x.work ≡ recovering x.me))
+  pub next : ((x.standing ≡ Dead) × (slice_get (lives_of s.life) x.agent ≡ None)) ⊎ ((x.standing ≡ AtWork) × (slice_get (lives_of s.life) x.agent ≡ Some x.life.left) × (x.work ≡ recover_work x.me))
 
 -- A recoverer acts behind agents that died, which began its recovery at the memo `start` and nothing else
 pub record IsMending (s : Scripted) (x : Playing) (e : Account) : Type 0 where
@@ -206,9 +206,9 @@ pub record IsMending (s : Scripted) (x : Playing) (e : Account) : Type 0 where
   pub going : work_control.finished x.work ≡ false
   pub old : work_control.fresh x.work ≡ false
   pub fits : fits_now work_control WorkFits x.work start e.memo
-  pub gave : (r : Memo) (tr : Trail) (a : WorkAnswer) → WorkGives x.work start r tr a → WorkGives (recovering x.me) start r tr a
-  pub line : work_control.line x.work ≡ work_control.line (recovering x.me)
-  pub course : after_all work_control (recovering x.me) e.memo.call ≡ x.work
+  pub gave : (r : Memo) (tr : Trail) (a : WorkAnswer) → WorkGives x.work start r tr a → WorkGives (recover_work x.me) start r tr a
+  pub line : work_control.line x.work ≡ work_control.line (recover_work x.me)
+  pub course : after_all work_control (recover_work x.me) e.memo.call ≡ x.work
   pub over : e.memo.over ≡ false
   pub begun : List (List (List ℕ))
   pub is_begun : e.begun ≡ begun ++ (recover_line ∷ []) ∷ []
@@ -251,6 +251,6 @@ pub data Stage (start : Start) (s : Scripted) (x : Playing) (e : Account) : Type
   Mended : IsMended s x e → IsSettled s x e e.told → Stage start s x e
 
 -- The agents x of a script stand in a pool that was made so and accounts for e of their identity. Neither words nor another identity are spoken of, so that turns of others keep it
-pub record Stands (start : Start) (s : Scripted) (x : Playing) (e : Account) : Type 0 where
+pub record AgentsStand (start : Start) (s : Scripted) (x : Playing) (e : Account) : Type 0 where
   pub may : MayPlay start s x
   pub stage : Stage start s x e

@@ -5,3 +5,4 @@ pub mod Courses
 pub mod Agents
 pub mod TurnsLeft
 pub mod Cuts
+pub mod Proved

@@ -4,7 +4,7 @@ use Rattle.std.specs.Option.{option_map}
 use Rattle.shm_graph.specs.declared.{ask.Me.Me, memo.{Agent.Agent, Fate.{Fate, TheVariants.Ended}, Memo.Memo}}
 use Rattle.shm_graph.specs.{declared.run.Account.Account, Agents.{acts, last_agent}, Tells.after_all}
 use Rattle.shm_script.specs.Values.{Scripted}
-use Rattle.shm_agents.specs.Work.{Work, joining, recovering, work_control, work_of}
+use Rattle.shm_agents.specs.Work.{Work, join_work, recover_work, work_control, work_of}
 
 -- ---- the agents of a script: its client, and recoverers, each of which begins where the one before it died
 
@@ -54,8 +54,8 @@ work_at work e =
 
 -- what the agent with this number begins with
 abbrev pub first_of : Me → ℕ → Work
-first_of me zero = joining me
-first_of me (suc n) = recovering me
+first_of me zero = join_work me
+first_of me (suc n) = recover_work me
 
 -- what is to be done next by the agent that acts, or else by the next one; none where the last one has ended, or no more come
 abbrev pub next_by : Me → Scripted → Account → Option Work

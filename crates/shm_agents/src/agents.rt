@@ -5,14 +5,15 @@ ghost use Rattle.std.specs.Option.{is_some};
 ghost use Rattle.shm_words.specs.Layout.{GeometryFits};
 ghost use Rattle.shm_graph.specs.{declared.run.Start.Start as AStart, Agents.acts, Runs.first_account, Laws.step_of};
 ghost use Rattle.shm_script.specs.{declared.{line.Line.Line as ALine, log.End.TheVariants.Died}, Ranges.ScriptFits};
-ghost use Rattle.shm_table.specs.Command.{MayStand};
-ghost use Rattle.shm_agents.specs.Agents.{Stands, behind, follows, is_client, is_command, logged, shown_by};
+ghost use Rattle.shm_table.specs.Command.{LineMayStand};
+ghost use Rattle.shm_agents.specs.Agents.{AgentsStand, behind, follows, is_client, is_command, logged, shown_by};
 ghost use Rattle.shm_agents.specs.{Cuts.{IsCut, account_cut}, Logs.with_effect, TurnsLeft.{turns_by, turns_given}};
 ghost use Rattle.shm_agents.specs.{Turns.lives_of, Work.work_control};
 ghost use Rattle.shm_agents.specs.Work as work;
 
-use crate::work::{Work, commanding, joining, leaving, recovering};
-use shm_calls::Or;
+use crate::piece::Piece;
+use crate::work::Work;
+use plans::Or;
 use shm_graph::{Life, Me, Turn};
 use shm_plain::Workplace;
 use shm_script::{Answer, End, Entry, Line, Log, Script};
@@ -37,14 +38,14 @@ pub enum Standing {
 /// The agents of a script, one after the other: a client that joins, runs the commands in order, and leaves; and where it dies recoverers,
 /// each of which begins where the one before it died.
 #[derive(Drop)]
-pub struct Agents {
+pub struct Agents<P: Piece> {
     me: Me,
     /// Which of the scripts is theirs.
     script: usize,
     /// The number of the one that acts, or comes next: the client's is 0.
     agent: usize,
     /// What it runs, or ran last.
-    work: Work,
+    work: Work<P>,
     life: Life,
     /// The commands that have answered, and the one that had its effect where the client died in it.
     entries: Vec<Entry>,
@@ -53,7 +54,7 @@ pub struct Agents {
     standing: Standing,
 }
 
-impl Model for Agents {
+impl<P: Piece> Model for Agents<P> {
     ghost use Rattle.std.specs.Prelude.{vec_capacity};
     ghost use Rattle.shm_agents.specs.Agents.{Playing};
 
@@ -73,22 +74,22 @@ fn life_at(life: &[u64], agent: usize) -> Option<u64>
     if agent <= last { Some(LIFE) } else { None }
 }
 
-impl Agents {
+impl<P: Piece> Agents<P> {
     /// The agents of the identity `me` that has this script, before their first word step. There is room for an answer to each command.
-    pub fn new(alloc: Global, me: Me, at: usize, script: &Script) -> Result<Agents, AllocError>
+    pub fn new(alloc: Global, me: Me, at: usize, script: &Script) -> Result<Agents<P>, AllocError>
         requires geometry { GeometryFits me.geometry }
         requires who { me.who < me.geometry.clients }
         ensures me { IfOk result (λ x. x.me ≡ me) }
         ensures script { IfOk result (λ x. x.script ≡ at) }
         ensures here { IfOk result (λ x. x.standing ≡ Standing.AtWork) }
-        ensures stands { IfOk result (λ x. (start : AStart) → start.geometry ≡ me.geometry → start.first_era < 2 ^ 46 → start.tables ≡ true → script.now.client ≡ me.who → ScriptFits me.geometry.clients script.now → Stands start script.now x (first_account start me.who)) }
+        ensures stands { IfOk result (λ x. (start : AStart) → start.geometry ≡ me.geometry → start.first_era < 2 ^ 46 → start.tables ≡ true → script.now.client ≡ me.who → ScriptFits me.geometry.clients script.now → AgentsStand start script.now x (first_account start me.who)) }
     {
         let life = life_at(script.life.as_slice(), 0).unwrap();
         Ok(Agents {
             me,
             script: at,
             agent: 0,
-            work: joining(me),
+            work: Work::joining(me),
             life: Life::of(life),
             entries: Vec::with_capacity(alloc, script.lines.len())?,
             end: None,
@@ -128,7 +129,7 @@ impl Agents {
     pub fn is_at_command(&self) -> bool
         ensures { result ≡ is_command self.now.work }
     {
-        matches!(self.work, Or::Second(Or::First(_)))
+        self.work.is_command()
     }
 
     /// How many of the commands have answered, or had their effect.
@@ -142,7 +143,7 @@ impl Agents {
     #[inline(always)]
     pub fn turn<W: Workplace>(&mut self, script: &Script, pool: &mut W)
         requires has { W.has pool.old self.old.me.who }
-        requires stands { Stands (W.start pool.old) script.now self.old (W.account pool.old self.old.me.who) }
+        requires stands { AgentsStand (W.start pool.old) script.now self.old (W.account pool.old self.old.me.who) }
         requires here { self.old.standing ≡ Standing.AtWork }
         ensures start { W.start pool.new ≡ W.start pool.old }
         ensures has { W.has pool.new self.old.me.who }
@@ -150,7 +151,7 @@ impl Agents {
         ensures fell { self.old.life.left ≡ 0 → W.fell pool.old self.old.me.who pool.new }
         ensures me { self.new.me ≡ self.old.me }
         ensures script { self.new.script ≡ self.old.script }
-        ensures stands { Stands (W.start pool.new) script.now self.new (W.account pool.new self.old.me.who) }
+        ensures stands { AgentsStand (W.start pool.new) script.now self.new (W.account pool.new self.old.me.who) }
         ensures given { turns_given (W.account pool.new self.old.me.who) ≡ turns_given (W.account pool.old self.old.me.who) + 1 }
         ensures turns { turns_by self.new (Some script.now) < turns_by self.old (Some script.now) }
     {
@@ -179,7 +180,7 @@ impl Agents {
     #[inline(never)]
     fn die<W: Workplace>(&mut self, script: &Script, pool: &mut W)
         requires has { W.has pool.old self.old.me.who }
-        requires stands { Stands (W.start pool.old) script.now self.old (W.account pool.old self.old.me.who) }
+        requires stands { AgentsStand (W.start pool.old) script.now self.old (W.account pool.old self.old.me.who) }
         requires here { self.old.standing ≡ Standing.AtWork }
         requires spent { self.old.life.left ≡ 0 }
         ensures start { W.start pool.new ≡ W.start pool.old }
@@ -187,7 +188,7 @@ impl Agents {
         ensures fell { W.fell pool.old self.old.me.who pool.new }
         ensures me { self.new.me ≡ self.old.me }
         ensures script { self.new.script ≡ self.old.script }
-        ensures stands { Stands (W.start pool.new) script.now self.new (W.account pool.new self.old.me.who) }
+        ensures stands { AgentsStand (W.start pool.new) script.now self.new (W.account pool.new self.old.me.who) }
         ensures given { turns_given (W.account pool.new self.old.me.who) ≡ turns_given (W.account pool.old self.old.me.who) + 1 }
         ensures turns { turns_by self.new (Some script.now) < turns_by self.old (Some script.now) }
     {
@@ -206,7 +207,7 @@ impl Agents {
     /// It tells whether one of them had begun.
     pub fn cut<W: Workplace>(&mut self, script: &Script, pool: &mut W) -> bool
         requires has { W.has pool.old self.old.me.who }
-        requires stands { Stands (W.start pool.old) script.now self.old (W.account pool.old self.old.me.who) }
+        requires stands { AgentsStand (W.start pool.old) script.now self.old (W.account pool.old self.old.me.who) }
         requires here { self.old.standing ≡ Standing.AtWork }
         ensures start { W.start pool.new ≡ W.start pool.old }
         ensures has { W.has pool.new self.old.me.who }
@@ -258,9 +259,9 @@ impl Agents {
     fn recover(&mut self, left: u64)
         requires geometry { GeometryFits self.old.me.geometry }
         requires who { self.old.me.who < self.old.me.geometry.clients }
-        ensures { self.new ≡ record self.old { work = work.recovering self.old.me; life = record { left = left } } }
+        ensures { self.new ≡ record self.old { work = work.recover_work self.old.me; life = record { left = left } } }
     {
-        let next = recovering(self.me);
+        let next = Work::recovering(self.me);
         self.life = Life::of(left);
         self.work = next;
     }
@@ -273,7 +274,7 @@ impl Agents {
         ensures { (line : ALine) → (is_some (shown_by self.old.work) ≡ true → slice_get lines.now (length self.old.entries) ≡ Some line) → self.new ≡ record self.old { entries = with_effect self.old.entries line (shown_by self.old.work); end = Some (Died (length self.old.entries) (is_some (shown_by self.old.work))) } }
     {
         let finished = self.entries.len() as u32;
-        let effect = self.effect();
+        let effect = self.work.effect();
         if let Some(answer) = effect {
             self.note(lines, answer);
         }
@@ -281,16 +282,6 @@ impl Agents {
             finished,
             done: effect.is_some(),
         });
-    }
-
-    /// What the command that is running shows of its answer; none where no command is.
-    fn effect(&self) -> Option<Answer>
-        ensures { result ≡ shown_by self.now.work }
-    {
-        match &self.work {
-            Or::Second(Or::First(command)) => command.effect(),
-            _ => None,
-        }
     }
 
     /// Notes the answer of a command.
@@ -309,14 +300,14 @@ impl Agents {
     fn begin(&mut self, lines: &[Line])
         requires geometry { GeometryFits self.old.me.geometry }
         requires who { self.old.me.who < self.old.me.geometry.clients }
-        requires line { (line : ALine) → slice_get lines.now (length self.old.entries) ≡ Some line → MayStand self.old.me line }
+        requires line { (line : ALine) → slice_get lines.now (length self.old.entries) ≡ Some line → LineMayStand self.old.me line }
         ensures { self.new ≡ record self.old { work = behind self.old.me lines.now (length self.old.entries) } }
     {
         let answered = self.entries.len();
         let next = if answered < lines.len() {
-            commanding(self.me, &lines[answered])
+            Work::commanding(self.me, &lines[answered])
         } else {
-            leaving(self.me)
+            Work::leaving(self.me)
         };
         self.work = next;
     }

@@ -2,4 +2,6 @@
 #![tactic(auto)]
 
 pub mod agents;
-mod work;
+pub mod machine;
+pub mod piece;
+pub mod work;

@@ -2,51 +2,126 @@
 
 ghost use Rattle.std.specs.Prelude.{◌≡◌, ◌<◌};
 ghost use Rattle.shm_words.specs.Layout.{GeometryFits};
-ghost use Rattle.shm_table.specs.Command.{MayStand};
-ghost use Rattle.shm_agents.specs.Work as work;
+ghost use Rattle.shm_table.specs.Command.{LineMayStand};
+ghost use Rattle.shm_agents.specs.{Agents.{is_command, shown_by}, Work.{WorkFits, WorkGives, work_control}};
+ghost use Rattle.shm_agents.specs.Proved.WorkLaws.{work_laws};
+ghost use Rattle.shm_agents.specs.Work as pieces;
 
-use shm_calls::{Calls, Or};
-use shm_graph::Me;
-use shm_recover::{Join, Leave, Recover};
-use shm_script::Line;
-use shm_table::Command;
+use crate::piece::{Outcome, Piece};
+use shm_graph::{Ask, Machine, Me, Site, Turn};
+use shm_script::{Answer, Line};
+use std::marker::Model;
 
-/// A piece of work: a join, a recovery, a command or a leaving.
-pub(crate) type Work = Or<Or<Join, Calls<Recover>>, Or<Command, Calls<Leave>>>;
-
-/// The join of an identity.
-pub(crate) fn joining(me: Me) -> Work
-    requires geometry { GeometryFits me.geometry }
-    requires who { me.who < me.geometry.clients }
-    ensures { result ≡ work.joining me }
-{
-    Or::First(Or::First(Join::new(me)))
+/// A piece of work, whatever it is made of: contracts see what `Piece` shows of it.
+#[derive(Drop)]
+pub struct Work<P: Piece> {
+    piece: P,
 }
 
-/// The recovery of an identity.
-pub(crate) fn recovering(me: Me) -> Work
-    requires geometry { GeometryFits me.geometry }
-    requires who { me.who < me.geometry.clients }
-    ensures { result ≡ work.recovering me }
-{
-    Or::First(Or::Second(Calls::new(Recover::new(me))))
+impl<P: Piece> Model for Work<P> {
+    ghost use Rattle.shm_agents.specs.Work.{Work as AWork};
+
+    ghost Value = { AWork };
+
+    ghost view = { λ x. P.work x.piece };
 }
 
-/// The command of a line.
-pub(crate) fn commanding(me: Me, line: &Line) -> Work
-    requires geometry { GeometryFits me.geometry }
-    requires who { me.who < me.geometry.clients }
-    requires line { MayStand me line.now }
-    ensures { result ≡ work.commanding me line.now }
-{
-    Or::Second(Or::First(Command::new(me, line)))
+impl<P: Piece> Work<P> {
+    /// The join of an identity.
+    pub(crate) fn joining(me: Me) -> Work<P>
+        requires geometry { GeometryFits me.geometry }
+        requires who { me.who < me.geometry.clients }
+        ensures { result ≡ pieces.join_work me }
+    {
+        Work {
+            piece: P::joining(me),
+        }
+    }
+
+    /// The recovery of an identity.
+    pub(crate) fn recovering(me: Me) -> Work<P>
+        requires geometry { GeometryFits me.geometry }
+        requires who { me.who < me.geometry.clients }
+        ensures { result ≡ pieces.recover_work me }
+    {
+        Work {
+            piece: P::recovering(me),
+        }
+    }
+
+    /// The command of a line.
+    pub(crate) fn commanding(me: Me, line: &Line) -> Work<P>
+        requires geometry { GeometryFits me.geometry }
+        requires who { me.who < me.geometry.clients }
+        requires line { LineMayStand me line.now }
+        ensures { result ≡ pieces.commanding me line.now }
+    {
+        Work {
+            piece: P::commanding(me, line),
+        }
+    }
+
+    /// The leaving of an identity.
+    pub(crate) fn leaving(me: Me) -> Work<P>
+        requires geometry { GeometryFits me.geometry }
+        requires who { me.who < me.geometry.clients }
+        ensures { result ≡ pieces.leave_work me }
+    {
+        Work {
+            piece: P::leaving(me),
+        }
+    }
+
+    /// Whether it is a command.
+    #[inline(always)]
+    pub(crate) fn is_command(&self) -> bool
+        ensures { result ≡ is_command self.now }
+    {
+        self.piece.is_command()
+    }
+
+    /// What a command that is running shows of its answer; none where it is no command.
+    #[inline(always)]
+    pub(crate) fn effect(&self) -> Option<Answer>
+        ensures { result ≡ shown_by self.now }
+    {
+        self.piece.effect()
+    }
 }
 
-/// The leaving of an identity.
-pub(crate) fn leaving(me: Me) -> Work
-    requires geometry { GeometryFits me.geometry }
-    requires who { me.who < me.geometry.clients }
-    ensures { result ≡ work.leaving me }
-{
-    Or::Second(Or::Second(Calls::new(Leave::new(me))))
+impl<P: Piece> Machine for Work<P> {
+    type Answer = Outcome;
+
+    ghost control = { work_control };
+
+    ghost fits = { WorkFits };
+
+    ghost gives = { WorkGives };
+
+    #[inline(always)]
+    fn me(&self) -> Me {
+        self.piece.me()
+    }
+
+    #[inline(always)]
+    fn finished(&self) -> bool {
+        self.piece.finished()
+    }
+
+    #[inline(always)]
+    fn ask(&self) -> Ask {
+        self.piece.ask()
+    }
+
+    #[inline(always)]
+    fn take(&mut self, seen: u64) -> Turn<Outcome> {
+        self.piece.take(seen)
+    }
+
+    #[inline(always)]
+    fn act<S: Site>(&mut self, site: &S, words: &mut S::Words) -> Turn<Outcome> {
+        self.piece.act(site, words)
+    }
+
+    ghost laws = { work_laws };
 }

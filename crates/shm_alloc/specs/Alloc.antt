@@ -24,7 +24,7 @@ use Rattle.shm_alloc.specs.declared.point.{AllocState.AllocState, AllocNext.{All
 use Rattle.shm_alloc.specs.Alloc.Control.{class_asked, tag_asked, redo_asked, segment_at, page_at, AllocInRange, alloc_control}
 use Rattle.shm_alloc.specs.Alloc.Events.{alloc_event, alloc_start, events_at, own_events}
 use Rattle.shm_alloc.specs.Alloc.Asks.{AllocTrails, alloc_trail, root_trail, segment_trail, page_trail, header_trail, block_trail, reference_trail, plain_trail, live_trail, more_trail, commit_trail, slot_trail, close_trail, class_trail}
-use Rattle.shm_calls.specs.Grown.{Grows}
+use Rattle.plans.specs.Grown.{Grows}
 
 -- ---- what the memo shows on the way
 

@@ -10,7 +10,7 @@ ghost use Rattle.shm_alloc.specs.declared.point.{AllocPoint.TheVariants.Era, All
 
 use crate::point::{AllocNext, AllocPoint, AllocState};
 use crate::request::{Near, Request};
-use shm_calls::Begin;
+use plans::Begin;
 use shm_count::Made;
 use shm_graph::{Ask, Machine, Me, Operation, Site, Turn};
 use std::marker::Model;

@@ -4,7 +4,7 @@ ghost use Rattle.std.specs.Prelude.{◌≡◌, ◌≢◌, ℕ, ◌<◌, true, fa
 ghost use Rattle.std.specs.List.{Contains};
 ghost use Rattle.shm_graph.specs.{declared.{memo.Memo.Memo as AMemo, spot.Spot.TheVariants.Root}, Agents.recovers};
 ghost use Rattle.shm_graph.specs.{Asks.Trail, Events.Event, Operations.IsHeld, Views.own_word};
-ghost use Rattle.shm_calls.specs.{Grown.{Grows, grown}, Parts.PartLaws};
+ghost use Rattle.plans.specs.{Grown.{Grows, grown}, Parts.PartLaws};
 ghost use Rattle.shm_count.specs.declared.{answer.Made.Made as AMade, point.Aim.TheVariants.Up};
 ghost use Rattle.shm_count.specs.{MadeSteps.made_up_part, Roots.{AreRootsReached, root_step, root_word}};
 ghost use Rattle.shm_count.specs.{Step.Control.IsInside, Waiting.LeavesQueues};

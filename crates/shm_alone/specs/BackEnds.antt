@@ -1,11 +1,9 @@
 -- blocks that are taken back, working alone: how many word steps come behind a call, and that they are paid for
 use Rattle.std.proofs.Common.{ℕ, ◌*◌, ◌-◌}
-use Rattle.std.specs.Prelude.{Result}
 use Rattle.shm_graph.specs.declared.spot.Spot.{Spot}
-use Rattle.shm_calls.specs.declared.calls.Calls.{Calls}
-use Rattle.shm_count.specs.declared.answer.EraSpent.{EraSpent}
+use Rattle.plans.specs.declared.calls.Calls.{Calls}
 use Rattle.shm_recover.specs.declared.take_back.BackPoint.{BackPoint, TheVariants.{Tail, Head, Slot}}
-use Rattle.shm_recover.specs.{declared.take_back.BackState.BackState, TakeBack.Control.{BackAnswer, BackCall, passed}}
+use Rattle.shm_recover.specs.{declared.take_back.BackState.BackState, TakeBack.Control.{BackCall, passed}}
 use Rattle.shm_alone.specs.{Lifting.{anything, calls_alone, calls_left}, RootsEnd.{part_alone, part_left}}
 
 -- how many word steps come behind the call at a point at most, but for those that events pay: 200 for each queue
@@ -19,8 +17,8 @@ abbrev pub back_rest : BackState → ℕ
 back_rest m = back_rest_at m m.point
 
 -- what it knows of the words, and how many word steps it has left
-abbrev pub back_alone : Calls BackState BackCall (Result (Unit {0}) EraSpent) BackAnswer → (Spot → ℕ) → Type 0
+abbrev pub back_alone : Calls BackState BackCall → (Spot → ℕ) → Type 0
 back_alone = calls_alone part_alone anything
 
-abbrev pub back_left : Calls BackState BackCall (Result (Unit {0}) EraSpent) BackAnswer → ℕ
+abbrev pub back_left : Calls BackState BackCall → ℕ
 back_left = calls_left part_left back_rest

@@ -1,7 +1,7 @@
 -- segments that are given up, working alone: how many word steps come behind one, and that each is paid for
 use Rattle.std.proofs.Common.{ℕ, ◌*◌, ◌-◌}
 use Rattle.shm_graph.specs.declared.spot.Spot.{Spot}
-use Rattle.shm_calls.specs.declared.{calls.Calls.Calls, word.Word.Word}
+use Rattle.plans.specs.declared.{calls.Calls.Calls, word.Word.Word}
 use Rattle.shm_recover.specs.declared.give_up.GivePoint.{GivePoint, TheVariants.{Look, Give, Status}}
 use Rattle.shm_recover.specs.declared.give_up.GiveState.{GiveState}
 use Rattle.shm_alone.specs.Lifting.{anything, calls_alone, calls_left, word_left}
@@ -20,8 +20,8 @@ abbrev pub give_rest : GiveState → ℕ
 give_rest m = give_rest_at m m.point
 
 -- what it knows of the words, and how many word steps it has left
-abbrev pub give_alone : Calls GiveState Word (Unit {0}) ℕ → (Spot → ℕ) → Type 0
+abbrev pub give_alone : Calls GiveState Word → (Spot → ℕ) → Type 0
 give_alone = calls_alone anything anything
 
-abbrev pub give_left : Calls GiveState Word (Unit {0}) ℕ → ℕ
+abbrev pub give_left : Calls GiveState Word → ℕ
 give_left = calls_left word_left give_rest

@@ -1,9 +1,7 @@
 -- a leaving that works alone ends: how many word steps come behind a call, and that they are paid for
 use Rattle.std.proofs.Common.{ℕ, ◌+◌, ◌*◌, ◌-◌}
-use Rattle.std.specs.Prelude.{Result}
 use Rattle.shm_graph.specs.declared.spot.Spot.{Spot}
-use Rattle.shm_calls.specs.declared.calls.Calls.{Calls}
-use Rattle.shm_count.specs.declared.answer.EraSpent.{EraSpent}
+use Rattle.plans.specs.declared.calls.Calls.{Calls}
 use Rattle.shm_recover.specs.declared.leave.LeavePoint.{LeavePoint, TheVariants.{Roots, Look, Give, Status}}
 use Rattle.shm_recover.specs.{declared.leave.LeaveState.LeaveState, Leave.Control.{LeaveAnswer, LeaveCall}}
 use Rattle.shm_alone.specs.Lifting.{anything, calls_alone, calls_left, or_alone, or_left, or_saved, word_left, word_saved}
@@ -30,8 +28,8 @@ abbrev pub leave_call_saved : LeaveAnswer → ℕ
 leave_call_saved = or_saved roots_saved word_saved
 
 -- what it knows of the words, and how many word steps it has left
-abbrev pub leave_alone : Calls LeaveState LeaveCall (Result (Unit {0}) EraSpent) LeaveAnswer → (Spot → ℕ) → Type 0
+abbrev pub leave_alone : Calls LeaveState LeaveCall → (Spot → ℕ) → Type 0
 leave_alone = calls_alone leave_call_alone anything
 
-abbrev pub leave_left : Calls LeaveState LeaveCall (Result (Unit {0}) EraSpent) LeaveAnswer → ℕ
+abbrev pub leave_left : Calls LeaveState LeaveCall → ℕ
 leave_left = calls_left leave_call_left leave_rest

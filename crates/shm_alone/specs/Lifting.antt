@@ -1,16 +1,16 @@
 -- machines that are made of others end alone where those do: a machine of calls, one of two machines, one word step, and a machine whose answers are told otherwise
 use Rattle.std.proofs.Common.{ℕ, ◌+◌, []}
 use Rattle.shm_graph.specs.declared.spot.Spot.{Spot}
-use Rattle.shm_calls.specs.declared.{calls.Calls.Calls, or.Or.{Or, TheVariants.{First, Second}}, word.Word.Word}
+use Rattle.plans.specs.declared.{calls.Calls.Calls, or.Or.{Or, TheVariants.{First, Second}}, word.Word.Word}
 
 -- ---- calls of a plan
 
 -- what a machine of calls knows of the words: what its call does, and what its plan does
-abbrev pub calls_alone : {P C A B : Type 0} → (C → (Spot → ℕ) → Type 0) → (P → (Spot → ℕ) → Type 0) → Calls P C A B → (Spot → ℕ) → Type 0
+abbrev pub calls_alone : {P C : Type 0} → (C → (Spot → ℕ) → Type 0) → (P → (Spot → ℕ) → Type 0) → Calls P C → (Spot → ℕ) → Type 0
 calls_alone alone stands m w = alone m.call w × stands m.plan w
 
 -- what it has left: what its call has, and what comes after the call
-abbrev pub calls_left : {P C A B : Type 0} → (C → ℕ) → (P → ℕ) → Calls P C A B → ℕ
+abbrev pub calls_left : {P C : Type 0} → (C → ℕ) → (P → ℕ) → Calls P C → ℕ
 calls_left left rest m = left m.call + rest m.plan
 
 -- ---- plans that know nothing of the words

@@ -1,7 +1,7 @@
 -- the second half of a change, as a recoverer that works alone makes it, ends: its exchange finds the header that it read
 use Rattle.std.proofs.Common.{◌≡◌, ℕ, []}
 use Rattle.shm_graph.specs.declared.spot.Spot.{Spot, TheVariants.Head}
-use Rattle.shm_calls.specs.declared.{calls.Calls.Calls, word.Word.Word}
+use Rattle.plans.specs.declared.{calls.Calls.Calls, word.Word.Word}
 use Rattle.shm_recover.specs.declared.mend_lower.MendLowerPoint.{MendLowerPoint}
 use Rattle.shm_recover.specs.declared.mend_lower.MendLowerPoint.TheVariants.{Header, Row, Show, Exchange, Close}
 use Rattle.shm_recover.specs.declared.mend_lower.MendLowerState.{MendLowerState}
@@ -31,8 +31,8 @@ abbrev pub lower_rest : MendLowerState → ℕ
 lower_rest m = lower_rest_at m.point
 
 -- what it knows of the words, and how many word steps it has left
-abbrev pub lower_alone : Calls MendLowerState Word (Unit {0}) ℕ → (Spot → ℕ) → Type 0
+abbrev pub lower_alone : Calls MendLowerState Word → (Spot → ℕ) → Type 0
 lower_alone = calls_alone anything lower_stands
 
-abbrev pub lower_left : Calls MendLowerState Word (Unit {0}) ℕ → ℕ
+abbrev pub lower_left : Calls MendLowerState Word → ℕ
 lower_left = calls_left word_left lower_rest

@@ -1,7 +1,7 @@
 -- a mending that works alone ends: how many word steps come behind a call, and that they are paid for
 use Rattle.std.proofs.Common.{ℕ, ◌+◌}
 use Rattle.shm_graph.specs.{declared.spot.Spot.Spot, Bounds.redo_steps}
-use Rattle.shm_calls.specs.declared.calls.Calls.{Calls}
+use Rattle.plans.specs.declared.calls.Calls.{Calls}
 use Rattle.shm_recover.specs.declared.mend.MendPoint.{MendPoint}
 use Rattle.shm_recover.specs.declared.mend.MendPoint.TheVariants.{Dead, Era, Redo, More, Test, Slot, Close, Lower, Unlatch}
 use Rattle.shm_recover.specs.{declared.mend.MendState.MendState, Mend.Control.{MendAnswer, MendCall}}
@@ -36,8 +36,8 @@ abbrev pub mend_call_saved : MendAnswer → ℕ
 mend_call_saved = or_saved word_saved (or_saved test_saved (or_saved none_over none_over))
 
 -- what it knows of the words, and how many word steps it has left
-abbrev pub mend_alone : Calls MendState MendCall (Unit {0}) MendAnswer → (Spot → ℕ) → Type 0
+abbrev pub mend_alone : Calls MendState MendCall → (Spot → ℕ) → Type 0
 mend_alone = calls_alone mend_call_alone anything
 
-abbrev pub mend_left : Calls MendState MendCall (Unit {0}) MendAnswer → ℕ
+abbrev pub mend_left : Calls MendState MendCall → ℕ
 mend_left = calls_left mend_call_left mend_rest

@@ -2,7 +2,7 @@
 use Rattle.std.proofs.Common.{ℕ, ◌+◌, ◌-◌, ◌*◌}
 use Rattle.std.specs.Prelude.{Result, Ok, Err}
 use Rattle.shm_graph.specs.declared.spot.Spot.{Spot}
-use Rattle.shm_calls.specs.declared.calls.Calls.{Calls}
+use Rattle.plans.specs.declared.calls.Calls.{Calls}
 use Rattle.shm_count.specs.declared.answer.EraSpent.{EraSpent}
 use Rattle.shm_queue.specs.declared.{answer.TakeFault.TakeFault, drain.DrainPoint.DrainPoint}
 use Rattle.shm_queue.specs.declared.drain.{DrainPoint.TheVariants.{Status, Item}, DrainState.DrainState}
@@ -62,8 +62,8 @@ abbrev pub drain_call_saved : DrainAnswer → ℕ
 drain_call_saved = or_saved word_saved take_saved
 
 -- what it knows of the words, and what it has left
-abbrev pub drain_alone : Calls DrainState DrainCall (Result ℕ EraSpent) DrainAnswer → (Spot → ℕ) → Type 0
+abbrev pub drain_alone : Calls DrainState DrainCall → (Spot → ℕ) → Type 0
 drain_alone = calls_alone drain_call_alone anything
 
-abbrev pub drain_left : Calls DrainState DrainCall (Result ℕ EraSpent) DrainAnswer → ℕ
+abbrev pub drain_left : Calls DrainState DrainCall → ℕ
 drain_left = calls_left drain_call_left drain_plan_rest

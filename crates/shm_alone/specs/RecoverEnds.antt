@@ -1,9 +1,7 @@
 -- a recovery that works alone ends: how many word steps come behind a call, and that they are paid for
 use Rattle.std.proofs.Common.{ℕ, ◌+◌, ◌*◌}
-use Rattle.std.specs.Prelude.{Result}
 use Rattle.shm_graph.specs.declared.{ask.Me.Me, spot.Spot.Spot}
-use Rattle.shm_calls.specs.declared.calls.Calls.{Calls}
-use Rattle.shm_count.specs.declared.answer.EraSpent.{EraSpent}
+use Rattle.plans.specs.declared.calls.Calls.{Calls}
 use Rattle.shm_recover.specs.declared.recover.RecoverPoint.{RecoverPoint}
 use Rattle.shm_recover.specs.declared.recover.RecoverPoint.TheVariants.{Mend, Roots, Back, Takes, Scan, Give}
 use Rattle.shm_recover.specs.{declared.recover.RecoverState.RecoverState, Recover.Control.{RecoverAnswer, RecoverCall}}
@@ -35,8 +33,8 @@ abbrev pub recover_call_saved : RecoverAnswer → ℕ
 recover_call_saved = or_saved none_over (or_saved roots_saved (or_saved none_over (or_saved none_over (or_saved none_over none_over))))
 
 -- what it knows of the words, and how many word steps it has left
-abbrev pub recover_alone : Calls RecoverState RecoverCall (Result (Unit {0}) EraSpent) RecoverAnswer → (Spot → ℕ) → Type 0
+abbrev pub recover_alone : Calls RecoverState RecoverCall → (Spot → ℕ) → Type 0
 recover_alone = calls_alone recover_call_alone anything
 
-abbrev pub recover_left : Calls RecoverState RecoverCall (Result (Unit {0}) EraSpent) RecoverAnswer → ℕ
+abbrev pub recover_left : Calls RecoverState RecoverCall → ℕ
 recover_left = calls_left recover_call_left recover_rest

@@ -2,7 +2,7 @@
 use Rattle.std.proofs.Common.{ℕ, ◌-◌, ◌*◌, Bool, true}
 use Rattle.std.specs.Prelude.{Result, Ok}
 use Rattle.shm_graph.specs.declared.spot.Spot.{Spot}
-use Rattle.shm_calls.specs.declared.calls.Calls.{Calls}
+use Rattle.plans.specs.declared.calls.Calls.{Calls}
 use Rattle.shm_count.specs.declared.answer.EraSpent.{EraSpent}
 use Rattle.shm_ref.specs.declared.drop_root.{DropPoint.{DropPoint, TheVariants.Load}, DropState.DropState}
 use Rattle.shm_ref.specs.{declared.drop_roots.RootsState.RootsState, DropRoot.Control.{DropAnswer, DropCall}}
@@ -56,8 +56,8 @@ abbrev pub roots_saved : Result (Unit {0}) EraSpent → ℕ
 roots_saved a = 0
 
 -- what it knows of the words, and what it has left
-abbrev pub roots_alone : Calls RootsState RootsCall (Result (Unit {0}) EraSpent) (Result Bool EraSpent) → (Spot → ℕ) → Type 0
+abbrev pub roots_alone : Calls RootsState RootsCall → (Spot → ℕ) → Type 0
 roots_alone = calls_alone drop_alone anything
 
-abbrev pub roots_left : Calls RootsState RootsCall (Result (Unit {0}) EraSpent) (Result Bool EraSpent) → ℕ
+abbrev pub roots_left : Calls RootsState RootsCall → ℕ
 roots_left = calls_left drop_left roots_rest

@@ -1,9 +1,7 @@
 -- a scan that works alone: how many word steps come behind a call, and that they are paid for
 use Rattle.std.proofs.Common.{ℕ, ◌+◌, ◌*◌, ◌-◌}
-use Rattle.std.specs.Prelude.{Result}
 use Rattle.shm_graph.specs.declared.spot.Spot.{Spot}
-use Rattle.shm_calls.specs.declared.calls.Calls.{Calls}
-use Rattle.shm_count.specs.declared.answer.EraSpent.{EraSpent}
+use Rattle.plans.specs.declared.calls.Calls.{Calls}
 use Rattle.shm_recover.specs.declared.scan.ScanPoint.{ScanPoint, TheVariants.{Page, Header, Tear}}
 use Rattle.shm_recover.specs.{declared.scan.ScanState.ScanState, Scan.Control.{ScanAnswer, ScanCall}}
 use Rattle.shm_alone.specs.Lifting.{anything, calls_alone, calls_left, or_alone, or_left, or_saved, word_left, word_saved}
@@ -33,8 +31,8 @@ abbrev pub scan_call_saved : ScanAnswer → ℕ
 scan_call_saved = or_saved word_saved tear_saved
 
 -- what it knows of the words, and how many word steps it has left
-abbrev pub scan_alone : Calls ScanState ScanCall (Result ℕ EraSpent) ScanAnswer → (Spot → ℕ) → Type 0
+abbrev pub scan_alone : Calls ScanState ScanCall → (Spot → ℕ) → Type 0
 scan_alone = calls_alone scan_call_alone anything
 
-abbrev pub scan_left : Calls ScanState ScanCall (Result ℕ EraSpent) ScanAnswer → ℕ
+abbrev pub scan_left : Calls ScanState ScanCall → ℕ
 scan_left = calls_left scan_call_left scan_rest

@@ -1,7 +1,7 @@
 -- takes that are finished, working alone: how many word steps come behind one, and that they are paid for
 use Rattle.std.proofs.Common.{ℕ, ◌*◌, ◌-◌}
 use Rattle.shm_graph.specs.declared.spot.Spot.{Spot}
-use Rattle.shm_calls.specs.declared.{calls.Calls.Calls, word.Word.Word}
+use Rattle.plans.specs.declared.{calls.Calls.Calls, word.Word.Word}
 use Rattle.shm_recover.specs.declared.finish_takes.FinishPoint.{FinishPoint, TheVariants.{Head, Tail, Slot, Store}}
 use Rattle.shm_recover.specs.{declared.finish_takes.FinishState.FinishState, FinishTakes.Control.passed}
 use Rattle.shm_alone.specs.Lifting.{anything, calls_alone, calls_left, word_left}
@@ -17,8 +17,8 @@ abbrev pub finish_rest : FinishState → ℕ
 finish_rest m = finish_rest_at m m.point
 
 -- what it knows of the words, and how many word steps it has left
-abbrev pub finish_alone : Calls FinishState Word (Unit {0}) ℕ → (Spot → ℕ) → Type 0
+abbrev pub finish_alone : Calls FinishState Word → (Spot → ℕ) → Type 0
 finish_alone = calls_alone anything anything
 
-abbrev pub finish_left : Calls FinishState Word (Unit {0}) ℕ → ℕ
+abbrev pub finish_left : Calls FinishState Word → ℕ
 finish_left = calls_left word_left finish_rest

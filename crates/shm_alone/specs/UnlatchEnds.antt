@@ -1,7 +1,7 @@
 -- giving a latch back, as a recoverer that works alone does, ends: how many word steps come behind one, and that each is paid for
 use Rattle.std.proofs.Common.{ℕ}
 use Rattle.shm_graph.specs.declared.spot.Spot.{Spot}
-use Rattle.shm_calls.specs.declared.{calls.Calls.Calls, word.Word.Word}
+use Rattle.plans.specs.declared.{calls.Calls.Calls, word.Word.Word}
 use Rattle.shm_recover.specs.declared.mend_unlatch.MendUnlatchPoint.{MendUnlatchPoint}
 use Rattle.shm_recover.specs.declared.mend_unlatch.MendUnlatchPoint.TheVariants.{Whose, Look, Give, Back}
 use Rattle.shm_recover.specs.declared.mend_unlatch.MendUnlatchState.{MendUnlatchState}
@@ -18,8 +18,8 @@ abbrev pub unlatch_rest : MendUnlatchState → ℕ
 unlatch_rest m = unlatch_rest_at m.point
 
 -- what it knows of the words, and how many word steps it has left
-abbrev pub unlatch_alone : Calls MendUnlatchState Word (Unit {0}) ℕ → (Spot → ℕ) → Type 0
+abbrev pub unlatch_alone : Calls MendUnlatchState Word → (Spot → ℕ) → Type 0
 unlatch_alone = calls_alone anything anything
 
-abbrev pub unlatch_left : Calls MendUnlatchState Word (Unit {0}) ℕ → ℕ
+abbrev pub unlatch_left : Calls MendUnlatchState Word → ℕ
 unlatch_left = calls_left word_left unlatch_rest

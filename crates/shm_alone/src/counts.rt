@@ -2,7 +2,7 @@
 
 ghost use Rattle.std.specs.Prelude.{◌≡◌, ℕ, ◌+◌, Bool, Result, Ok, Err};
 ghost use Rattle.shm_graph.specs.{declared.{ask.Me.Me as AMe, spot.Spot.Spot as ASpot}, Bounds.redo_steps};
-ghost use Rattle.shm_calls.specs.{CallsControl.{calls_does, calls_of}, CallsFit.CallsFits, Words.word_control};
+ghost use Rattle.plans.specs.{CallsControl.{calls_does, calls_of}, CallsFit.CallsFits, Words.word_control};
 ghost use Rattle.shm_count.specs.declared.{answer.EraSpent.EraSpent as ASpent, point.StepPoint.TheVariants.Era};
 ghost use Rattle.shm_count.specs.declared.{point.StepState.StepState as AState, tear_point.TearPoint.TheVariants.Begin};
 ghost use Rattle.shm_count.specs.declared.tear_point.TearState.{TearState as ATear};

@@ -3,7 +3,7 @@
 ghost use Rattle.std.specs.Prelude.{◌≡◌, ℕ, ◌+◌, ◌*◌, ◌^◌, ◌≤◌};
 ghost use Rattle.shm_words.specs.Layout.{GeometryFits};
 ghost use Rattle.shm_graph.specs.{declared.{ask.Me.Me as AMe, spot.Spot.Spot as ASpot}, Bounds.redo_steps};
-ghost use Rattle.shm_calls.specs.{CallsControl.{calls_does, calls_of}, CallsFit.CallsFits, Words.word_control};
+ghost use Rattle.plans.specs.{CallsControl.{calls_does, calls_of}, CallsFit.CallsFits, Words.word_control};
 ghost use Rattle.shm_recover.specs.FinishTakes.{Control.{finishing, finish_steered}, finish_plan};
 ghost use Rattle.shm_recover.specs.{GiveUp.{Control.{giving_up, give_steered}, give_plan}, Join.AsPart.join_does};
 ghost use Rattle.shm_recover.specs.Join.{JoinFits, join_control, join_fresh};

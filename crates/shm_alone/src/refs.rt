@@ -2,7 +2,7 @@
 
 ghost use Rattle.std.specs.Prelude.{◌≡◌, ℕ, ◌+◌, ◌*◌, Result, Ok, Err, true};
 ghost use Rattle.shm_graph.specs.declared.{ask.Me.Me as AMe, spot.Spot.Spot as ASpot};
-ghost use Rattle.shm_calls.specs.{CallsControl.{calls_does, calls_of}, CallsFit.CallsFits};
+ghost use Rattle.plans.specs.{CallsControl.{calls_does, calls_of}, CallsFit.CallsFits};
 ghost use Rattle.shm_queue.specs.declared.answer.TakeFault.{TakeFault as AFault};
 ghost use Rattle.shm_queue.specs.Drain.{Control.{drain_parts, draining, take_control, drain_steered}, drain_plan};
 ghost use Rattle.shm_queue.specs.{Machines.drain, Take.{Control.{take_parts, taking, take_steered}, take_plan}};

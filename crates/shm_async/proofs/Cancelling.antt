@@ -8,7 +8,7 @@ use Rattle.shm_graph.proofs.Memos.MemoSteps.{steps_died}
 use Rattle.shm_count.specs.Roots.{member}
 use Rattle.shm_script.specs.{declared.log.{End.TheVariants.Died, Entry.Entry}, Logged.Logged, Values.Scripted}
 use Rattle.shm_agents.specs.declared.agents.Standing.TheVariants.{AtWork, Gone}
-use Rattle.shm_agents.specs.Agents.{Fallen, Fresh, IsFold, Mended, Mending, Parted, Playing, Plays, Stage, Stands, end_or, logged, one_agent}
+use Rattle.shm_agents.specs.Agents.{Fallen, Fresh, IsFold, Mended, Mending, Parted, Playing, Plays, Stage, AgentsStand, end_or, logged, one_agent}
 use Rattle.shm_agents.specs.{Courses.AreCommandsTold, Cuts.{IsCut, IsCutOff, IsUnbegun, account_cut}}
 use Rattle.shm_agents.specs.{Logs.{AreUnspent, IsLogOf, steps_first}, TurnsLeft.{deaths, turns_given}}
 use Rattle.shm_agents.proofs.Loose.{has_table}
@@ -43,7 +43,7 @@ died_some e acting none = go e.memo.agents refl
     go (a ∷ b ∷ xs) at = let z : a ∷ with_last fallen (b ∷ xs) ≡ [] = sym (ap (with_last fallen) at) ∙ (sym (ap (λ (x : Account). x.memo.agents) is) ∙ none) in absurd (cc)
 
 -- where none of them has begun nothing runs
-unbegun_quiet : (start : Start) (s : Scripted) (x : Playing) (e : Account) → Stands start s x e → x.standing ≡ AtWork → e.memo.agents ≡ [] → e.running ≡ []
+unbegun_quiet : (start : Start) (s : Scripted) (x : Playing) (e : Account) → AgentsStand start s x e → x.standing ≡ AtWork → e.memo.agents ≡ [] → e.running ≡ []
 unbegun_quiet start s x e h here none = go h.stage
   where
     go : Stage start s x e → e.running ≡ []

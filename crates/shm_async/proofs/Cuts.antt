@@ -7,7 +7,7 @@ use Rattle.shm_graph.specs.{Agents.{acts, acts_by, last_agent, steps_of}, Runs.{
 use Rattle.shm_graph.proofs.Memos.MemoSteps.{last-append}
 use Rattle.shm_script.specs.{declared.line.Line.Line, Values.Scripted}
 use Rattle.shm_agents.specs.declared.agents.Standing.TheVariants.{AtWork, Dead, Gone}
-use Rattle.shm_agents.specs.Agents.{Fallen, Fresh, IsFallen, Mended, Mending, Parted, Playing, Plays, Stage, Stands}
+use Rattle.shm_agents.specs.Agents.{Fallen, Fresh, IsFallen, Mended, Mending, Parted, Playing, Plays, Stage, AgentsStand}
 use Rattle.shm_agents.specs.{Courses.{AreAgents, AreRecoverers, HasLived}, Cuts.account_cut, Turns.lives_of}
 use Rattle.shm_agents.specs.TurnsLeft.{deaths, turns_given, turns_of}
 use Rattle.shm_agents.proofs.{Given.given_died, Standing.fell_quiet}
@@ -85,7 +85,7 @@ none_begun lines (n ∷ lives) begun h = h
 
 -- ---- a cut
 
-module _ (start : Start) (s : Scripted) (x : Playing) (e : Account) (stands : Stands start s x e) (here : x.standing ≡ AtWork) (lives : List ℕ) (died : AreAgents s.lines lives (account_cut e).memo.agents (account_cut e).begun true) where
+module _ (start : Start) (s : Scripted) (x : Playing) (e : Account) (stands : AgentsStand start s x e) (here : x.standing ≡ AtWork) (lives : List ℕ) (died : AreAgents s.lines lives (account_cut e).memo.agents (account_cut e).begun true) where
   abbrev all : List ℕ
   all = lives_of s.life
 

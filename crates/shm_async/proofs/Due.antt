@@ -11,7 +11,7 @@ use Rattle.shm_team.specs.declared.{done.{Done.Done, Finish.Finish}, left.Left.T
 use Rattle.shm_team.specs.{Dones.IsDone, Lefts.account_in}
 use Rattle.shm_async.specs.Cancelled.{HasCancelled, IsCancelled, IsCutLog}
 use Rattle.shm_async.specs.LimitedMembers.{HasRoom, IsDue, IsLimitedDone, IsMending, IsPending, IsSpent, LimitedBy, WasCut}
-use Rattle.shm_async.specs.{Members.IsAtWork, Polled.{AtPost, Course, HasTurned, IsNew, IsPolled}}
+use Rattle.shm_async.specs.{Members.MemberAtWork, Polled.{AtPost, Course, HasTurned, IsNew, IsPolled}}
 use Rattle.shm_async.specs.Rescued.{HasStepped, IsStarted, Rescue, rescuing_first}
 use Rattle.shm_async.proofs.{Gathering.{given_done, some_of}, Giving.may_give, Recovering.none_stepped}
 
@@ -117,7 +117,7 @@ module _ (t : Traced) (p : Its) (c turns left : ℕ) (f g : Course) (h : IsDue t
     abbrev site : (v : AtPost) × (g.site ≡ Some v) × (v.post.of ≡ w.post.of) × (turns_given v.post.account ≡ turns_given w.post.account + f.quota)
     site = pending_given f.quota f.script f.site g.site w h.work.is polled.turned
 
-    abbrev work : IsAtWork t p c g
+    abbrev work : MemberAtWork t p c g
     work =
         let (v, is, of, given) = site in
         record { script = h.work.script ∙ some_of f.script g.script (sym polled.script); site = v; is = is; of = of ∙ h.work.of }

@@ -2,7 +2,7 @@
 use Rattle.std.proofs.Common.{◌≡◌, ◌≢◌, ℕ, zero, suc, ◌+◌, ◌<◌, ◌≤◌, Option, Some, None, refl, sym, ap, ◌∙◌, subst, arith}
 use Rattle.std.specs.Prelude.{MatchOption}
 use Rattle.shm_graph.specs.declared.ask.Me.{Me}
-use Rattle.shm_agents.specs.{declared.agents.Standing.TheVariants.AtWork, Agents.{Playing, Stands}}
+use Rattle.shm_agents.specs.{declared.agents.Standing.TheVariants.AtWork, Agents.{Playing, AgentsStand}}
 use Rattle.shm_agents.specs.TurnsLeft.{turns_by, turns_given}
 use Rattle.shm_pool.specs.{Posts.IsPosted, Tokens.{Its, Token}}
 use Rattle.shm_script.specs.Values.{Scripted}
@@ -30,7 +30,7 @@ by_life zero P stepped fell = fell refl
 by_life (suc n) P stepped fell = (stepped (omega arith)).1
 
 -- one turn more
-pub one_given : (s : Scripted) (w v u : AtPost) (n : ℕ) → AreGiven s w v n → (0 < v.agents.life.left → (k : ℕ) × (u.post.of ≡ v.post.of)) → (v.agents.life.left ≡ 0 → u.post.of ≡ v.post.of) → IsPosted u.post v.agents.me.who → u.agents.me ≡ v.agents.me → Stands u.post.of.start s u.agents u.post.account → turns_given u.post.account ≡ turns_given v.post.account + 1 → turns_by u.agents (Some s) < turns_by v.agents (Some s) → AreGiven s w u (n + 1)
+pub one_given : (s : Scripted) (w v u : AtPost) (n : ℕ) → AreGiven s w v n → (0 < v.agents.life.left → (k : ℕ) × (u.post.of ≡ v.post.of)) → (v.agents.life.left ≡ 0 → u.post.of ≡ v.post.of) → IsPosted u.post v.agents.me.who → u.agents.me ≡ v.agents.me → AgentsStand u.post.of.start s u.agents u.post.account → turns_given u.post.account ≡ turns_given v.post.account + 1 → turns_by u.agents (Some s) < turns_by v.agents (Some s) → AreGiven s w u (n + 1)
 one_given s w v u n h stepped fell posted me stands given less =
     record {
       went = record {

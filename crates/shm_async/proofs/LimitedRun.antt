@@ -13,7 +13,7 @@ use Rattle.shm_team.specs.declared.{done.Done.Done, left.Left.Left}
 use Rattle.shm_team.specs.Dones.{AreDones, AreGivenBack, IsDone, IsDoneBy, log_of, logs_done, logs_in}
 use Rattle.shm_team.specs.{Lefts.{IsGivenBack, account_in, is_corpse}, Rans.HasSettled}
 use Rattle.shm_team.proofs.Settled.{team_run_of}
-use Rattle.shm_async.specs.Limited.{AreLimited, IsCutTo, IsLimitedRun, IsWithin}
+use Rattle.shm_async.specs.Limited.{AreLimited, IsCutTo, IsLimitedRun, LimitedWithin}
 use Rattle.shm_async.specs.LimitedMembers.{AreLimitedDones, EachFrom, IsLimitedDone, LimitedBy}
 
 -- ---- the scripts under the limit
@@ -93,7 +93,7 @@ module _ (os : List (Option Scripted)) where
   logs_under ls [] h = refl
   logs_under ls (s ∷ ss) h = (λ i. log_of (slice_index_or ls (sym (under_client s ss h) i) None) ++ logs_under ls ss (later s ss h) i)
 
-  limited_under : (turns : ℕ) (es : List Account) (ss : List Scripted) → ((k : ℕ) (s : Scripted) → slice_get ss k ≡ Some s → ((or_script (slice_index_or os s.client None) s ≡ s) × IsWithin turns s (account_at es s.client)) ⊎ IsCutTo turns s (or_script (slice_index_or os s.client None) s))
+  limited_under : (turns : ℕ) (es : List Account) (ss : List Scripted) → ((k : ℕ) (s : Scripted) → slice_get ss k ≡ Some s → ((or_script (slice_index_or os s.client None) s ≡ s) × LimitedWithin turns s (account_at es s.client)) ⊎ IsCutTo turns s (or_script (slice_index_or os s.client None) s))
       → AreLimited turns es ss (scripts_under os ss)
   limited_under turns es [] each = refl
   limited_under turns es (s ∷ ss) each = (each 0 s refl, limited_under turns es ss (λ k. each (suc k)))
@@ -202,7 +202,7 @@ module _ (t : Traced) (trace : IsTrace t) (p : Its) (start : p.start ≡ start_o
 
   module _ (end : End) (ls : List Logged) (settled : HasSettled t p ds end ls) where
     -- the agents of an identity that wasn't cut, and those that visited it
-    within : (s : Scripted) (c : ℕ) (d : Done) → c < length ds → IsDoneBy (Some s) p c (slice_index_or ds c d).log (slice_index_or ds c d).left → turns_given (account_in (slice_index_or ds c d).left) ≤ turns → IsWithin turns s (account_at end.accounts c)
+    within : (s : Scripted) (c : ℕ) (d : Done) → c < length ds → IsDoneBy (Some s) p c (slice_index_or ds c d).log (slice_index_or ds c d).left → turns_given (account_in (slice_index_or ds c d).left) ≤ turns → LimitedWithin turns s (account_at end.accounts c)
     within s c d l by few =
         let k : Left = (slice_index_or ds c d).left in
         let v = settled.visited c d l in
@@ -232,7 +232,7 @@ module _ (t : Traced) (trace : IsTrace t) (p : Its) (start : p.start ≡ start_o
         (subst (λ (a : Option Scripted). LimitedBy turns (account_in (slice_index_or ds s.client d).left) a (slice_index_or os s.client None)) (script_at t.scripts k s trace.apart e) h.limited))
       where
         by_limit : (s : Scripted) (d : Done) → s.client < length ds → (o : Option Scripted) → IsDoneBy o p s.client (slice_index_or ds s.client d).log (slice_index_or ds s.client d).left → LimitedBy turns (account_in (slice_index_or ds s.client d).left) (Some s) o
-            → ((or_script o s ≡ s) × IsWithin turns s (account_at end.accounts s.client)) ⊎ IsCutTo turns s (or_script o s)
+            → ((or_script o s ≡ s) × LimitedWithin turns s (account_at end.accounts s.client)) ⊎ IsCutTo turns s (or_script o s)
         by_limit s d l None by h = absurd h
         by_limit s d l (Some r) by h =
             elim h [

@@ -13,7 +13,7 @@ use Rattle.shm_script.specs.Values.{Scripted, Traced}
 use Rattle.shm_agents.specs.{Courses.HasLived, TurnsLeft.{deaths, turns_of}}
 use Rattle.shm_agents.proofs.{Growing.steps_of-end, OwnEras.own_most}
 use Rattle.shm_pool.specs.declared.token.{Cause.Cause, Stopped.Stopped}
-use Rattle.shm_pool.specs.{Calls.{Calls, Ending, Ongoing, Shown, accounts_by, fresh_after, shown}, Rescues.Rescuing}
+use Rattle.shm_pool.specs.{Calls.{CallSteps, Ending, Ongoing, Shown, accounts_by, fresh_after, shown}, Rescues.Rescuing}
 use Rattle.shm_pool.specs.Tokens.{Its, Token}
 use Rattle.shm_pool.specs.declared.token.Cause.TheVariants as cause
 use Rattle.shm_pool.proofs.Calling.{tells}
@@ -61,7 +61,7 @@ mended_site : (q : ℕ) (o b : Option Rescuing) (u : Rescuing) (before left : Li
 mended_site q o b u before left x is h = (subst (λ (y : Option Rescuing). HasPolled q y before (Some x) b left) is h).1
 
 -- a whole call has some word steps
-whole_some : (s : Shown) (e f : Account) (before left : ℕ) → Calls s e f true before left → left < before
+whole_some : (s : Shown) (e f : Account) (before left : ℕ) → CallSteps s e f true before left → left < before
 whole_some s e f before left c = go c.last c.ends c.life
   where
     go : (last : List Step) → Ending s (fresh_after s.fresh c.steps) true last → left + length (c.steps ++ last) ≡ before → left < before
@@ -130,9 +130,9 @@ module _ (t : Traced) (p : Its) (c turns : ℕ) (l : _) (k : Token) (cut : WasCu
 
   -- ---- it has recovered the identity
 
-  module _ (call : Calls (shown recover (rescuing_first k).machine) (account_by (rescuing_first k)) (account_by w) true (2 ^ 40) left.left) (gone : w.seat.memo.status ≡ Gone) where
-    its_call : Calls (shown recover (rescuing_first k).machine) (account_entered Recoverer e) w.seat true (2 ^ 40) left.left
-    its_call = subst (λ (z : Account). Calls (shown recover (rescuing_first k).machine) z w.seat true (2 ^ 40) left.left) first (subst (λ (z : Account). Calls (shown recover (rescuing_first k).machine) (account_by (rescuing_first k)) z true (2 ^ 40) left.left) last call)
+  module _ (call : CallSteps (shown recover (rescuing_first k).machine) (account_by (rescuing_first k)) (account_by w) true (2 ^ 40) left.left) (gone : w.seat.memo.status ≡ Gone) where
+    its_call : CallSteps (shown recover (rescuing_first k).machine) (account_entered Recoverer e) w.seat true (2 ^ 40) left.left
+    its_call = subst (λ (z : Account). CallSteps (shown recover (rescuing_first k).machine) z w.seat true (2 ^ 40) left.left) first (subst (λ (z : Account). CallSteps (shown recover (rescuing_first k).machine) (account_by (rescuing_first k)) z true (2 ^ 40) left.left) last call)
 
     ran : HasRun Recoverer (recover_line ∷ []) Ended e w.seat
     ran =

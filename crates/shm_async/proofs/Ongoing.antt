@@ -1,7 +1,7 @@
 -- the steps of one call, some of which were made before others
 use Rattle.std.proofs.Common.{◌≡◌, ℕ, Bool, true, false, List, [], ◌∷◌, ◌++◌, append_assoc, length, length-append, refl, sym, ap, ◌∙◌, subst, arith}
 use Rattle.shm_graph.specs.{declared.{memo.Step.Step, run.Account.Account}, Runs.account_after}
-use Rattle.shm_pool.specs.Calls.{Calls, Ending, Going, IsBy, Ongoing, Shown, accounts_by, fresh_after}
+use Rattle.shm_pool.specs.Calls.{CallSteps, Ending, Going, IsBy, Ongoing, Shown, accounts_by, fresh_after}
 use Rattle.shm_pool.specs.Rescues.{Rescuing}
 use Rattle.shm_async.specs.Rescued.{CallsOn}
 
@@ -64,7 +64,7 @@ module _ (s : Shown) (r : Account) (z : Shown) (r1 r2 : Account) (a b c : ℕ) (
       }
 
   -- and came to its end
-  whole_then : Calls z r1 r2 true b c → Calls s r r2 true a c
+  whole_then : CallSteps z r1 r2 true b c → CallSteps s r r2 true a c
   whole_then k =
       let same : (o.steps ++ k.steps) ++ k.last ≡ o.steps ++ (k.steps ++ k.last) = append_assoc o.steps k.steps k.last in
       record {

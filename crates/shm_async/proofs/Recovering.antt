@@ -1,8 +1,8 @@
 -- word steps of a recovery that is polled
 use Rattle.std.proofs.Common.{◌≡◌, ℕ, zero, suc, ◌+◌, ◌<◌, ◌≤◌, ◌⊎◌, Bool, true, false, [], ◌∷◌, inl, inr, refl, sym, ap, ◌∙◌, subst, arith, true≢false}
 use Rattle.std.specs.Prelude.{None, Some, Ok, Err}
-use Rattle.shm_calls.specs.{CallsFit.{CallsFits, CallsGives}, Proved.CallsKeep.calls_laws}
-use Rattle.shm_count.specs.{declared.answer.EraSpent.EraSpent, Steady.SameTable as SameMap}
+use Rattle.plans.specs.{CallsFit.{CallsFits, CallsGives}, Proved.CallsKeep.calls_laws}
+use Rattle.shm_count.specs.{declared.answer.EraSpent.EraSpent, Steady.SameMap}
 use Rattle.shm_graph.specs.declared.{ask.{Life.Life, Me.Me, Turn.{Turn, TheVariants.{More, Done}}}, memo.Memo.Memo}
 use Rattle.shm_graph.specs.declared.{memo.{Status.TheVariants.Gone, Step.Step}, run.Account.Account}
 use Rattle.shm_graph.specs.{declared.spot.Spot.TheVariants.Era, Agents.{acts, steps_made}, Asks.call_before}

@@ -17,7 +17,7 @@ pub record IsCutTo (turns : ℕ) (s r : Scripted) : Type 0 where
   pub given : AreGiven (lives_of s.life) r.life turns
 
 -- the agents of the script, which was not cut, were given at most so many turns
-pub record IsWithin (turns : ℕ) (s : Scripted) (e : Account) : Type 0 where
+pub record LimitedWithin (turns : ℕ) (s : Scripted) (e : Account) : Type 0 where
   pub agents : HasAgents (Some s) e
   pub few : steps_of agents.first + deaths agents.first ≤ turns
 
@@ -25,7 +25,7 @@ pub record IsWithin (turns : ℕ) (s : Scripted) (e : Account) : Type 0 where
 abbrev pub AreLimited : ℕ → List Account → List Scripted → List Scripted → Type 0
 AreLimited turns es [] rs = rs ≡ []
 AreLimited turns es (s ∷ ss) [] = ⊥
-AreLimited turns es (s ∷ ss) (r ∷ rs) = (((r ≡ s) × IsWithin turns s (account_at es s.client)) ⊎ IsCutTo turns s r) × AreLimited turns es ss rs
+AreLimited turns es (s ∷ ss) (r ∷ rs) = (((r ≡ s) × LimitedWithin turns s (account_at es s.client)) ⊎ IsCutTo turns s r) × AreLimited turns es ss rs
 
 -- The closed pool p is what polled clients leave of the trace, each of which was cut after so many turns where one of its agents was left, and these are its logs: it is what clients on threads leave of the trace with the scripts as they were cut
 pub record IsLimitedRun (t : Traced) (turns : ℕ) (p : Pool) (ls : List Logged) : Type 0 where

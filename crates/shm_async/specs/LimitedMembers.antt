@@ -9,7 +9,7 @@ use Rattle.shm_team.specs.Lefts.{IsGivenBack, account_in}
 use Rattle.shm_async.specs.declared.limited.{Cut.Cut, LimitedMember.LimitedMember}
 use Rattle.shm_async.specs.declared.limited.LimitedMember.TheVariants.{Works, Recovers, Finished}
 use Rattle.shm_async.specs.{declared.limits.LimitedMembers.LimitedMembers, Cancelled.IsCutLog, Limited.IsCutTo}
-use Rattle.shm_async.specs.{Members.IsAtWork, Polled.Course, Rescued.{HasStepped, rescuing_first}}
+use Rattle.shm_async.specs.{Members.MemberAtWork, Polled.Course, Rescued.{HasStepped, rescuing_first}}
 
 -- the own era of an identity has room for so many turns more, and for a recovery behind them
 abbrev pub HasRoom : Its → ℕ → Type 0
@@ -17,7 +17,7 @@ HasRoom p turns = p.start.first_era + turns ≤ 2 ^ 46
 
 -- the agents of the script of the identity c have so many polls left, with which they come to so many turns
 pub record IsDue (t : Traced) (p : Its) (c turns left : ℕ) (f : Course) : Type 0 where
-  pub work : IsAtWork t p c f
+  pub work : MemberAtWork t p c f
   pub quota : 1 ≤ f.quota
   pub some : 0 < left
   pub due : turns_given work.site.post.account + f.quota * left ≡ turns
@@ -25,7 +25,7 @@ pub record IsDue (t : Traced) (p : Its) (c turns left : ℕ) (f : Course) : Type
 
 -- they have had so many turns, and one of them is left
 pub record IsSpent (t : Traced) (p : Its) (c turns : ℕ) (f : Course) : Type 0 where
-  pub work : IsAtWork t p c f
+  pub work : MemberAtWork t p c f
   pub all : turns_given work.site.post.account ≡ turns
   pub some : 0 < turns
   pub room : HasRoom p turns

@@ -1,7 +1,7 @@
 -- the agents of an identity that are polled, and what a poll leaves
 use Rattle.std.specs.Prelude.{◌≡◌, ℕ, ◌+◌, ◌<◌, ◌≤◌, Option, Some, None, MatchOption}
 use Rattle.futures.specs.declared.task.Poll.{Poll, TheVariants.{Ready, Pending}}
-use Rattle.shm_agents.specs.{declared.agents.Standing.TheVariants.AtWork, Agents.{Playing, Stands}}
+use Rattle.shm_agents.specs.{declared.agents.Standing.TheVariants.AtWork, Agents.{Playing, AgentsStand}}
 use Rattle.shm_agents.specs.TurnsLeft.{turns_by, turns_given}
 use Rattle.shm_pool.specs.{Posts.IsPosted, Tokens.Token}
 use Rattle.shm_script.specs.Values.{Scripted}
@@ -25,7 +25,7 @@ course_of s q w = record { script = s; quota = q; site = w }
 -- the agents of this script stand at their post
 pub record StandAt (s : Scripted) (w : AtPost) : Type 0 where
   pub posted : IsPosted w.post w.agents.me.who
-  pub stands : Stands w.post.of.start s w.agents w.post.account
+  pub stands : AgentsStand w.post.of.start s w.agents w.post.account
 
 -- and one of them is left
 abbrev pub AreLeft : Scripted → Option AtPost → Type 0

@@ -1,14 +1,14 @@
 -- the recovery of an identity that is polled, and what a poll of it leaves
 use Rattle.std.specs.Prelude.{◌≡◌, ℕ, ◌+◌, ◌-◌, ◌^◌, ◌<◌, ◌≤◌, ◌⊎◌, Bool, true, false, Option, Some, None, MatchOption, IfOk, Result, Ok, Err}
-use Rattle.shm_calls.specs.{CallsControl.calls_of, CallsFit.{CallsFits, CallsGives}}
+use Rattle.plans.specs.{CallsControl.calls_of, CallsFit.{CallsFits, CallsGives}}
 use Rattle.shm_graph.specs.declared.{ask.Life.Life, memo.{Memo.Memo, Status.TheVariants.Gone}, run.Account.Account}
 use Rattle.shm_graph.specs.{declared.spot.Spot.TheVariants.Era, Agents.steps_made, Views.own_word}
 use Rattle.shm_graph.specs.Whole.{fits_now, gives_now}
-use Rattle.shm_pool.specs.{declared.token.{Cause.Cause, Stopped.Stopped}, Calls.{Calls, Ongoing, shown}, Endings.spent}
-use Rattle.shm_pool.specs.{Rescues.{RecoverMachine, Rescuing, account_of}, Tokens.{Its, Token, me_of}}
+use Rattle.shm_pool.specs.{declared.token.{Cause.Cause, Stopped.Stopped}, Calls.{CallSteps, Ongoing, shown}}
+use Rattle.shm_pool.specs.{Endings.spent, Rescues.{RecoverMachine, Rescuing, account_of}, Tokens.{Its, Token, me_of}}
 use Rattle.shm_pool.specs.declared.token.Cause.TheVariants as cause
-use Rattle.shm_recover.specs.Machines.Recovering.{recover}
-use Rattle.shm_recover.specs.Recover.{Control.{recover_parts, recovering as recovery, recover_steered}, recover_plan}
+use Rattle.shm_recover.specs.{Machines.Recovering.recover, Recover.Control.{recover_parts, recovering, recover_steered}}
+use Rattle.shm_recover.specs.Recover.{recover_plan}
 use Rattle.shm_replay.specs.Closings.{SameTable}
 use Rattle.shm_async.specs.declared.recovery.Over.{Over, TheVariants.{Recovered, Stopped as StoppedBy}}
 
@@ -44,7 +44,7 @@ IsRescue f = (1 ≤ f.quota) × MayGoOn f.pool f.rescuer
 
 -- a recovery of the corpse t before its first word step
 abbrev pub rescuing_first : Token → Rescuing
-rescuing_first t = record { of = t.of; seat = t.account; begun = false; machine = calls_of recover_steered (recovery (me_of t.of t.account)); done = false }
+rescuing_first t = record { of = t.of; seat = t.account; begun = false; machine = calls_of recover_steered (recovering (me_of t.of t.account)); done = false }
 
 -- it is that of the corpse t, with a life of n word steps, before the first of them
 pub record IsStarted (t : Token) (q n : ℕ) (f : Rescue) : Type 0 where
@@ -56,7 +56,7 @@ pub record IsStarted (t : Token) (q n : ℕ) (f : Rescue) : Type 0 where
 -- the steps of the recoverer that took u to v are those of its one call, which goes on, or is `over` with the last of them
 abbrev pub CallsOn : Bool → Rescuing → Rescuing → ℕ → ℕ → Type 0
 CallsOn false u v before left = Ongoing (shown recover u.machine) (account_by u) (shown recover v.machine) (account_by v) before left
-CallsOn true u v before left = Calls (shown recover u.machine) (account_by u) (account_by v) true before left
+CallsOn true u v before left = CallSteps (shown recover u.machine) (account_by u) (account_by v) true before left
 
 -- v is the recovery u after n word steps, with the last of which its machine has answered where it is `over`; the map of the identity's table is what it was
 pub record HasStepped (over : Bool) (n : ℕ) (u v : Rescuing) (before left : Life) : Type 0 where

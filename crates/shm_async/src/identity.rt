@@ -2,7 +2,7 @@
 
 ghost use Rattle.std.specs.Prelude.{◌≡◌, ◌≢◌, ◌<◌, ◌≤◌, ◌^◌, ⊤, IfOk, IfErr, true};
 ghost use Rattle.shm_graph.specs.Runs.{first_account};
-ghost use Rattle.shm_agents.specs.Agents.{Stands};
+ghost use Rattle.shm_agents.specs.Agents.{AgentsStand};
 ghost use Rattle.shm_script.specs.{Ranges.ScriptFits, Values.Scripted as AScript};
 ghost use Rattle.shm_async.specs.{Cancelled.{HasCancelled, IsCancelled}, Finished.HasFinished};
 ghost use Rattle.shm_async.specs.Polled.{HasGiven, IsNew, IsPolled, MayGive, StandAt, given_by};
@@ -102,7 +102,7 @@ impl<'p, A: Play> CourseFuture<'p, A> {
         requires of { token.of ≡ pool.now }
         requires first { token.account ≡ first_account token.of.start token.account.who }
         requires me { agents.me.who ≡ token.account.who }
-        requires stands { Stands token.of.start script.now agents token.account }
+        requires stands { AgentsStand token.of.start script.now agents token.account }
         requires here { agents.standing ≡ Standing.AtWork }
         ensures { IsNew token script.now q result }
     {

@@ -5,7 +5,7 @@ ghost use Rattle.shm_pool.specs.Tokens.{Its as APool};
 ghost use Rattle.shm_replay.specs.Replays.{start_of};
 ghost use Rattle.shm_script.specs.Values.{Traced as ATrace};
 ghost use Rattle.shm_team.specs.{Dones.{AreDones, IsDone}, Jobs.{AreJobs, IsJob}};
-ghost use Rattle.shm_async.specs.{Members.{AreMembers, IsAtWork, IsHere, IsMember}, Polled.MayGive};
+ghost use Rattle.shm_async.specs.{Members.{AreMembers, MemberAtWork, MemberHere, IsMember}, Polled.MayGive};
 
 use crate::identity::CourseFuture;
 use shm_play::play::Play;
@@ -81,7 +81,7 @@ impl<'p, A: Play> Member<'p, A> {
 
 /// The agents get the turns of one poll.
 fn turned<A: Play>(mut future: CourseFuture<'_, A>) -> Member<'_, A>
-    ensures { (t : ATrace) (p : APool) (c : ℕ) → IsAtWork t p c future.entry → IsMember t p c result }
+    ensures { (t : ATrace) (p : APool) (c : ℕ) → MemberAtWork t p c future.entry → IsMember t p c result }
 {
     match future.advance() {
         None => Member::Works(future),
@@ -124,7 +124,7 @@ pub(crate) fn all_members<'p, A: Play>(
 
 /// Polls an identity that is here, and tells whether it has turns left.
 fn poll_one<A: Play>(slot: &mut Option<Member<'_, A>>) -> bool
-    ensures { (t : ATrace) (p : APool) (c : ℕ) → IsHere t p c slot.old → IsHere t p c slot.new }
+    ensures { (t : ATrace) (p : APool) (c : ℕ) → MemberHere t p c slot.old → MemberHere t p c slot.new }
 {
     match slot.take() {
         None => false,
@@ -150,8 +150,8 @@ pub(crate) fn poll_each<A: Play>(members: &mut [Option<Member<'_, A>>]) -> bool
 
 /// Makes the turns that are left of an identity that is here.
 fn finish<A: Play>(slot: Option<Member<'_, A>>) -> Done
-    requires { (t : ATrace) × (p : APool) × (c : ℕ) × IsHere t p c slot }
-    ensures { (t : ATrace) (p : APool) (c : ℕ) → IsHere t p c slot.entry → IsDone t p c result }
+    requires { (t : ATrace) × (p : APool) × (c : ℕ) × MemberHere t p c slot }
+    ensures { (t : ATrace) (p : APool) (c : ℕ) → MemberHere t p c slot.entry → IsDone t p c result }
 {
     match slot {
         None => unreachable!(),

@@ -15,12 +15,12 @@ verdict_line (Uncounted block) = codes "uncounted " ++ decimal block ++ line_end
 verdict_line (Pending client) = codes "pending " ++ decimal client ++ line_end
 
 -- `refused`, and then what was found: at an address its word, which is no class, header, tag or reference
-abbrev pub fault_line : ImageFault → List ℕ
-fault_line (Short len) = codes "refused short " ++ decimal len ++ line_end
-fault_line (Magic seen) = codes "refused magic " ++ decimal seen ++ line_end
-fault_line (Geometry clients segments) = codes "refused geometry " ++ decimal clients ++ codes " " ++ decimal segments ++ line_end
-fault_line (Length len want) = codes "refused length " ++ decimal len ++ codes " want " ++ decimal want ++ line_end
-fault_line (BadPage at word) = codes "refused page " ++ decimal at ++ codes " " ++ decimal word ++ line_end
-fault_line (BadHeader at word) = codes "refused header " ++ decimal at ++ codes " " ++ decimal word ++ line_end
-fault_line (BadTag at word) = codes "refused tag " ++ decimal at ++ codes " " ++ decimal word ++ line_end
-fault_line (BadRef at word) = codes "refused reference " ++ decimal at ++ codes " " ++ decimal word ++ line_end
+abbrev pub image_fault_line : ImageFault → List ℕ
+image_fault_line (Short len) = codes "refused short " ++ decimal len ++ line_end
+image_fault_line (Magic seen) = codes "refused magic " ++ decimal seen ++ line_end
+image_fault_line (Geometry clients segments) = codes "refused geometry " ++ decimal clients ++ codes " " ++ decimal segments ++ line_end
+image_fault_line (Length len want) = codes "refused length " ++ decimal len ++ codes " want " ++ decimal want ++ line_end
+image_fault_line (BadPage at word) = codes "refused page " ++ decimal at ++ codes " " ++ decimal word ++ line_end
+image_fault_line (BadHeader at word) = codes "refused header " ++ decimal at ++ codes " " ++ decimal word ++ line_end
+image_fault_line (BadTag at word) = codes "refused tag " ++ decimal at ++ codes " " ++ decimal word ++ line_end
+image_fault_line (BadRef at word) = codes "refused reference " ++ decimal at ++ codes " " ++ decimal word ++ line_end

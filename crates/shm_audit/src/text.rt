@@ -1,7 +1,7 @@
 //! The lines that tell of a verdict and of a fault.
 
 ghost use Rattle.std.specs.{Prelude.{◌≡◌, ◌++◌, codes, IfOk, OnOk}, Fmt.decimal};
-ghost use Rattle.shm_audit.specs.Texts.{verdict_line, fault_line};
+ghost use Rattle.shm_audit.specs.Texts.{verdict_line, image_fault_line};
 
 use crate::fault::ImageFault;
 use crate::verdict::Verdict;
@@ -37,7 +37,7 @@ pub fn verdict_text(alloc: Global, verdict: &Verdict) -> Result<Vec<u8>, AllocEr
 /// The line of a fault: `refused`, then `short LEN`, `magic SEEN`, `geometry N G`, `length LEN want WANT`, or `page`, `header`, `tag` or
 /// `reference` with an address and its word, and a line feed.
 pub fn fault_text(alloc: Global, fault: &ImageFault) -> Result<Vec<u8>, AllocError>
-    ensures { IfOk result (λ v. v.items ≡ fault_line fault.now) }
+    ensures { IfOk result (λ v. v.items ≡ image_fault_line fault.now) }
 {
     let mut text = Vec::new(alloc);
     match *fault {

@@ -24,13 +24,13 @@ abbrev pub called_at : Ptr → Seat → Call → Said → Fml
 called_at p before c r = fex (Called before c r) (λ t. seat_at p t.now)
 
 -- what a session became that was told the word n, and said r
-pub record Told (before : Seat) (n : ℕ) (r : Said) : Type 0 where
+pub record SeatTold (before : Seat) (n : ℕ) (r : Said) : Type 0 where
   pub now : Seat
   pub is : IsTold before n r now
 
 -- it lies at p
 abbrev pub told_at : Ptr → Seat → ℕ → Said → Fml
-told_at p before n r = fex (Told before n r) (λ t. seat_at p t.now)
+told_at p before n r = fex (SeatTold before n r) (λ t. seat_at p t.now)
 
 -- a session lies at p, with the right to free its block
 abbrev pub seat_owned : Global → Ptr → Seat → Fml

@@ -3,8 +3,8 @@ use Rattle.std.proofs.Common.{◌≡◌, ℕ, ◌<◌, Bool, true, false, cond, 
 use Rattle.std.specs.{Prelude.{Option, Some, None, IfSome}, Option.is_some}
 use Rattle.shm_graph.specs.{declared.{memo.Memo.Memo, run.Start.Start}, Agents.{acts, entered}}
 use Rattle.shm_graph.specs.{Asks.{Trail, call_before}, Laws.Control, Whole.fits_now}
-use Rattle.shm_steps.specs.Reparting.{map_in}
-use Rattle.shm_count.specs.Steady.{SameTable}
+use Rattle.kind_parts.specs.Reparting.{map_in}
+use Rattle.shm_count.specs.Steady.{SameMap}
 use Rattle.shm_plain.specs.{Pools.{IsRun, Pool, memo_of, readied}, Tracks.kind_next}
 use Rattle.shm_plain.proofs.Turning.{ready_memo}
 
@@ -24,7 +24,7 @@ pub long : (c : ℕ) (p q : Pool) → q.start ≡ p.start → IsRun q → c < p.
 long c p q start run who = subst (λ (n : ℕ). c < n) (sym run.held.accounts) (subst (λ (s : Start). c < s.geometry.clients) (sym start) who)
 
 -- a machine that is not finished, and leaves the map as it was wherever it fits, has left it so
-pub cut_map : {M A : Type 0} (k : Control M A) (fits : M → Memo → Memo → Trail → Type 0) → ((m : M) (r0 r : Memo) (tr : Trail) → k.finished m ≡ false → fits m r0 r tr → SameTable r0 r)
+pub cut_map : {M A : Type 0} (k : Control M A) (fits : M → Memo → Memo → Trail → Type 0) → ((m : M) (r0 r : Memo) (tr : Trail) → k.finished m ≡ false → fits m r0 r tr → SameMap r0 r)
     → (n : M) (r0 : Memo) (q : Pool) (c : ℕ) → c < length q.accounts → k.finished n ≡ false → fits_now k fits n r0 (memo_of (readied q c) c) → map_in (memo_of q c).part ≡ map_in r0.part
 cut_map k fits steady n r0 q c l going fit =
     let r : Memo = memo_of (readied q c) c in

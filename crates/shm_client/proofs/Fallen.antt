@@ -12,7 +12,7 @@ use Rattle.shm_graph.proofs.{Memos.MemoSteps.fell-died, Runs.Lists.length-change
 use Rattle.shm_plain.specs.{Pools.{Pool, IsRun, MayStep, after_fall, memo_of, readied}, Calls.{Did, Ran}}
 use Rattle.shm_plain.specs.Tracks.{kind_next}
 use Rattle.shm_plain.proofs.{Turning.ready_memo, Called.{Called, ran_fresh}}
-use Rattle.shm_steps.specs.Reparting.{map_in}
+use Rattle.kind_parts.specs.Reparting.{map_in}
 
 -- an agent that is dead doesn't act
 fate_still : (f : Fate) → is_dead f ≡ true → is_acting f ≡ false

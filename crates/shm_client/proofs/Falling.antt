@@ -8,8 +8,8 @@ use Rattle.shm_graph.specs.Runs.{MayBegin, account_died, changed, memos_of}
 use Rattle.shm_graph.proofs.Memos.MemoSteps.{acts-died, fell-died}
 use Rattle.shm_plain.specs.{Pools.{MayStep, Pool, after_fall, memo_of, readied}, Tracks.kind_next, Calls.Did}
 use Rattle.shm_plain.proofs.{Turning.ready_memo, Called.Called}
-use Rattle.shm_calls.specs.{CallsControl.{calls_control, calls_does, calls_of}, CallsFit.{CallsFits, CallsGives}}
-use Rattle.shm_calls.specs.Proved.CallsKeep.{calls_begin, calls_tells}
+use Rattle.plans.specs.{CallsControl.{calls_control, calls_does, calls_of}, CallsFit.{CallsFits, CallsGives}}
+use Rattle.plans.specs.Proved.CallsKeep.{calls_begin, calls_tells}
 use Rattle.shm_recover.specs.Mend.{Control.{mend_parts, mending, mend_steered}, IsMended, MayMend, mend_plan}
 use Rattle.shm_recover.specs.Proved.Mend.Laws.{mend_begin, mend_laws}
 

@@ -4,7 +4,7 @@ use Rattle.shm_words.specs.Layout.{address_limit, total_of}
 use Rattle.shm_words.proofs.Placing.{total_small}
 use Rattle.shm_graph.specs.declared.{spot.Spot.TheVariants.Home, table.Part.{Part, TheVariants.{Loose, Table}}}
 use Rattle.shm_graph.specs.{Held.is_loose, Operations.IsReady, Reach.is_reached}
-use Rattle.shm_steps.specs.Raising.{is_read}
+use Rattle.kind_parts.specs.Raising.{is_read}
 use Rattle.shm_plain.specs.{Calls.IsAtWork, Pools.{Pool, IsRun, memo_of}}
 use Rattle.shm_plain.proofs.Called.{ready}
 use Rattle.shm_count.specs.Roots.{member}

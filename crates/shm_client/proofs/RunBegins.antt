@@ -1,10 +1,10 @@
 -- the command of a line begins where the memo is as it asks
 use Rattle.std.proofs.Common.{◌≡◌, ℕ, true, refl, None, []}
 use Rattle.shm_graph.specs.declared.{ask.Me.Me, memo.Memo.Memo}
-use Rattle.shm_calls.specs.{Proved.CallsKeep.calls_begin, Plans.PlanLaws}
+use Rattle.plans.specs.{Proved.CallsKeep.calls_begin, Plans.PlanLaws}
 use Rattle.shm_script.specs.declared.line.Line.{Line}
 use Rattle.shm_script.specs.declared.line.Line.TheVariants as line
-use Rattle.shm_table.specs.{Command.{CommandFits, MayStand, command_control, command_of}, Commands.MayCommand}
+use Rattle.shm_table.specs.{Command.{CommandFits, LineMayStand, command_control, command_of}, Commands.MayCommand}
 use Rattle.shm_table.specs.CopyKey.{Control.{copy_parts, copying}, copy_plan}
 use Rattle.shm_table.specs.Proved.{CopyKey.Laws.{copy_begin, copy_laws}, Del.Laws.{del_begin, del_laws}}
 use Rattle.shm_table.specs.Proved.{Enter.Laws.enter_laws, FetchHead.Laws.fetch_head_laws, Fetch.Laws.fetch_laws}
@@ -37,20 +37,12 @@ run_begins me (line.Recv from key) r may = calls_begin recv_parts recv_plan (rec
 -- no word step of it was made yet
 pub run_fresh : (me : Me) (l : Line) → command_control.fresh (command_of me l) ≡ true
 run_fresh me (line.Put key n) = refl
-run_fresh me (line.Copy key a other) = refl
-run_fresh me (line.Del key) = refl
-run_fresh me (line.Get a key) = refl
-run_fresh me (line.Send to key) = refl
-run_fresh me (line.Recv from key) = refl
+run_fresh me _ = refl
 
 -- it is of that identity
 pub run_me : (me : Me) (l : Line) → command_control.me (command_of me l) ≡ me
 run_me me (line.Put key n) = refl
-run_me me (line.Copy key a other) = refl
-run_me me (line.Del key) = refl
-run_me me (line.Get a key) = refl
-run_me me (line.Send to key) = refl
-run_me me (line.Recv from key) = refl
+run_me me _ = refl
 
 -- it may begin between two calls
 pub run_may : (me : Me) (l : Line) (r : Memo) → MayRun me l r → LineMay me l r
@@ -62,7 +54,7 @@ run_may me (line.Send to key) r may = (record { client = may.client; none = may.
 run_may me (line.Recv from key) r may = (at_table me key r may.command, may.command.small, may.from, may.other, may.none)
 
 -- the identities of the line are of the pool
-pub run_stands : (me : Me) (l : Line) (r : Memo) → MayRun me l r → MayStand me l
+pub run_stands : (me : Me) (l : Line) (r : Memo) → MayRun me l r → LineMayStand me l
 run_stands me (line.Put key n) r may = tt
 run_stands me (line.Copy key a other) r may = may.author
 run_stands me (line.Del key) r may = tt

@@ -1,7 +1,7 @@
 -- what a command leaves, by the events that it tells of
 use Rattle.std.proofs.Common.{sym, subst, List}
 use Rattle.shm_graph.specs.{declared.{ask.Me.Me, memo.Memo.Memo}, Asks.Trail, Events.Event, Tells.happens_along}
-use Rattle.shm_calls.specs.CallsControl.{calls_of}
+use Rattle.plans.specs.CallsControl.{calls_of}
 use Rattle.shm_script.specs.declared.{line.Line.Line, log.Answer.Answer}
 use Rattle.shm_script.specs.declared.line.Line.TheVariants as line
 use Rattle.shm_table.specs.Command.{CommandGives, command_control, command_does, command_of, Operates.CommandLeaves}
@@ -25,8 +25,4 @@ run_leaves me (line.Recv from key) r0 r tr a g = subst (λ (es : List Event). Re
 -- so it does as an operation
 pub run_left : (me : Me) (l : Line) (r0 r : Memo) (tr : Trail) (es : List Event) (a : Answer) → CommandLeaves (command_of me l) r0 r tr es a → RunLeaves me l r0 r tr es a
 run_left me (line.Put key n) r0 r tr es a h = h
-run_left me (line.Copy key b other) r0 r tr es a h = h
-run_left me (line.Del key) r0 r tr es a h = h
-run_left me (line.Get b key) r0 r tr es a h = h
-run_left me (line.Send to key) r0 r tr es a h = h
-run_left me (line.Recv from key) r0 r tr es a h = h
+run_left me _ r0 r tr es a h = h

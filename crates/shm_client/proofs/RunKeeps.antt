@@ -153,10 +153,7 @@ module _ (me : Me) (r0 r : Memo) (tr : Trail) (es : List Event) where
   recv_keeps from key answer.RootsFull idle none h = kept me.who r0 r h.keeps h.latch (ended_by me r0 r fault.RootsFull h.cleared h.cause)
   recv_keeps from key (answer.Full s n) idle none h = kept me.who r0 r h.keeps h.latch (ended_by me r0 r (fault.Full s n) h.cleared h.cause)
   recv_keeps from key (answer.CountFull b n) idle none h = kept me.who r0 r h.keeps h.latch (ended_by me r0 r (fault.CountFull b n) h.cleared h.cause)
-  recv_keeps from key answer.Ok idle none h = absurd h
-  recv_keeps from key (answer.Stored v) idle none h = absurd h
-  recv_keeps from key answer.Missing idle none h = absurd h
-  recv_keeps from key (answer.QueueFull n t) idle none h = absurd h
+  recv_keeps from key _ idle none h = absurd h
 
   pub run_keeps : (l : Line) (a : Answer) → IsIdle me.who r0 → r0.latch ≡ None → RunLeaves me l r0 r tr es a → RunKeeps me.who r0 r
   run_keeps (line.Put key n) a idle none h = put_keeps key n a h

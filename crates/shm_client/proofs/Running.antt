@@ -5,15 +5,15 @@ use Rattle.shm_graph.specs.{declared.{ask.Me.Me, memo.Memo.Memo}, Agents.{acts, 
 use Rattle.shm_graph.specs.Tells.{happens_along}
 use Rattle.shm_plain.specs.{Calls.{Did, IsAtWork, Ran}, Pools.{Pool, memo_of}}
 use Rattle.shm_plain.proofs.Calling.{still_kind}
-use Rattle.shm_calls.specs.{declared.calls.Calls.Calls, CallsControl.{calls_control, calls_does, calls_of}}
-use Rattle.shm_calls.specs.{Plans.Planned, Tasks.{CallsLeave, CallsMay}}
+use Rattle.plans.specs.{declared.calls.Calls.Calls, CallsControl.{calls_control, calls_does, calls_of}, Plans.Planned}
+use Rattle.plans.specs.Tasks.{CallsLeave, CallsMay}
 
 -- the pool p became r by turns of c alone, whose events the plan s tells, and this is left where s answers a
 abbrev pub PlanLeft : {P C B A : Type 0} → Planned P C B A → P → ℕ → Pool → Pool → A → Type 0
 PlanLeft q s c p r a = let m = memo_of r c in (es : List Event) × Did c p r es × q.leaves s (memo_of p c) m m.call es a
 
 -- what a run says of its machine m, where it answers
-abbrev pub MachineLeft : {P C B A : Type 0} → Control C B → Planned P C B A → Calls P C A B → ℕ → Pool → Pool → Option A → Type 0
+abbrev pub MachineLeft : {P C B A : Type 0} → Control C B → Planned P C B A → Calls P C → ℕ → Pool → Pool → Option A → Type 0
 MachineLeft k q m c p r o = IfSome o (λ a. let tr = (memo_of r c).call in let es = happens_along (calls_control k q.steered) (calls_does k q) m tr in Did c p r es × CallsLeave q m (memo_of p c) (memo_of r c) tr es a)
 
 -- what a run of c says that led from the pool p to r, where each answer leaves L and is followed by a call
@@ -28,13 +28,13 @@ run_kind c p r x y None act ran = tt
 run_kind c p r x y (Some a) act ran = still_kind c true p r x y act ran
 
 -- the machine m was made of the plan e, and that for the identity x, which is me
-module _ {P C B A : Type 0} (q : Planned P C B A) (plan : Me → P) (me x : Me) (e : P) (m : Calls P C A B) (is : x ≡ me) (planned : e ≡ plan x) (made : m ≡ calls_of q.steered e) where
+module _ {P C B A : Type 0} (q : Planned P C B A) (plan : Me → P) (me x : Me) (e : P) (m : Calls P C) (is : x ≡ me) (planned : e ≡ plan x) (made : m ≡ calls_of q.steered e) where
   same : m ≡ calls_of q.steered (plan me)
   same = made ∙ ap (λ (z : P). calls_of q.steered z) (planned ∙ ap plan is)
 
   -- it may begin where the plan may
   pub plan_may : (may : P → Memo → Type 0) (r : Memo) → may (plan me) r → CallsMay q may m r
-  plan_may may r h = subst (λ (z : Calls P C A B). CallsMay q may z r) (sym same) (refl, h)
+  plan_may may r h = subst (λ (z : Calls P C). CallsMay q may z r) (sym same) (refl, h)
 
   module _ (k : Control C B) (c : ℕ) (p r : Pool) where
     -- and leaves what the plan does
@@ -43,7 +43,7 @@ module _ {P C B A : Type 0} (q : Planned P C B A) (plan : Me → P) (me x : Me) 
     plan_left (Some a) h =
         let n = memo_of r c in
         let es = happens_along (calls_control k q.steered) (calls_does k q) m n.call in
-        (es, h.0, subst (λ (z : Calls P C A B). q.leaves z.plan (memo_of p c) n n.call es a) same h.1)
+        (es, h.0, subst (λ (z : Calls P C). q.leaves z.plan (memo_of p c) n n.call es a) same h.1)
 
     -- so this is what its run says
     pub plan_said : (i j : ℕ) (o : Option A) → Ran c true (is_some o) p r i j → IfSome o (λ a. Unit {0} → IsAtWork c r) → MachineLeft k q m c p r o → Said (PlanLeft q (plan me) c p r) c p r i j o

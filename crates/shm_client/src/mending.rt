@@ -7,7 +7,7 @@ ghost use Rattle.shm_plain.specs.{Pools.{after_fall, memo_of}, Calls.{Did, Ran}}
 ghost use Rattle.shm_count.specs.Roots.{member};
 ghost use Rattle.shm_recover.specs.Mend.{IsMended};
 
-use shm_calls::Calls;
+use plans::Calls;
 use shm_graph::{Life, Me};
 use shm_plain::PlainPool;
 use shm_recover::Mend;

@@ -4,12 +4,12 @@ ghost use Rattle.std.specs.{Prelude.{◌≡◌, ◌<◌, true, List, IfOk, IfSom
 ghost use Rattle.shm_words.specs.Layout.{GeometryFits};
 ghost use Rattle.shm_graph.specs.declared.memo.{Kind.TheVariants.Recoverer, Status.TheVariants.Gone};
 ghost use Rattle.shm_graph.specs.{Agents.{acts, entered, last_agent}, Events.Event, Runs.fell_by};
-ghost use Rattle.shm_steps.specs.Reparting.{map_in};
+ghost use Rattle.kind_parts.specs.Reparting.{map_in};
 ghost use Rattle.shm_plain.specs.{Pools.{IsRun, after_fall, memo_of}, Calls.{Did, Ran}};
 ghost use Rattle.shm_count.specs.Roots.{member};
 ghost use Rattle.shm_recover.specs.{Machines.Recovering.RecoverGives, Recover.{Control.recovering, RecoverLeaves}};
 
-use shm_calls::Calls;
+use plans::Calls;
 use shm_count::EraSpent;
 use shm_graph::{Life, Me};
 use shm_plain::PlainPool;

@@ -3,7 +3,7 @@ use Rattle.std.proofs.Common.{◌≡◌, ℕ, zero, suc, refl, sym, ap, ◌∙�
 use Rattle.std.proofs.lemmas.List.Elements.{Contains-append_right}
 use Rattle.std.specs.Prelude.{◌-◌, ◌^◌, ◌==◌, nat_lt, if◌then◌else◌, Option, Some, None, Result, Ok, Err}
 use Rattle.shm_graph.specs.Asks.{Trail}
-use Rattle.shm_calls.specs.{declared.or.Or.TheVariants.{First, Second}, Plans.{Planned, calls_asked, go_on, plan_trail}}
+use Rattle.plans.specs.{declared.or.Or.TheVariants.{First, Second}, Plans.{Planned, calls_asked, go_on, plan_trail}}
 use Rattle.shm_count.specs.declared.answer.{ShareFault.ShareFault, UpFault.{UpFault, TheVariants.{CountFull, EraSpent}}}
 use Rattle.shm_count.specs.declared.{point.Aim.TheVariants.Up, up_root.RootingPoint.RootingPoint}
 use Rattle.shm_count.specs.declared.up_root.{RootingPoint.TheVariants.{Era, Look, Step}, RootingState.RootingState}

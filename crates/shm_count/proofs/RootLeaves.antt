@@ -11,8 +11,8 @@ use Rattle.shm_graph.specs.{MemoAfterExchange.{cut, reparted, without_made}, Rea
 use Rattle.shm_graph.specs.{Views.own_word, Core.core}
 use Rattle.shm_graph.specs.MemoAfterStore.{is_of, not_of, with_own, written, stored_on, era_stored}
 use Rattle.shm_graph.proofs.{Spots.Spotting.same_spot_self, StepKinds.Loads.choice}
-use Rattle.shm_laws.specs.HeaderExchanges.{dying_after}
-use Rattle.shm_steps.proofs.MemoCommits.{known_lowered, lowered_is}
+use Rattle.kind_laws.specs.HeaderExchanges.{dying_after}
+use Rattle.kind_parts.proofs.MemoCommits.{known_lowered, lowered_is}
 use Rattle.shm_count.specs.declared.point.{Aim.TheVariants.Down, Half.TheVariants.First}
 use Rattle.shm_count.specs.Proved.{DownLeaves.{count_less, one_less, joined, kept_lowered}, Step.Parts.lasting_not}
 use Rattle.shm_count.specs.Proved.Step.Memos.{closed_part}

@@ -66,8 +66,7 @@ change_done me slot a b p r0 r z (e, q, w, (d, next, (q1, v, at, rows)), some, s
 -- each step has a first half
 has_first : (x : Aim) → PartFits x First
 has_first (Up b) = tt
-has_first (Down b) = tt
-has_first (Change a b) = tt
+has_first _ = tt
 
 -- ---- what no count step changes
 

@@ -15,8 +15,8 @@ use Rattle.shm_graph.specs.{Spots.{IsAt, spot_address, spot_at}, Views.{own_word
 use Rattle.shm_graph.specs.declared.memo.Op.TheVariants as op
 use Rattle.shm_graph.specs.declared.spot.Spot.TheVariants as spot
 use Rattle.shm_graph.proofs.Spots.{SpotPlaces.spot-place, Spotting.same_spot_self}
-use Rattle.shm_steps.specs.{Conditions.IsHere, Raising.is_read}
-use Rattle.shm_steps.proofs.Cores.{room_least}
+use Rattle.kind_parts.specs.{Conditions.IsHere, Raising.is_read}
+use Rattle.kind_parts.proofs.Cores.{room_least}
 use Rattle.shm_count.specs.declared.{answer.UpFault.UpFault, point.Aim.{Aim, TheVariants.{Up, Down, Change}}}
 use Rattle.shm_count.specs.{declared.point.Half.TheVariants.{First, Second}, Proved.Step.Beginning.begins_slot}
 use Rattle.shm_count.specs.Proved.Step.{Going.begins, Memos.closed_part}
@@ -31,8 +31,7 @@ pub use Rattle.shm_count.specs.Proved.Idles.{is_here}
 -- a root is no word of a queue, and no word that a partition is read from
 root_put : (c : ℕ) (x : Aim) (k : ℕ) (m : Memo) → HasPut c x (spot.Root c k) m
 root_put c (Up b) k m = tt
-root_put c (Down b) k m = tt
-root_put c (Change a b) k m = tt
+root_put c _ k m = tt
 
 root_unread : (part : Part) (c k : ℕ) → is_read part (spot.Root c k) ≡ false
 root_unread Loose c k = refl

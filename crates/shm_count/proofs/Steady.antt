@@ -5,19 +5,19 @@ pub mod Tests
 use Rattle.std.proofs.Common.{◌≡◌, ℕ, Bool, refl, ap, ◌∙◌, List}
 use Rattle.shm_graph.specs.{declared.{ask.{Ask.Ask, Me.Me}, memo.Memo.Memo}, Asks.Trail, Events.Event, Held.is_loose}
 use Rattle.shm_graph.specs.{Laws.Control, Mapped.mapped}
-use Rattle.shm_steps.specs.Reparting.{map_in}
-use Rattle.shm_calls.specs.{declared.or.Or.TheVariants.{First, Second}, CallsControl.calls_control}
-use Rattle.shm_calls.specs.{CallsPart.calls_part, Either.{or_control, or_part}, EventWords.event_part, Grown.grown}
-use Rattle.shm_calls.specs.{MappedParts.mapped_part, Parts.Part, Plans.Planned, Words.{word_control, word_part}}
-use Rattle.shm_count.specs.Steady.{IsSteady, SameTable}
+use Rattle.kind_parts.specs.Reparting.{map_in}
+use Rattle.plans.specs.{declared.or.Or.TheVariants.{First, Second}, CallsControl.calls_control, CallsPart.calls_part}
+use Rattle.plans.specs.{Either.{or_control, or_part}, EventWords.event_part, Grown.grown, MappedParts.mapped_part}
+use Rattle.plans.specs.{Parts.Part, Plans.Planned, Words.{word_control, word_part}}
+use Rattle.shm_count.specs.Steady.{IsSteady, SameMap}
 
 -- ---- memos
 
 -- the map stays where the partition does
-pub table_of : (r0 r : Memo) → r.part ≡ r0.part → SameTable r0 r
+pub table_of : (r0 r : Memo) → r.part ≡ r0.part → SameMap r0 r
 table_of r0 r e = (ap map_in e, ap is_loose e)
 
-pub table_then : (r0 r r' : Memo) → SameTable r0 r → SameTable r r' → SameTable r0 r'
+pub table_then : (r0 r r' : Memo) → SameMap r0 r → SameMap r r' → SameMap r0 r'
 table_then r0 r r' h k = (k.0 ∙ h.0, k.1 ∙ h.1)
 
 -- ---- single word steps
@@ -43,7 +43,7 @@ or_steady j k p q h i (Second m) r0 r tr going fit = i m r0 r tr going fit
 
 -- a plan, where the map is as it was before each call, and each call leaves it so
 pub calls_steady : {P C B A : Type 0} (k : Control C B) (q : Planned P C B A)
-    → ((p : P) (r0 r : Memo) (tr : Trail) (es : List Event) → q.knows p r0 r tr es → SameTable r0 r)
+    → ((p : P) (r0 r : Memo) (tr : Trail) (es : List Event) → q.knows p r0 r tr es → SameMap r0 r)
     → ((p : P) → IsSteady k (q.part p))
     → IsSteady (calls_control k q.steered) (calls_part k q)
 calls_steady k q known calls m r0 r tr going fit =

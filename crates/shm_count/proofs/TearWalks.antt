@@ -5,7 +5,7 @@ use Rattle.std.proofs.lemmas.List.Elements.{All-nil, All-cons, All-append, All-w
 use Rattle.std.specs.{Prelude.◌⊎◌, List.{All, Contains}}
 use Rattle.shm_graph.specs.{declared.spot.Spot.TheVariants.Body, Events.Event}
 use Rattle.shm_graph.specs.Events as event
-use Rattle.shm_laws.proofs.Keep.{newest}
+use Rattle.kind_laws.proofs.Lists.{newest}
 use Rattle.shm_count.specs.Tear.Events.{Walk, Freed, Kept, Fell, InOrder, events_of, Visit, Walks, IsTearing, frees_of}
 
 -- the block itself is freed last

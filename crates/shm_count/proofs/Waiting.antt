@@ -4,8 +4,8 @@ use Rattle.std.specs.Prelude.{slice_index}
 use Rattle.shm_graph.specs.declared.{memo.Memo.Memo, spot.Spot.{Spot, TheVariants.{Home, Root}}, table.Part.Part}
 use Rattle.shm_graph.specs.{declared.table.Part.TheVariants.{Loose, Table}, Core.core, Held.is_loose, Ops.{On, cover}}
 use Rattle.shm_graph.specs.Views.{own_word}
-use Rattle.shm_steps.specs.Reparting.{Sight, sight}
-use Rattle.shm_steps.proofs.PartsSet.{loose_stays}
+use Rattle.kind_parts.specs.Reparting.{Sight, sight}
+use Rattle.kind_parts.proofs.PartsSet.{loose_stays}
 use Rattle.shm_count.specs.{Step.Parts.part_after, Waiting.{LeavesQueues, LeavesWaiting}}
 
 -- ---- zero-count blocks, and what waits

@@ -8,8 +8,8 @@ use Rattle.shm_words.specs.declared.redo.Redo.TheVariants as redos
 use Rattle.shm_graph.specs.declared.{ask.{Ask.TheVariants.Load, Me.Me}, spot.Spot.TheVariants.{Era, Redo, RedoMore}}
 use Rattle.shm_graph.specs.{declared.memo.Memo.Memo, Agents.recovers, Asks.{Trail, IsWithin, pair}, Core.core}
 use Rattle.shm_graph.specs.{Events.Event, Ops.on_of, MemoAfterRead.next_row, Views.own_word}
-use Rattle.shm_steps.specs.WordParts.{TestBegun, TestGoesOn}
-use Rattle.shm_calls.specs.{declared.word.Word.Word, Parts.Part, Plans.Planned, Words.word_part}
+use Rattle.kind_parts.specs.WordParts.{TestBegun, TestGoesOn}
+use Rattle.plans.specs.{declared.word.Word.Word, Parts.Part, Plans.Planned, Words.word_part}
 use Rattle.shm_count.specs.declared.commit_test.{Commit.{Commit, TheVariants.{Committed, NotCommitted}}, Proof.Proof}
 use Rattle.shm_count.specs.declared.commit_test.TestingPoint.{TestingPoint, TheVariants.{Header, Row}}
 use Rattle.shm_count.specs.{declared.commit_test.TestingState.TestingState, CommitTest.StepTrail.read_part}

@@ -2,7 +2,7 @@
 use Rattle.std.proofs.Common.{◌≡◌, Bool, true, sym, ap, ◌∙◌, subst, List}
 use Rattle.std.specs.Prelude.{Result}
 use Rattle.shm_graph.specs.{declared.{spot.Spot.Spot, memo.Memo.Memo}, Asks.Trail, Events.Event, Tells.happens_along}
-use Rattle.shm_calls.specs.{Proved.{CallTells.mapped_events, Placed.placed}, Grown.Grows, Parts.{Part, PartLaws}}
+use Rattle.plans.specs.{Proved.{CallTells.mapped_events, Placed.placed}, Grown.Grows, Parts.{Part, PartLaws}}
 use Rattle.shm_count.specs.declared.{answer.{EraSpent.EraSpent, UpFault.UpFault}, point.StepPoint.TheVariants.Era}
 use Rattle.shm_count.specs.declared.{point.StepState.StepState, tear_point.TearPoint.TheVariants.Begin}
 use Rattle.shm_count.specs.{declared.tear_point.TearState.TearState, Step.Control.{StepInRange, step_control}}

@@ -1,3 +1,4 @@
+pub mod Lasting
 pub mod Step
 pub mod Tear
 pub mod Roots

@@ -7,8 +7,8 @@ use Rattle.shm_graph.specs.declared.{ask.{Ask.Ask, Me.Me}, spot.Spot.{Spot, TheV
 use Rattle.shm_graph.specs.{Asks.{at_of, pair, seen_of}, Blocks.{classes, IsBlock}, Changes.memo_on}
 use Rattle.shm_graph.specs.{Held.{HeldAt, MadeAt}, Laws.{Outcome, framed}, Spots.spot_at, Views.{targets, view}}
 use Rattle.shm_graph.proofs.StepKinds.Loads.{choice}
-use Rattle.shm_calls.specs.{Proved.CallTells.mapped_events, MadeStays.{making_laws, making_part, touches}}
-use Rattle.shm_calls.specs.{Parts.{Part, PartLaws}, Placed.PlacedKeeps}
+use Rattle.plans.specs.{Proved.CallTells.mapped_events, MadeStays.{making_laws, making_part, touches}}
+use Rattle.plans.specs.{Parts.{Part, PartLaws}, Placed.PlacedKeeps}
 use Rattle.shm_count.specs.declared.answer.{EraSpent.EraSpent as AEraSpent, UpFault.UpFault}
 use Rattle.shm_count.specs.declared.{answer.UpFault.TheVariants.{EraSpent, CountFull}, point.Aim.Aim}
 use Rattle.shm_count.specs.declared.point.{Aim.TheVariants.{Up, Down, Change}, Half.{Half, TheVariants.{First, Second}}}

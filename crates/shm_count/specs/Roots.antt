@@ -7,8 +7,8 @@ use Rattle.shm_graph.specs.declared.{ask.Me.Me, memo.{Memo.Memo, Op.TheVariants.
 use Rattle.shm_graph.specs.{declared.spot.Spot.TheVariants.Root, Spots.same_spot, MemoAfterStore.is_of}
 use Rattle.shm_graph.specs.{Reach.{is_named, is_reached}, Views.own_word}
 use Rattle.shm_count.specs.declared.point.{Aim.Aim, StepPoint.TheVariants.Era, StepState.StepState}
-use Rattle.shm_count.specs.declared.tear_point.{TearPoint.TheVariants.Begin, TearState.TearState}
-use Rattle.shm_count.specs.Tear.Memos.{is_lasting, is_slot_word, Knows}
+use Rattle.shm_count.specs.{declared.tear_point.{TearPoint.TheVariants.Begin, TearState.TearState}, Lasting.is_lasting}
+use Rattle.shm_count.specs.Tear.Memos.{is_slot_word, Knows}
 
 -- the identity c of a pool of these sizes
 abbrev pub member : Geometry → ℕ → Me

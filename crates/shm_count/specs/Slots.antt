@@ -7,13 +7,13 @@ use Rattle.shm_graph.specs.declared.{memo.{Op.TheVariants.Nothing, Stored.Stored
 use Rattle.shm_graph.specs.{Reach.{learnt, is_named}, MemoAfterStore.{is_of, other_than, put, with_own}, Views.own_word}
 use Rattle.shm_graph.specs.{Asks.{Trail, IsWithin}, Events.Event, Core.core}
 use Rattle.shm_graph.specs.Events as event
-use Rattle.shm_steps.specs.Reparting.{sight}
-use Rattle.shm_calls.specs.Grown.{Grows}
+use Rattle.kind_parts.specs.Reparting.{sight}
+use Rattle.plans.specs.Grown.{Grows}
 use Rattle.shm_count.specs.declared.{answer.UpFault.{UpFault, TheVariants.{EraSpent, CountFull}}, point.Aim.Aim}
 use Rattle.shm_count.specs.declared.point.{Aim.TheVariants.{Up, Down, Change}, Half.TheVariants.First}
 use Rattle.shm_count.specs.{declared.point.StepState.StepState, CountParts.IsStep, Roots.rest}
 use Rattle.shm_count.specs.Step.{Control.{block_at, last_era, raises}, Parts.part_after, Asks.steps_of}
-use Rattle.shm_count.specs.Tear.Memos.{is_lasting, is_slot_word, Knows}
+use Rattle.shm_count.specs.{Lasting.is_lasting, Tear.Memos.{is_slot_word, Knows}}
 
 -- a slot that a step of c may put a block into: an own root, the own home, a slot of a queue from c, a word of a block
 abbrev pub IsFilled : ℕ → Spot → Type 0

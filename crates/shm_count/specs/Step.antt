@@ -16,9 +16,9 @@ use Rattle.shm_graph.specs.{Reach.is_reached, MemoAfterExchange.committed, MemoA
 use Rattle.shm_graph.specs.Tells.{after_all, happens_along}
 use Rattle.shm_graph.specs.declared.spot.Spot.TheVariants as spot
 use Rattle.shm_graph.specs.declared.memo.Op.TheVariants as op
-use Rattle.shm_steps.specs.{Conditions.IsHere, OwnWords.{MayAdd, MayRemove}}
-use Rattle.shm_steps.specs.Beginning.{MayReplaceRoot, MaySet, MayPut, MayTake, MayTakeBack, MayFill, MayClear, MayReplace}
-use Rattle.shm_steps.specs.{Raising.is_read, Reparting.{sight, TableStep}}
+use Rattle.kind_parts.specs.{Conditions.IsHere, OwnWords.{MayAdd, MayRemove}}
+use Rattle.kind_parts.specs.Beginning.{MayReplaceRoot, MaySet, MayPut, MayTake, MayTakeBack, MayFill, MayClear, MayReplace}
+use Rattle.kind_parts.specs.{Raising.is_read, Reparting.{sight, TableStep}}
 use Rattle.shm_count.specs.declared.{answer.UpFault.{UpFault, TheVariants.{EraSpent, CountFull}}, point.Aim.Aim}
 use Rattle.shm_count.specs.declared.point.{Aim.TheVariants.{Up, Down, Change}, Half.{Half, TheVariants.{First, Second}}}
 use Rattle.shm_count.specs.declared.point.{StepPoint.StepPoint, StepState.StepState, StepNext.StepNext}
@@ -26,7 +26,7 @@ use Rattle.shm_count.specs.declared.point.StepNext.TheVariants.{Point, Answer}
 use Rattle.shm_count.specs.Step.Control.{last_era, block_at, raises, value_before, value_after, redo_at, header_after, step_control, AimFits, StepInRange}
 use Rattle.shm_count.specs.Step.{Asks.{step_trail, point_trail}, Events.{step_event, step_start, events_at, own_events}}
 use Rattle.shm_count.specs.declared.point.StepPoint.TheVariants as point
-use Rattle.shm_calls.specs.Grown.{Grows}
+use Rattle.plans.specs.Grown.{Grows}
 
 -- ---- when it may begin
 

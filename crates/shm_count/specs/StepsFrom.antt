@@ -4,7 +4,7 @@ use Rattle.std.specs.{Prelude.Result, List.filter}
 use Rattle.shm_graph.specs.{declared.{spot.Spot.Spot, memo.Memo.Memo}, Asks.{Trail, pair}, Events.Event}
 use Rattle.shm_graph.specs.{Laws.{Outcome, Then}, Tells.{after_all, happens_along, is_event}}
 use Rattle.shm_graph.proofs.Machines.TellsAlong.{after_all-append, happens_along-append}
-use Rattle.shm_calls.specs.{Parts.{Part, PartLaws}, Placed.PlacedKeeps}
+use Rattle.plans.specs.{Parts.{Part, PartLaws}, Placed.PlacedKeeps}
 use Rattle.shm_count.specs.declared.{answer.UpFault.UpFault, point.{StepPoint.StepPoint, StepState.StepState}}
 use Rattle.shm_count.specs.declared.point.StepNext.{StepNext, TheVariants.{Point, Answer}}
 use Rattle.shm_count.specs.Step.Control.{StepInRange, step_ask, step_control, step_next, point_of, answer_of}

@@ -10,7 +10,7 @@ use Rattle.shm_graph.specs.declared.{ask.Me.Me, spot.Spot.TheVariants.{Era, Body
 use Rattle.shm_graph.specs.{Asks.{Trail, failed, IsWithin}, Bounds.{tear_steps, redo_steps}, Agents.recovers}
 use Rattle.shm_graph.specs.{Events.Event, MemoAfterStore.not_block, Tells.{after_all, happens_along}, Views.own_word}
 use Rattle.shm_graph.specs.declared.memo.Op.TheVariants as op
-use Rattle.shm_steps.specs.Conditions.{IsHere}
+use Rattle.kind_parts.specs.Conditions.{IsHere}
 use Rattle.shm_count.specs.declared.{answer.EraSpent.EraSpent, point.StepPoint.StepPoint}
 use Rattle.shm_count.specs.declared.tear_point.{TearPoint.TearPoint, TearState.TearState, TearNext.TearNext}
 use Rattle.shm_count.specs.{declared.tear_point.TearNext.TheVariants.{Go, Answer}, Step.Control.IsInside}
@@ -21,7 +21,7 @@ use Rattle.shm_count.specs.Tear.{Memos.{TearStays, Retains, Knows, IsTagged, IsF
 use Rattle.shm_count.specs.declared.point.Aim.TheVariants as aims
 use Rattle.shm_count.specs.declared.point.StepPoint.TheVariants as step
 use Rattle.shm_count.specs.declared.tear_point.TearPoint.TheVariants as point
-use Rattle.shm_calls.specs.Grown.{Grows}
+use Rattle.plans.specs.Grown.{Grows}
 
 -- ---- when it may begin
 

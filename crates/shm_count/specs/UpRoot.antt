@@ -16,9 +16,9 @@ use Rattle.shm_count.specs.{CountParts.up_part, Refusing.ReadsCount, Roots.root_
 use Rattle.shm_count.specs.StepsFrom.{from_part}
 use Rattle.shm_count.specs.UpRoot.Control.{RootingAnswer, RootingCall, is_era, rooting_ask, taken_up, rooting_steered}
 use Rattle.shm_count.specs.declared.answer.ShareFault.TheVariants as share
-use Rattle.shm_steps.specs.{Conditions.IsHere, WordParts.OwnLoaded}
-use Rattle.shm_calls.specs.{declared.word.Word.Word, Either.or_part, MappedParts.mapped_part, Parts.{Part, weaker}}
-use Rattle.shm_calls.specs.{Plans.Planned, Words.word_part}
+use Rattle.kind_parts.specs.{Conditions.IsHere, WordParts.OwnLoaded}
+use Rattle.plans.specs.{declared.word.Word.Word, Either.or_part, MappedParts.mapped_part, Parts.{Part, weaker}}
+use Rattle.plans.specs.{Plans.Planned, Words.word_part}
 
 -- no step of a client is in progress, and the block is in reach
 pub record MayUpRoot (me : Me) (b : ℕ) (r : Memo) : Type 0 where

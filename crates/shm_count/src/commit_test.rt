@@ -11,7 +11,7 @@ ghost use Rattle.shm_count.specs.declared.commit_test.Commit.{Commit as ACommit}
 ghost use Rattle.shm_count.specs.CommitTest.{Control.{testing, test_next, test_step}, TestLeaves, testing_plan};
 ghost use Rattle.shm_count.specs.Proved.CommitTest.Laws.{testing_laws};
 
-use shm_calls::{Plan, Word};
+use plans::{Plan, Word};
 use shm_graph::{Machine, Me};
 use shm_words::Header;
 use std::marker::Model;

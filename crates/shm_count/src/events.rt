@@ -17,7 +17,7 @@ ghost use Rattle.shm_count.specs.{Step.{StepFits, CanStep}, StepsAt.{UpGivesAt, 
 ghost use Rattle.shm_count.specs.Tear.Control.{tear_control};
 ghost use Rattle.shm_count.specs.Tear.Events.{Visit, Walk, InOrder, events_of, IsTearing, frees_of};
 ghost use Rattle.shm_count.specs.Tear.{TearGives, TearLeaves};
-ghost use Rattle.shm_calls.specs.Deciding.{Decides};
+ghost use Rattle.plans.specs.Deciding.{Decides};
 
 /// A count step that has just been made fits each memo that shows its slot to be the identity's, holding what the step needs there,
 /// and a block that is to be raised to be in reach.

@@ -6,7 +6,7 @@ ghost use Rattle.shm_graph.specs.declared.{ask.Me.Me as AMe, memo.Memo.Memo as A
 ghost use Rattle.shm_graph.specs.{Asks.Trail, Events.Event as AnEvent, Held.is_slot, Idle.IsIdle, Reach.is_named};
 ghost use Rattle.shm_graph.specs.{MemoAfterStore.{is_of, not_block}, Views.own_word};
 ghost use Rattle.shm_graph.specs.declared.spot.Spot.TheVariants as spots;
-ghost use Rattle.shm_calls.specs.{Grown.{Grows, grown}, Parts.PartLaws};
+ghost use Rattle.plans.specs.{Grown.{Grows, grown}, Parts.PartLaws};
 ghost use Rattle.shm_count.specs.declared.answer.{EraSpent.EraSpent as ASpent, UpFault.UpFault as AFault};
 ghost use Rattle.shm_count.specs.declared.answer.UpFault.TheVariants.{EraSpent, CountFull};
 ghost use Rattle.shm_count.specs.declared.point.{Aim.TheVariants.Down, Half.TheVariants.First};
@@ -17,7 +17,7 @@ ghost use Rattle.shm_count.specs.{Operating.{TearDownLeaves, tearing}, Refusing.
 ghost use Rattle.shm_count.specs.Roots.{AreRootsReached, root_word};
 ghost use Rattle.shm_count.specs.Step.{Control.{last_era, block_at, raises, step_control}, StepGives};
 ghost use Rattle.shm_count.specs.{Step.Machines.{down_control, up_control}, Tear.{Control.tear_control, TearGives}};
-ghost use Rattle.shm_count.specs.{Tear.Memos.{Knows, Retains, is_lasting}, Waiting.LeavesQueues};
+ghost use Rattle.shm_count.specs.{Tear.Memos.{Knows, Retains}, Lasting.is_lasting, Waiting.LeavesQueues};
 
 /// Whatever a count step answers, the status and the agent are what they were, and what was read of tails and heads stays.
 pub fn step_lasts()

@@ -2,8 +2,8 @@
 
 ghost use Rattle.std.specs.Prelude.{◌≡◌, ◌⊎◌, false};
 ghost use Rattle.shm_graph.specs.{declared.{memo.Memo.Memo as AMemo, spot.Spot.Spot as ASpot}, Asks.Trail};
-ghost use Rattle.shm_steps.specs.Reparting.{sight};
-ghost use Rattle.shm_calls.specs.{CallsControl.calls_control, CallsPart.calls_part, Words.word_control};
+ghost use Rattle.kind_parts.specs.Reparting.{sight};
+ghost use Rattle.plans.specs.{CallsControl.calls_control, CallsPart.calls_part, Words.word_control};
 ghost use Rattle.shm_count.specs.declared.point.StepState.{StepState as AState};
 ghost use Rattle.shm_count.specs.{declared.tear_point.TearState.TearState as ATearState, CommitTest.testing_plan};
 ghost use Rattle.shm_count.specs.{CommitTest.Control.testing_steered, Steady.IsSteady};

@@ -170,7 +170,7 @@ impl Operation for TearDown {
     ghost operates = { tear_operation };
 }
 
-impl shm_calls::Begin for TearDown {
+impl plans::Begin for TearDown {
     type Op = TearDown;
 
     ghost op = { λ m. m };

@@ -8,7 +8,7 @@ ghost use Rattle.shm_count.specs.UpRoot.Control as control;
 
 use crate::answer::{ShareFault, UpFault};
 use crate::step::StepUp;
-use shm_calls::{Or, Plan, Task, Word};
+use plans::{Or, Plan, Task, Word};
 use shm_graph::{Machine, Me};
 use std::marker::Model;
 

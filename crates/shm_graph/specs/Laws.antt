@@ -135,14 +135,14 @@ module _ {S A : Type 0} (k : Control S A) where
   abbrev pub Back : (S → Memo → Memo → Trail → A → Type 0) → Type 0
   Back gives = (m : S) (n : ℕ) → k.finished m ≡ false → k.turns m n ≡ None → (r0 r : Memo) (tr : Trail) (a : A) → gives (k.after m n) r0 r tr a → gives m r0 r tr a
 
-  abbrev pub Keeps : (S → Memo → Memo → Trail → Type 0) → (S → Memo → Memo → Trail → A → Type 0) → Type 0
-  Keeps fits gives = (m : S) (r0 : Memo) (tr : Trail) → k.finished m ≡ false → StepKeeps (k.me m) (k.asks m) tr (λ r. fits m r0 r tr) (Then fits gives m r0 tr)
+  abbrev pub EachStepKeeps : (S → Memo → Memo → Trail → Type 0) → (S → Memo → Memo → Trail → A → Type 0) → Type 0
+  EachStepKeeps fits gives = (m : S) (r0 : Memo) (tr : Trail) → k.finished m ≡ false → StepKeeps (k.me m) (k.asks m) tr (λ r. fits m r0 r tr) (Then fits gives m r0 tr)
 
 pub record Laws {S A : Type 0} (k : Control S A) (fits : S → Memo → Memo → Trail → Type 0) (gives : S → Memo → Memo → Trail → A → Type 0) : Type 0 where
   pub steady : Steady k
   pub inside : Inside k fits
   pub back : Back k gives
-  pub keeps : Keeps k fits gives
+  pub keeps : EachStepKeeps k fits gives
 
 -- the frame of a machine that runs by itself
 abbrev pub frame_of : {S A : Type 0} → Control S A → S → ℕ → Frame

@@ -1,6 +1,6 @@
 -- a control whose answers are told by those of another one, and its laws
 use Rattle.std.proofs.Common.{◌≡◌}
-use Rattle.std.specs.{Prelude.[], Option.option_map}
+use Rattle.std.specs.Option.{option_map}
 use Rattle.shm_graph.specs.{declared.memo.Memo.Memo, Asks.Trail, Laws.Control}
 
 -- what holds of a machine with states S on the way, and at its answer

@@ -3,7 +3,7 @@ use Rattle.std.specs.Prelude.{◌≡◌, ℕ, Bool, true, false, List, ◌++◌,
 use Rattle.shm_graph.specs.Spots.{see}
 use Rattle.shm_audit.specs.declared.{fault.ImageFault.ImageFault, verdict.Verdict.{Verdict, TheVariants.Clean}}
 use Rattle.shm_audit.specs.{Images.{image_of, geometry_in, words_in}, Faults.image_fault_of, Verdicts.verdict_of}
-use Rattle.shm_audit.specs.Texts.{line_end, fault_line, verdict_line}
+use Rattle.shm_audit.specs.Texts.{line_end, image_fault_line, verdict_line}
 use Rattle.shm_migrate.specs.declared.stop.MigrateStop.{MigrateStop, TheVariants.{Memory, Fault, Already, NotClean}}
 use Rattle.shm_migrate.specs.Widened.{wide_of, widened}
 
@@ -38,6 +38,6 @@ StopsBy refused stop = refused ≡ Some stop
 -- the line of a fault; `refused format 2`; `refused` before the line of a verdict; want of memory has no line
 abbrev pub stop_line : MigrateStop → List ℕ
 stop_line (Memory e) = codes ""
-stop_line (Fault fault) = fault_line fault
+stop_line (Fault fault) = image_fault_line fault
 stop_line Already = codes "refused format 2" ++ line_end
 stop_line (NotClean verdict) = codes "refused " ++ verdict_line verdict

@@ -7,7 +7,7 @@ use Rattle.crossbeam_queue.specs.Fifo.{Held, Pops}
 use Rattle.shm_pool.specs.Tokens.{Its}
 use Rattle.shm_morgue.specs.{declared.rule.{Desk.Desk, Hands.Hands, Taken.Taken}, Closing.IsEmptied}
 use Rattle.shm_morgue.specs.{Entries.{IsInOrder, IsOf, Which}, Hands.{hands, take_first}}
-use Rattle.shm_morgue.specs.Keeps.{Holds, Keeps, KnowsAll, TakesOne, on_desks, in_lists}
+use Rattle.shm_morgue.specs.Keeps.{MorgueHolds, MorgueKeeps, KnowsAll, TakesOne, on_desks, in_lists}
 use Rattle.shm_morgue.proofs.{Moves.takes_one, Order.{Before, order_front, order_more}}
 use Rattle.atomic_table.specs.Seated.{TableId}
 
@@ -47,7 +47,7 @@ behind_long : (left : List Taken) (lists : List (List Taken)) → length (behind
 behind_long left [] = refl
 behind_long left (m ∷ ms) = refl
 
-known : (pools : List Its) (n k : ℕ) (desks : List Desk) (lists : List (List Taken)) (left items : List Taken) (v : Hands) → IsAll n k desks lists → v ≡ hands desks (behind left lists) n k → KnowsAll pools v items → Holds pools items desks (behind left lists)
+known : (pools : List Its) (n k : ℕ) (desks : List Desk) (lists : List (List Taken)) (left items : List Taken) (v : Hands) → IsAll n k desks lists → v ≡ hands desks (behind left lists) n k → KnowsAll pools v items → MorgueHolds pools items desks (behind left lists)
 known pools n k desks lists left items v a e h =
     subst (λ (u : Hands). KnowsAll pools u items) e h a.some a.desks_there (subst (λ (x : ℕ). k ≤ x) (sym (behind_long left lists)) a.lists_there)
 
@@ -55,7 +55,7 @@ known pools n k desks lists left items v a e h =
 pub empties : (pools : List Its) (n k : ℕ) (desks : List Desk) (lists : List (List Taken)) (v u : Hands) (count : ℕ) → IsAll n k desks lists → v ≡ hands desks lists n k → u ≡ v → Held count (KnowsAll pools v) → Emptying pools n k desks lists [] u count
 empties pools n k desks lists v u count a e same held =
     let is : v ≡ hands desks (behind [] lists) n k = e ∙ ap (λ (l : List (List Taken)). hands desks l n k) (sym (behind_none lists)) in
-    let h : Holds pools held.0 desks lists = subst (Holds pools held.0 desks) (behind_none lists) (known pools n k desks lists [] held.0 v a is held.2) in
+    let h : MorgueHolds pools held.0 desks lists = subst (MorgueHolds pools held.0 desks) (behind_none lists) (known pools n k desks lists [] held.0 v a is held.2) in
     let long : length (in_lists lists ++ held.0) ≡ length (on_desks desks) = length_permutation (on_desks desks) (in_lists lists ++ held.0) h.once in record {
       view_is = same ∙ is;
       order = All-weaker (λ (m : List Taken). IsInOrder (m ++ held.0)) (λ (m : List Taken). IsInOrder (m ++ [])) (λ m o. subst IsInOrder (sym (append-nil m)) (order_front m held.0 o)) lists h.order;
@@ -122,6 +122,6 @@ emptied pools n k desks lists left items v count a h all know =
     }
 
 -- the pass may take
-pub takes_any : (pools : List Its) (i n k : ℕ) (desks : List Desk) (lists : List (List Taken)) (left : List Taken) (v : Hands) (count : ℕ) → IsAll n k desks lists → Emptying pools n k desks lists left v count → Pops (Keeps pools) i v (TakesOne pools v)
+pub takes_any : (pools : List Its) (i n k : ℕ) (desks : List Desk) (lists : List (List Taken)) (left : List Taken) (v : Hands) (count : ℕ) → IsAll n k desks lists → Emptying pools n k desks lists left v count → Pops (MorgueKeeps pools) i v (TakesOne pools v)
 takes_any pools i n k desks [] left v count a h = absurd (let m = a.medics in let l = a.lists_there in omega arith)
 takes_any pools i n k desks (m ∷ ms) left v count a h = takes_one pools i v desks (m ++ left) ms n k h.view_is

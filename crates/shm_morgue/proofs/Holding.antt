@@ -6,7 +6,7 @@ use Rattle.std.proofs.lemmas.List.Sorted.{IsPermutation-sym, IsPermutation-trans
 use Rattle.std.specs.List.{All, sum_by, Sorted.IsPermutation}
 use Rattle.shm_pool.specs.Tokens.{Its}
 use Rattle.shm_morgue.specs.{declared.rule.{Desk.Desk, Taken.Taken}, Entries.{client_of, IsBefore, IsInOrder, IsOf}}
-use Rattle.shm_morgue.specs.Keeps.{Holds, IsBelow, is_desk_of, on_desks, in_lists}
+use Rattle.shm_morgue.specs.Keeps.{MorgueHolds, IsBelow, is_desk_of, on_desks, in_lists}
 use Rattle.shm_morgue.proofs.{Alike.Alike, Order.{Before, order_push, order_without, order_before}}
 
 abbrev pub entries_on : Desk → List Taken
@@ -23,7 +23,7 @@ grown d x = record d { entries = d.entries ++ x ∷ [] }
 abbrev IsAbove : List (List Taken) → List Taken → Desk → Type 0
 IsAbove ms items d = All (λ (m : List Taken). All (IsBelow d) m) ms × All (IsBelow d) items
 
-pub holds_alike : (pools : List Its) (items : List Taken) (ds es : List Desk) (ms ns : List (List Taken)) → Alike entries_on ds es → Alike entries_in ms ns → Holds pools items ds ms → Holds pools items es ns
+pub holds_alike : (pools : List Its) (items : List Taken) (ds es : List Desk) (ms ns : List (List Taken)) → Alike entries_on ds es → Alike entries_in ms ns → MorgueHolds pools items ds ms → MorgueHolds pools items es ns
 holds_alike pools items ds es ms ns a b h = record {
   once = IsPermutation-trans (on_desks es) (on_desks ds) (in_lists ns ++ items) (IsPermutation-sym (on_desks ds) (on_desks es) a.inner)
       (IsPermutation-trans (on_desks ds) (in_lists ms ++ items) (in_lists ns ++ items) h.once (IsPermutation-append_left items (in_lists ms) (in_lists ns) b.inner));
@@ -66,7 +66,7 @@ last_moves e r x ys =
     subst (IsPermutation (((e ++ one) ++ r) ++ ys)) (append_assoc (e ++ r) one ys) (IsPermutation-append_left ys ((e ++ one) ++ r) ((e ++ r) ++ one) a)
 
 pub holds_put : (pools : List Its) (items : List Taken) (d : Desk) (ds : List Desk) (ms : List (List Taken)) (x : Taken)
-    → client_of x ≡ d.client → x.number ≡ length d.entries → IsOf pools x → Holds pools items (d ∷ ds) ms → Holds pools (items ++ x ∷ []) (grown d x ∷ ds) ms
+    → client_of x ≡ d.client → x.number ≡ length d.entries → IsOf pools x → MorgueHolds pools items (d ∷ ds) ms → MorgueHolds pools (items ++ x ∷ []) (grown d x ∷ ds) ms
 holds_put pools items d ds ms x mine next of h =
     let one : List Taken = x ∷ [] in
     let longer : length (d.entries ++ one) ≡ length d.entries + 1 = length-append d.entries one in
@@ -93,7 +93,7 @@ holds_put pools items d ds ms x mine next of h =
     }
 
 pub holds_take : (pools : List Its) (items : List Taken) (ds : List Desk) (m : List Taken) (ms : List (List Taken)) (x : Taken)
-    → Holds pools (x ∷ items) ds (m ∷ ms) → Holds pools items ds ((m ++ x ∷ []) ∷ ms)
+    → MorgueHolds pools (x ∷ items) ds (m ∷ ms) → MorgueHolds pools items ds ((m ++ x ∷ []) ∷ ms)
 holds_take pools items ds m ms x h =
     let one : List Taken = x ∷ [] in record {
       once = IsPermutation-trans (on_desks ds) (in_lists (m ∷ ms) ++ x ∷ items) (in_lists ((m ++ one) ∷ ms) ++ items) h.once
@@ -116,5 +116,5 @@ holds_take pools items ds m ms x h =
 
 -- what is taken was put behind all that was taken of its client
 pub taken_behind : (pools : List Its) (items : List Taken) (ds : List Desk) (ms : List (List Taken)) (x : Taken)
-    → Holds pools (x ∷ items) ds ms → All (λ (m : List Taken). All (λ (y : Taken). IsBefore y x) m) ms
+    → MorgueHolds pools (x ∷ items) ds ms → All (λ (m : List Taken). All (λ (y : Taken). IsBefore y x) m) ms
 taken_behind pools items ds ms x h = All-weaker (λ (l : List Taken). IsInOrder (l ++ x ∷ items)) (λ (l : List Taken). All (Before x) l) (λ l o. order_before l x items o) ms h.order

@@ -3,7 +3,7 @@ use Rattle.std.proofs.Common.{◌≡◌, ℕ, true, List, [], ◌∷◌, ◌++�
 use Rattle.std.specs.Prelude.{MatchOption, None, Option, Some}
 use Rattle.shm_graph.specs.declared.{ask.Me.Me, memo.{Agent.Agent, Fate.TheVariants.{Acts, Ended}}}
 use Rattle.shm_graph.specs.declared.{memo.Kind.TheVariants.Recoverer, run.{Account.Account, Start.Start}}
-use Rattle.shm_agents.specs.Agents.{Playing, Stage, Stands, is_client}
+use Rattle.shm_agents.specs.Agents.{Playing, Stage, AgentsStand, is_client}
 use Rattle.shm_agents.specs.{Agents.Stage.{Fresh, Plays, Parted, Fallen, Mending, Mended}, Turns.script_in}
 use Rattle.shm_pool.specs.{Posts.IsPosted, Tokens.{Its, Token}}
 use Rattle.shm_script.specs.{Logged.Logged, Values.{Scripted, Traced}}
@@ -32,8 +32,8 @@ module _ (t : Traced) (p : Its) (c : ℕ) (s : Scripted) (l : Logged) (is : scri
 -- ---- at a post
 
 module _ (s : Scripted) (k u : Token) (x y : Playing) (w : AreAtWork s k x u y) where
-  pub stands_now : Stands u.of.start s y u.account
-  stands_now = subst (λ (q : Its). Stands q.start s y u.account) (sym w.of) w.stands
+  pub stands_now : AgentsStand u.of.start s y u.account
+  stands_now = subst (λ (q : Its). AgentsStand q.start s y u.account) (sym w.of) w.stands
 
   pub posted_now : IsPosted u y.me.who
   posted_now = subst (λ (m : Me). IsPosted u m.who) (sym w.me) w.posted
@@ -41,7 +41,7 @@ module _ (s : Scripted) (k u : Token) (x y : Playing) (w : AreAtWork s k x u y) 
 -- ---- at the beginning
 
 -- whose identity nobody has joined begins with its client
-pub begins_client : (start : Start) (s : Scripted) (x : Playing) (e : Account) → Stands start s x e → e.memo.agents ≡ [] → is_client x ≡ true
+pub begins_client : (start : Start) (s : Scripted) (x : Playing) (e : Account) → AgentsStand start s x e → e.memo.agents ≡ [] → is_client x ≡ true
 begins_client start s x e h none = go h.stage
   where
     go : Stage start s x e → is_client x ≡ true

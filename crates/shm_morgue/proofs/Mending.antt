@@ -10,15 +10,14 @@ use Rattle.shm_graph.specs.Laws.{Stays, is_some, step_of}
 use Rattle.shm_graph.specs.Runs.{account_after, account_died, account_entered, begun_by, told_by, told_left}
 use Rattle.shm_graph.specs.Whole.{fits_now, gives_now}
 use Rattle.shm_graph.proofs.{Machines.Composing.{none_of, some_of}, Memos.MemoSteps.{agents_after, memo_agents}}
-use Rattle.shm_calls.specs.{CallsControl.calls_of, CallsFit.{CallsFits, CallsGives}, Proved.CallsKeep.calls_laws}
-use Rattle.shm_steps.specs.Reparting.{map_in}
+use Rattle.plans.specs.{CallsControl.calls_of, CallsFit.{CallsFits, CallsGives}, Proved.CallsKeep.calls_laws}
+use Rattle.kind_parts.specs.Reparting.{map_in}
 use Rattle.shm_recover.specs.Machines.Recovering.{recover}
-use Rattle.shm_recover.specs.Recover.Control.{recover_line, recover_parts, recovering as recovery, recover_steered}
-use Rattle.shm_recover.specs.Recover.{recover_plan}
+use Rattle.shm_recover.specs.Recover.{Control.{recover_line, recover_parts, recovering, recover_steered}, recover_plan}
 use Rattle.shm_recover.proofs.Steady.{recover_steady}
 use Rattle.shm_agents.proofs.{Growing.{begun_end, with_last-end}, WorkLaws.recoveries}
 use Rattle.shm_pool.specs.{Calls.ClientStepped, Endings.Answer, Rescues.{RecoverMachine, Rescuing, account_of}}
-use Rattle.shm_pool.specs.Tokens.{recovering}
+use Rattle.shm_pool.specs.Tokens.{recovering_account}
 use Rattle.shm_pool.proofs.Calling.{goes_on, is_over}
 use Rattle.shm_replay.specs.Closings.{SameTable}
 use Rattle.shm_team.specs.Visits.{HasRun}
@@ -41,7 +40,7 @@ recoverer n fate = record { kind = Recoverer; steps = n; fate = fate }
 pub record IsMending (e : Account) (n : ℕ) (m : RecoverMachine) (f : Account) : Type 0 where
   pub line : recover.line m ≡ recover_line
   pub going : recover.finished m ≡ false
-  pub fits : Fits m (recovering e).memo f.memo
+  pub fits : Fits m (recovering_account e).memo f.memo
   pub agents : f.memo.agents ≡ (account_died e).memo.agents ++ recoverer n Acts ∷ []
   pub begun : f.begun ≡ e.begun ++ lines_by (recover.fresh m) ∷ []
   pub told : told_left (recover.fresh m) f ≡ told_left true e
@@ -64,11 +63,11 @@ pub record IsWorking (e : Account) (steps left : ℕ) (r : Rescuing) : Type 0 wh
   pub begun : 0 < n → r.begun ≡ true
 
 module _ (e : Account) (on : acts e.memo ≡ true) where
-  entered : recovering e ≡ account_entered Recoverer (account_died e)
+  entered : recovering_account e ≡ account_entered Recoverer (account_died e)
   entered = ap (λ (b : Bool). account_entered Recoverer (account_died (cond b e (account_entered Client e)))) on
 
   -- before its first step
-  pub mends_first : (me : Me) (m : RecoverMachine) → m ≡ calls_of recover_steered (recovery me) → Fits m (recovering e).memo (recovering e).memo → IsMending e 0 m (recovering e)
+  pub mends_first : (me : Me) (m : RecoverMachine) → m ≡ calls_of recover_steered (recovering me) → Fits m (recovering_account e).memo (recovering_account e).memo → IsMending e 0 m (recovering_account e)
   mends_first me m is fit =
       let fresh : recover.fresh m ≡ true = ap recover.fresh is in
       record {
@@ -77,12 +76,12 @@ module _ (e : Account) (on : acts e.memo ≡ true) where
         fits = fit;
         agents = ap (λ (a : Account). a.memo.agents) entered;
         begun = ap (λ (a : Account). a.begun) entered ∙ sym (ap (λ (b : Bool). e.begun ++ lines_by b ∷ []) fresh);
-        told = ap (λ (b : Bool). told_left b (recovering e)) fresh ∙ ap (told_left true) entered;
+        told = ap (λ (b : Bool). told_left b (recovering_account e)) fresh ∙ ap (told_left true) entered;
         some = λ l. absurd (omega arith);
       }
 
   -- the map of the table is what it was
-  table_by : (r : Memo) → map_in r.part ≡ map_in (recovering e).memo.part → is_loose r.part ≡ is_loose (recovering e).memo.part → SameTable e.memo r
+  table_by : (r : Memo) → map_in r.part ≡ map_in (recovering_account e).memo.part → is_loose r.part ≡ is_loose (recovering_account e).memo.part → SameTable e.memo r
   table_by r map loose =
       record {
         map = λ key. ap (λ h. h key) map ∙ ap (λ (a : Account). map_in a.memo.part key) entered;
@@ -94,7 +93,7 @@ module _ (e : Account) (on : acts e.memo ≡ true) where
     pub mends_falls : 0 < n → HasFallen e n f
     mends_falls l =
         let (old, running) = h.some l in
-        let same = recover_steady m (recovering e).memo f.memo (call_before (recover.fresh m) f.memo.call) h.going h.fits in
+        let same = recover_steady m (recovering_account e).memo f.memo (call_before (recover.fresh m) f.memo.call) h.going h.fits in
         record {
           agents = h.agents;
           begun = h.begun ∙ ap (λ (b : Bool). e.begun ++ lines_by b ∷ []) old;
@@ -152,7 +151,7 @@ module _ (e : Account) (on : acts e.memo ≡ true) where
           record {
             line = ap recover.line x.next ∙ (st.same_line ∙ h.line);
             going = ap recover.finished x.next ∙ off;
-            fits = goes_on recover Fits Gives m f f2 t m2 (recovering e).memo h.fits x none;
+            fits = goes_on recover Fits Gives m f f2 t m2 (recovering_account e).memo h.fits x none;
             agents = agents_by false (no_end (is_gone (account_after f u).memo.status) u.ends off) ∙ with_last-end stepped (account_died e).memo.agents (recoverer n Acts);
             begun = begun_after ∙ sym (ap (λ (b : Bool). e.begun ++ lines_by b ∷ []) old);
             told = ap (λ (b : Bool). told_left b f2) old ∙ told_after false off;
@@ -160,8 +159,8 @@ module _ (e : Account) (on : acts e.memo ≡ true) where
           }
 
       -- which is the last one: the identity is gone
-      gave : t ≡ Done (Ok tt) → Gives m (recovering e).memo f2.memo (Ok tt)
-      gave is = is_over recover Fits Gives m f f2 t m2 (recovering e).memo (Ok tt) h.fits x (some_of (recover.turns m x.seen) (Ok tt) (sym x.turn ∙ is))
+      gave : t ≡ Done (Ok tt) → Gives m (recovering_account e).memo f2.memo (Ok tt)
+      gave is = is_over recover Fits Gives m f f2 t m2 (recovering_account e).memo (Ok tt) h.fits x (some_of (recover.turns m x.seen) (Ok tt) (sym x.turn ∙ is))
 
       pub mends_gone : t ≡ Done (Ok tt) → f2.memo.status ≡ Gone
       mends_gone is = (gave is).leaves.status
@@ -190,7 +189,7 @@ module _ (e : Account) (on : acts e.memo ≡ true) where
           )
 
 -- before its first step
-pub works_first : (e : Account) (me : Me) (steps left : ℕ) (r : Rescuing) → acts e.memo ≡ true → left ≡ steps → r.begun ≡ false → r.seat ≡ e → r.machine ≡ calls_of recover_steered (recovery me) → Fits r.machine (recovering e).memo (recovering e).memo → IsWorking e steps left r
+pub works_first : (e : Account) (me : Me) (steps left : ℕ) (r : Rescuing) → acts e.memo ≡ true → left ≡ steps → r.begun ≡ false → r.seat ≡ e → r.machine ≡ calls_of recover_steered (recovering me) → Fits r.machine (recovering_account e).memo (recovering_account e).memo → IsWorking e steps left r
 works_first e me steps left r on all fresh seat is fit =
     record {
       n = 0;

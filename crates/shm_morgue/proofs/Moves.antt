@@ -12,7 +12,7 @@ use Rattle.shm_pool.specs.Tokens.{Its}
 use Rattle.shm_morgue.specs.declared.rule.{Desk.Desk, Hands.Hands, Taken.Taken}
 use Rattle.shm_morgue.specs.Entries.{client_of, IsBefore, IsInOrder, IsOf, MayHold}
 use Rattle.shm_morgue.specs.Hands.{hands, newborn, spent, whole, desk, blank_desks, blank_lists}
-use Rattle.shm_morgue.specs.Keeps.{Holds, IsBelow, IsMade, Keeps, Knows, KnowsAll, MayWait, PutsOne, TakesOne, all_desks, all_lists, is_desk_of, on_desks, in_lists}
+use Rattle.shm_morgue.specs.Keeps.{MorgueHolds, IsBelow, IsMade, MorgueKeeps, Knows, KnowsAll, MayWait, PutsOne, TakesOne, all_desks, all_lists, is_desk_of, on_desks, in_lists}
 use Rattle.shm_morgue.proofs.Alike.{Alike, parted, alike_same, alike_back, alike_on, alike_swap, alike_forked, alike_merged}
 use Rattle.shm_morgue.proofs.Order.{all_front}
 use Rattle.shm_morgue.proofs.Holding.{entries_on, entries_in, grown, holds_alike, holds_put, holds_take, taken_behind, desk_is}
@@ -33,7 +33,7 @@ only u v zero e = some-injective u v e
 only u v (suc i) e = absurd (some-ne-none v (sym e))
 
 -- a pass that isn't the first one tells that the morgue is made
-made : (pools : List Its) (items : List Taken) (vs : List Hands) (i : ℕ) (v : Hands) → Keeps pools items vs → get_elem? vs i ≡ some v → v.fresh ≡ false → IsMade pools items vs
+made : (pools : List Its) (items : List Taken) (vs : List Hands) (i : ℕ) (v : Hands) → MorgueKeeps pools items vs → get_elem? vs i ≡ some v → v.fresh ≡ false → IsMade pools items vs
 made pools items vs i v (inl h) e old = absurd (true≢false (ap (λ (u : Hands). u.fresh) (only newborn v i (ap (λ (l : List Hands). get_elem? l i) (sym h.1) ∙ e)) ∙ old))
 made pools items vs i v (inr m) e old = m
 
@@ -57,15 +57,15 @@ stays {X} f g vs i v w e same =
     (subst (λ (l : List X). Alike g (l ++ p.others) (flat_map f (set vs i w))) same (alike_back g (flat_map f (set vs i w)) (f w ++ p.others) (p.new w)))
 
 pub puts : (pools : List Its) (n i : ℕ) (d : Desk) (ds : List Desk) (ms : List (List Taken)) (c k : ℕ) (x : Taken) → client_of x ≡ d.client → x.number ≡ length d.entries → IsOf pools x
-    → Pushes (Keeps pools) n i (hands (d ∷ ds) ms c k) x (PutsOne (hands (d ∷ ds) ms c k) x)
+    → Pushes (MorgueKeeps pools) n i (hands (d ∷ ds) ms c k) x (PutsOne (hands (d ∷ ds) ms c k) x)
 puts pools n i d ds ms c k x mine next of items vs room h e =
     let v : Hands = hands (d ∷ ds) ms c k in
     let w : Hands = hands (grown d x ∷ ds) ms c k in
     let m = made pools items vs i v h e refl in
     let p = parted desks_of entries_on vs i v e in
     let q = stays lists_of entries_in vs i v w e refl in
-    let front : Holds pools items (d ∷ (ds ++ p.others)) (all_lists (set vs i w)) = holds_alike pools items (all_desks vs) (d ∷ (ds ++ p.others)) (all_lists vs) (all_lists (set vs i w)) p.old q m.holds in
-    let put : Holds pools (items ++ x ∷ []) (grown d x ∷ (ds ++ p.others)) (all_lists (set vs i w)) = holds_put pools items d (ds ++ p.others) (all_lists (set vs i w)) x mine next of front in
+    let front : MorgueHolds pools items (d ∷ (ds ++ p.others)) (all_lists (set vs i w)) = holds_alike pools items (all_desks vs) (d ∷ (ds ++ p.others)) (all_lists vs) (all_lists (set vs i w)) p.old q m.holds in
+    let put : MorgueHolds pools (items ++ x ∷ []) (grown d x ∷ (ds ++ p.others)) (all_lists (set vs i w)) = holds_put pools items d (ds ++ p.others) (all_lists (set vs i w)) x mine next of front in
     let back : Alike entries_on (grown d x ∷ (ds ++ p.others)) (all_desks (set vs i w)) = alike_back entries_on (all_desks (set vs i w)) (grown d x ∷ (ds ++ p.others)) (p.new w) in
     let as_long : length (d ∷ (ds ++ p.others)) ≡ length (all_desks vs) = length_permutation (all_desks vs) (d ∷ (ds ++ p.others)) p.old.items in (
       w,
@@ -80,15 +80,15 @@ puts pools n i d ds ms c k x mine next of items vs room h e =
       refl,
     )
 
-pub takes : (pools : List Its) (i : ℕ) (ds : List Desk) (l : List Taken) (ms : List (List Taken)) (c k : ℕ) → Pops (Keeps pools) i (hands ds (l ∷ ms) c k) (TakesOne pools (hands ds (l ∷ ms) c k))
+pub takes : (pools : List Its) (i : ℕ) (ds : List Desk) (l : List Taken) (ms : List (List Taken)) (c k : ℕ) → Pops (MorgueKeeps pools) i (hands ds (l ∷ ms) c k) (TakesOne pools (hands ds (l ∷ ms) c k))
 takes pools i ds l ms c k x items vs h e =
     let v : Hands = hands ds (l ∷ ms) c k in
     let w : Hands = hands ds ((l ++ x ∷ []) ∷ ms) c k in
     let m = made pools (x ∷ items) vs i v h e refl in
     let p = parted lists_of entries_in vs i v e in
     let q = stays desks_of entries_on vs i v w e refl in
-    let front : Holds pools (x ∷ items) (all_desks (set vs i w)) (l ∷ (ms ++ p.others)) = holds_alike pools (x ∷ items) (all_desks vs) (all_desks (set vs i w)) (all_lists vs) (l ∷ (ms ++ p.others)) q p.old m.holds in
-    let taken : Holds pools items (all_desks (set vs i w)) ((l ++ x ∷ []) ∷ (ms ++ p.others)) = holds_take pools items (all_desks (set vs i w)) l (ms ++ p.others) x front in
+    let front : MorgueHolds pools (x ∷ items) (all_desks (set vs i w)) (l ∷ (ms ++ p.others)) = holds_alike pools (x ∷ items) (all_desks vs) (all_desks (set vs i w)) (all_lists vs) (l ∷ (ms ++ p.others)) q p.old m.holds in
+    let taken : MorgueHolds pools items (all_desks (set vs i w)) ((l ++ x ∷ []) ∷ (ms ++ p.others)) = holds_take pools items (all_desks (set vs i w)) l (ms ++ p.others) x front in
     let back : Alike entries_in ((l ++ x ∷ []) ∷ (ms ++ p.others)) (all_lists (set vs i w)) = alike_back entries_in (all_lists (set vs i w)) ((l ++ x ∷ []) ∷ (ms ++ p.others)) (p.new w) in
     let as_long : length (l ∷ (ms ++ p.others)) ≡ length (all_lists vs) = length_permutation (all_lists vs) (l ∷ (ms ++ p.others)) p.old.items in (
       w,
@@ -109,7 +109,7 @@ takes pools i ds l ms c k x items vs h e =
 
 -- a pass is cut in two
 forks : (pools : List Its) (i : ℕ) (v l r : Hands) → v.fresh ≡ false → ((n m : ℕ) → Knows n m v → Knows n m l × Knows n m r) → Alike entries_on v.porters (l.porters ++ r.porters) → Alike entries_in v.medics (l.medics ++ r.medics)
-    → Forks (Keeps pools) i v l r
+    → Forks (MorgueKeeps pools) i v l r
 forks pools i v l r old know a b items vs h e =
     let m = made pools items vs i v h e old in
     let k = know m.clients m.doctors (at_all (Knows m.clients m.doctors) vs i v m.known e) in
@@ -122,14 +122,14 @@ swap g xs ys = alike_swap g xs ys
 none : {X Y : Type 0} (g : X → List Y) (xs : List X) → Alike g xs (xs ++ [])
 none {X} g xs = subst (Alike g xs) (sym (append-nil xs)) (alike_same g xs)
 
-pub cuts_porter : (pools : List Its) (i : ℕ) (d : Desk) (ds : List Desk) (ms : List (List Taken)) (c k : ℕ) → Forks (Keeps pools) i (hands (d ∷ ds) ms c k) (hands ds ms c k) (hands (d ∷ []) [] c k)
+pub cuts_porter : (pools : List Its) (i : ℕ) (d : Desk) (ds : List Desk) (ms : List (List Taken)) (c k : ℕ) → Forks (MorgueKeeps pools) i (hands (d ∷ ds) ms c k) (hands ds ms c k) (hands (d ∷ []) [] c k)
 cuts_porter pools i d ds ms c k = forks pools i (hands (d ∷ ds) ms c k) (hands ds ms c k) (hands (d ∷ []) [] c k) refl (λ n m w. (w, w)) (swap entries_on (d ∷ []) ds) (none entries_in ms)
 
-pub cuts_medic : (pools : List Its) (i : ℕ) (ds : List Desk) (l : List Taken) (ms : List (List Taken)) (c k : ℕ) → Forks (Keeps pools) i (hands ds (l ∷ ms) c k) (hands ds ms c k) (hands [] (l ∷ []) c k)
+pub cuts_medic : (pools : List Its) (i : ℕ) (ds : List Desk) (l : List Taken) (ms : List (List Taken)) (c k : ℕ) → Forks (MorgueKeeps pools) i (hands ds (l ∷ ms) c k) (hands ds ms c k) (hands [] (l ∷ []) c k)
 cuts_medic pools i ds l ms c k = forks pools i (hands ds (l ∷ ms) c k) (hands ds ms c k) (hands [] (l ∷ []) c k) refl (λ n m w. (w, w)) (none entries_on ds) (swap entries_in (l ∷ []) ms)
 
 pub gathers : (pools : List Its) (i : ℕ) (v : Hands) (j : ℕ) (w : Hands) → v.fresh ≡ false
-    → Merges (Keeps pools) i v j w (record v { porters = w.porters ++ v.porters; medics = w.medics ++ v.medics }) spent
+    → Merges (MorgueKeeps pools) i v j w (record v { porters = w.porters ++ v.porters; medics = w.medics ++ v.medics }) spent
 gathers pools i v j w old items vs h e apart e' =
     let both : Hands = record v { porters = w.porters ++ v.porters; medics = w.medics ++ v.medics } in
     let m = made pools items vs i v h e old in
@@ -179,7 +179,7 @@ all_clear P p a zero = All-nil P
 all_clear P p a (suc n) = All-cons P (desk a []) (blank_desks (suc a) n) (p a) (all_clear P p (suc a) n)
 
 -- nothing is put or taken in a morgue that is made
-new_holds : (pools : List Its) (c k : ℕ) → Holds pools [] (blank_desks 0 c) (blank_lists k)
+new_holds : (pools : List Its) (c k : ℕ) → MorgueHolds pools [] (blank_desks 0 c) (blank_lists k)
 new_holds pools c k = record {
   once = subst (λ (l : List Taken). IsPermutation l (in_lists (blank_lists k) ++ [])) (sym (none_on 0 c)) (subst (λ (l : List Taken). IsPermutation [] (l ++ [])) (sym (none_in k)) (IsPermutation-refl []));
   single = λ x. one_of x 0 c;
@@ -193,7 +193,7 @@ first_place : (c k j : ℕ) → get_elem? (newborn ∷ []) j ≡ some newborn �
 first_place c k zero e = refl
 first_place c k (suc j) e = absurd (some-ne-none newborn (sym e))
 
-pub opens : (pools : List Its) (i c k : ℕ) → Forks (Keeps pools) i newborn (whole c k) spent
+pub opens : (pools : List Its) (i c k : ℕ) → Forks (MorgueKeeps pools) i newborn (whole c k) spent
 opens pools i c k items vs (inr m) e = absurd (true≢false (at_all (Knows m.clients m.doctors) vs i newborn m.known e).0)
 opens pools i c k items vs (inl h) e =
     let two : List Hands = whole c k ∷ spent ∷ [] in
@@ -204,16 +204,16 @@ opens pools i c k items vs (inl h) e =
       known = All-cons (Knows c k) (whole c k) (spent ∷ []) (refl, λ _. (refl, refl)) (All-cons (Knows c k) spent [] (refl, λ p. absurd (omega arith)) (All-nil (Knows c k)));
       porters = ap length (append-nil (blank_desks 0 c)) ∙ desks_long 0 c;
       medics = ap length (append-nil (blank_lists k)) ∙ lists_long k;
-      holds = subst (λ (l : List Taken). Holds pools l (all_desks two) (all_lists two)) (sym h.0)
-          (subst (λ (l : List Desk). Holds pools [] l (all_lists two)) (sym (append-nil (blank_desks 0 c)))
-          (subst (λ (l : List (List Taken)). Holds pools [] (blank_desks 0 c) l) (sym (append-nil (blank_lists k))) (new_holds pools c k)));
+      holds = subst (λ (l : List Taken). MorgueHolds pools l (all_desks two) (all_lists two)) (sym h.0)
+          (subst (λ (l : List Desk). MorgueHolds pools [] l (all_lists two)) (sym (append-nil (blank_desks 0 c)))
+          (subst (λ (l : List (List Taken)). MorgueHolds pools [] (blank_desks 0 c) l) (sym (append-nil (blank_lists k))) (new_holds pools c k)));
     }))
 
-pub begins : (pools : List Its) → Keeps pools [] (newborn ∷ [])
+pub begins : (pools : List Its) → MorgueKeeps pools [] (newborn ∷ [])
 begins pools = inl (refl, refl)
 
 -- a porter knows of the queue that it may hold what it holds
-pub waits : (pools : List Its) (i : ℕ) (v : Hands) → v.fresh ≡ false → Learns (Keeps pools) i v (MayWait pools v)
+pub waits : (pools : List Its) (i : ℕ) (v : Hands) → v.fresh ≡ false → Learns (MorgueKeeps pools) i v (MayWait pools v)
 waits pools i v old items vs h e =
     let m = made pools items vs i v h e old in
     let p = parted desks_of entries_on vs i v e in
@@ -226,7 +226,7 @@ no_others {X} xs [] n l le = append-nil xs
 no_others {X} xs (y ∷ ys) n l le = absurd (omega (arith, length-append xs (y ∷ ys)))
 
 -- who answers for all knows all
-pub knows : (pools : List Its) (i : ℕ) (v : Hands) → v.fresh ≡ false → Learns (Keeps pools) i v (KnowsAll pools v)
+pub knows : (pools : List Its) (i : ℕ) (v : Hands) → v.fresh ≡ false → Learns (MorgueKeeps pools) i v (KnowsAll pools v)
 knows pools i v old items vs h e some_there desks_there lists_there =
     let m = made pools items vs i v h e old in
     let k = (at_all (Knows m.clients m.doctors) vs i v m.known e).1 some_there in
@@ -240,19 +240,19 @@ knows pools i v old items vs h e some_there desks_there lists_there =
 
 -- the same of a pass that is seen so
 pub puts_one : (pools : List Its) (n i : ℕ) (v : Hands) (d : Desk) (ds : List Desk) (ms : List (List Taken)) (c k : ℕ) (x : Taken) → v ≡ hands (d ∷ ds) ms c k → client_of x ≡ d.client → x.number ≡ length d.entries → IsOf pools x
-    → Pushes (Keeps pools) n i v x (PutsOne v x)
-puts_one pools n i v d ds ms c k x e mine next of = subst (λ (u : Hands). Pushes (Keeps pools) n i u x (PutsOne u x)) (sym e) (puts pools n i d ds ms c k x mine next of)
+    → Pushes (MorgueKeeps pools) n i v x (PutsOne v x)
+puts_one pools n i v d ds ms c k x e mine next of = subst (λ (u : Hands). Pushes (MorgueKeeps pools) n i u x (PutsOne u x)) (sym e) (puts pools n i d ds ms c k x mine next of)
 
-pub takes_one : (pools : List Its) (i : ℕ) (v : Hands) (ds : List Desk) (l : List Taken) (ms : List (List Taken)) (c k : ℕ) → v ≡ hands ds (l ∷ ms) c k → Pops (Keeps pools) i v (TakesOne pools v)
-takes_one pools i v ds l ms c k e = subst (λ (u : Hands). Pops (Keeps pools) i u (TakesOne pools u)) (sym e) (takes pools i ds l ms c k)
+pub takes_one : (pools : List Its) (i : ℕ) (v : Hands) (ds : List Desk) (l : List Taken) (ms : List (List Taken)) (c k : ℕ) → v ≡ hands ds (l ∷ ms) c k → Pops (MorgueKeeps pools) i v (TakesOne pools v)
+takes_one pools i v ds l ms c k e = subst (λ (u : Hands). Pops (MorgueKeeps pools) i u (TakesOne pools u)) (sym e) (takes pools i ds l ms c k)
 
 pub cuts_porter_one : (pools : List Its) (i : ℕ) (v : Hands) (d : Desk) (ds : List Desk) (ms : List (List Taken)) (c k : ℕ) → v ≡ hands (d ∷ ds) ms c k
-    → Forks (Keeps pools) i v (record v { porters = drop 1 v.porters }) (hands (take 1 v.porters) [] v.clients v.doctors)
-cuts_porter_one pools i v d ds ms c k e = subst (λ (u : Hands). Forks (Keeps pools) i u (record u { porters = drop 1 u.porters }) (hands (take 1 u.porters) [] u.clients u.doctors)) (sym e) (cuts_porter pools i d ds ms c k)
+    → Forks (MorgueKeeps pools) i v (record v { porters = drop 1 v.porters }) (hands (take 1 v.porters) [] v.clients v.doctors)
+cuts_porter_one pools i v d ds ms c k e = subst (λ (u : Hands). Forks (MorgueKeeps pools) i u (record u { porters = drop 1 u.porters }) (hands (take 1 u.porters) [] u.clients u.doctors)) (sym e) (cuts_porter pools i d ds ms c k)
 
 pub cuts_medic_one : (pools : List Its) (i : ℕ) (v : Hands) (ds : List Desk) (l : List Taken) (ms : List (List Taken)) (c k : ℕ) → v ≡ hands ds (l ∷ ms) c k
-    → Forks (Keeps pools) i v (record v { medics = drop 1 v.medics }) (hands [] (take 1 v.medics) v.clients v.doctors)
-cuts_medic_one pools i v ds l ms c k e = subst (λ (u : Hands). Forks (Keeps pools) i u (record u { medics = drop 1 u.medics }) (hands [] (take 1 u.medics) u.clients u.doctors)) (sym e) (cuts_medic pools i ds l ms c k)
+    → Forks (MorgueKeeps pools) i v (record v { medics = drop 1 v.medics }) (hands [] (take 1 v.medics) v.clients v.doctors)
+cuts_medic_one pools i v ds l ms c k e = subst (λ (u : Hands). Forks (MorgueKeeps pools) i u (record u { medics = drop 1 u.medics }) (hands [] (take 1 u.medics) u.clients u.doctors)) (sym e) (cuts_medic pools i ds l ms c k)
 
-pub opens_one : (pools : List Its) (i : ℕ) (v : Hands) (c k : ℕ) → v ≡ newborn → Forks (Keeps pools) i v (whole c k) spent
-opens_one pools i v c k e = subst (λ (u : Hands). Forks (Keeps pools) i u (whole c k) spent) (sym e) (opens pools i c k)
+pub opens_one : (pools : List Its) (i : ℕ) (v : Hands) (c k : ℕ) → v ≡ newborn → Forks (MorgueKeeps pools) i v (whole c k) spent
+opens_one pools i v c k e = subst (λ (u : Hands). Forks (MorgueKeeps pools) i u (whole c k) spent) (sym e) (opens pools i c k)

@@ -7,7 +7,7 @@ use Rattle.shm_graph.specs.{declared.run.{Account.Account, Start.Start}, Agents.
 use Rattle.shm_graph.specs.Runs.{account_died, is_dead, told_left}
 use Rattle.shm_count.specs.Roots.{member}
 use Rattle.shm_agents.specs.declared.agents.Standing.{Standing, TheVariants.{AtWork, Dead, Gone}}
-use Rattle.shm_agents.specs.Agents.{IsFallen, IsFold, IsFresh, IsMending, IsPlaying, IsSettled, Playing, Stage, Stands, is_at_work, is_client, logged}
+use Rattle.shm_agents.specs.Agents.{IsFallen, IsFold, IsFresh, IsMending, IsPlaying, IsSettled, Playing, Stage, AgentsStand, is_at_work, is_client, logged}
 use Rattle.shm_agents.specs.Agents.Stage.{Fresh, Plays, Parted, Fallen, Mending, Mended}
 use Rattle.shm_agents.specs.{Courses.{AreAgents, AreCommandsTold, AreRecoverers}, Logs.IsLogOf, Turns.lives_of}
 use Rattle.shm_agents.specs.TurnsLeft.{deaths, turns_given}
@@ -92,7 +92,7 @@ given_mends s y f h n at =
     omega arith
 
 -- a turn of the client
-pub parts_on : (start : Start) (s : Scripted) (x y : Playing) (e f : Account) → Stands start s x e → is_client x ≡ true → Stands start s y f → turns_given f ≡ turns_given e + 1 → (is_client y ≡ true) ⊎ HasParted s y f
+pub parts_on : (start : Start) (s : Scripted) (x y : Playing) (e f : Account) → AgentsStand start s x e → is_client x ≡ true → AgentsStand start s y f → turns_given f ≡ turns_given e + 1 → (is_client y ≡ true) ⊎ HasParted s y f
 parts_on start s x y e f h client g given = go g.stage
   where
     is : (x.standing ≡ AtWork) × (x.agent ≡ 0)
@@ -125,7 +125,7 @@ died_by s x e (inl rests) here = absurd (rests here)
 died_by s x e (inr h) here = h
 
 -- the token t is the corpse that its post gives
-pub dead_client : (s : Scripted) (x : Playing) (u t : Token) → Stands u.of.start s x u.account → HasParted s x u.account → x.standing ≡ AtWork → u.account.who ≡ x.me.who → (t.of ≡ u.of) × (account_died t.account ≡ u.account) → acts t.account.memo ≡ true
+pub dead_client : (s : Scripted) (x : Playing) (u t : Token) → AgentsStand u.of.start s x u.account → HasParted s x u.account → x.standing ≡ AtWork → u.account.who ≡ x.me.who → (t.of ≡ u.of) × (account_died t.account ≡ u.account) → acts t.account.memo ≡ true
     → AreDead u.of s 1 (logged x) t
 dead_client s x u t h parted here named same acting =
     let (first, fallen, settled) = died_by s x u.account parted here in

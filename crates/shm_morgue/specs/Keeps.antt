@@ -22,7 +22,7 @@ abbrev pub is_desk_of : ℕ → Desk → ℕ
 is_desk_of c d = if d.client == c then 1 else 0
 
 -- What the desks of all porters have is what the lists of all medics and the queue hold, each entry once. No client has two desks. What a medic took and what the queue holds stand in the order of the puts, and below the next number of their desks; and what the queue holds is of the pools
-pub record Holds (pools : List Its) (items : List Taken) (desks : List Desk) (lists : List (List Taken)) : Type 0 where
+pub record MorgueHolds (pools : List Its) (items : List Taken) (desks : List Desk) (lists : List (List Taken)) : Type 0 where
   pub once : IsPermutation (on_desks desks) (in_lists lists ++ items)
   pub single : (c : ℕ) → sum_by (is_desk_of c) desks ≤ 1
   pub below : All (λ (d : Desk). All (λ (m : List Taken). All (IsBelow d) m) lists × All (IsBelow d) items) desks
@@ -48,11 +48,11 @@ pub record IsMade (pools : List Its) (items : List Taken) (views : List Hands) :
   pub known : All (Knows clients doctors) views
   pub porters : length (all_desks views) ≡ clients
   pub medics : length (all_lists views) ≡ doctors
-  pub holds : Holds pools items (all_desks views) (all_lists views)
+  pub holds : MorgueHolds pools items (all_desks views) (all_lists views)
 
 -- the morgue isn't made yet, or is
-abbrev pub Keeps : List Its → List Taken → List Hands → Type 0
-Keeps pools items views = ((items ≡ []) × (views ≡ newborn ∷ [])) ⊎ IsMade pools items views
+abbrev pub MorgueKeeps : List Its → List Taken → List Hands → Type 0
+MorgueKeeps pools items views = ((items ≡ []) × (views ≡ newborn ∷ [])) ⊎ IsMade pools items views
 
 -- a put: x stands on the first desk
 abbrev pub PutsOne : Hands → Taken → Hands → Type 0
@@ -64,7 +64,7 @@ TakesOne pools v x w = (w ≡ record v { medics = take_first x v.medics }) × Is
 
 -- what a pass that answers for all porters and medics knows of what the queue holds
 abbrev pub KnowsAll : List Its → Hands → List Taken → Type 0
-KnowsAll pools v items = 0 < v.clients → v.clients ≤ length v.porters → v.doctors ≤ length v.medics → Holds pools items v.porters v.medics
+KnowsAll pools v items = 0 < v.clients → v.clients ≤ length v.porters → v.doctors ≤ length v.medics → MorgueHolds pools items v.porters v.medics
 
 -- what the pass of a porter knows of it
 abbrev pub MayWait : List Its → Hands → List Taken → Type 0

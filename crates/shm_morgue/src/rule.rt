@@ -50,9 +50,9 @@ pub(crate) struct Carries<J> {
 
 impl<J: Pools> Protocol<Taken, Hands> for Carries<J> {
     ghost use Rattle.shm_morgue.specs.Hands.{newborn};
-    ghost use Rattle.shm_morgue.specs.Keeps.{Keeps};
+    ghost use Rattle.shm_morgue.specs.Keeps.{MorgueKeeps};
 
-    ghost holds = { Keeps J.pools };
+    ghost holds = { MorgueKeeps J.pools };
 
     ghost first = { newborn };
 }

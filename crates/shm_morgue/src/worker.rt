@@ -3,7 +3,7 @@
 ghost use Rattle.std.specs.Prelude.{◌≡◌, ◌<◌, ◌∷◌, ℕ, IfOk, MatchOption, Some, [], length, slice_get, slice_index_or, true};
 ghost use Rattle.std.specs.List.{Contains};
 ghost use Rattle.shm_graph.specs.Runs.{first_account};
-ghost use Rattle.shm_agents.specs.Agents.{Stands, is_client};
+ghost use Rattle.shm_agents.specs.Agents.{AgentsStand, is_client};
 ghost use Rattle.shm_pool.specs.Posts.{IsPosted};
 ghost use Rattle.shm_team.specs.{Jobs.AreAgentsOf, Working.AreAtWork};
 ghost use Rattle.shm_morgue.specs.{Crew.{HasWorked, IsTask, WasLeft}, Dead.{HasParted, IsRescue}, Entries.entry};
@@ -68,7 +68,7 @@ pub(crate) struct Worked<J: Pools> {
 /// The client works until it has left or died. The gate is passed before each command.
 fn work<A: Play, G: Gate>(script: &Script, gate: &G, agents: &mut Players<A>, post: &mut Post<'_>)
     requires posted { IsPosted post.old agents.old.me.who }
-    requires stands { Stands post.old.of.start script.now agents.old post.old.account }
+    requires stands { AgentsStand post.old.of.start script.now agents.old post.old.account }
     requires client { is_client agents.old ≡ true }
     ensures work { AreAtWork script.now post.old agents.old post.new agents.new }
     ensures parted { HasParted script.now agents.new post.new.account }

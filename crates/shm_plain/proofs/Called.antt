@@ -5,7 +5,7 @@ use Rattle.shm_words.specs.Layout.{GeometryFits}
 use Rattle.shm_graph.specs.{declared.{ask.Me.Me, memo.Memo.Memo}, Agents.{acts, recovers}, Asks.Trail, Events.Event}
 use Rattle.shm_graph.specs.{Idle.IsIdle, Laws.{Control, Laws}, Operations.IsReady, Runs.memos_of, Spots.see}
 use Rattle.shm_graph.specs.{Tells.{Tells, happens_along}, Whole.{fits_now, gives_now}}
-use Rattle.shm_plain.specs.{Pools.{Pool, IsOf, IsRun, memo_of, readied}, Calls.{Did, IsAtWork, Ran, Took}}
+use Rattle.shm_plain.specs.{Pools.{Pool, IsOf, IsRun, memo_of, readied}, Calls.{Did, IsAtWork, Ran, TookSteps}}
 use Rattle.shm_plain.proofs.{Calling.{fits_acting, may_acting, still_kind, still_working}, OwnTurns.called_did}
 use Rattle.shm_plain.proofs.Answering.{some_map}
 
@@ -16,7 +16,7 @@ module _ {M A : Type 0} (k : Control M A) (fits : M → Memo → Memo → Trail 
   pub record Called (m : M) (q : Pool) (x y : ℕ) (o : Option A) : Type 0 where
     pub gave : (r0 : Memo) → fits_now k fits m r0 (memo_of (readied p c) c) → IfSome o (λ a. gives_now gives m r0 (memo_of q c) a)
     pub ran : Ran c (k.fresh m) (is_some o) p q x y
-    pub took : 0 < x → Took k c p m q
+    pub took : 0 < x → TookSteps k c p m q
     pub events : 0 < x → k.fresh m ≡ true → (does : M → ℕ → Event) → Tells k fits does → Did c p q (happens_along k does m (memo_of q c).call)
 
   pub ran_fresh : (m : M) (q : Pool) (x y : ℕ) (o : Option A) → Called m q x y o → k.fresh m ≡ true → Ran c true (is_some o) p q x y

@@ -18,7 +18,7 @@ use Rattle.shm_graph.proofs.Runs.{Going.{account_acts-on, account_acts-here, who
 use Rattle.shm_graph.proofs.Memos.MemoSteps.{acts_after, acts-entered, agents_after, ends_agent, last-with_last, memo_agents, with_some, recovers_on, steps_entered, steps_on}
 use Rattle.shm_words.specs.Layout.{GeometryFits}
 use Rattle.shm_plain.specs.Pools.{Pool, pool, IsOf, IsRun, MayStep, memo_of, readied, turn_on, turned}
-use Rattle.shm_plain.specs.{Calls.{IsAtWork, Ran, Took, words}, Tracks.kind_next}
+use Rattle.shm_plain.specs.{Calls.{IsAtWork, Ran, TookSteps, words}, Tracks.kind_next}
 use Rattle.shm_plain.proofs.{OwnTurns.{did_none, took_grew}, Turning.ready_memo}
 
 -- ---- the pool in which an agent of c acts
@@ -261,7 +261,7 @@ module _ {M A : Type 0} (k : Control M A) (fits : M → Memo → Memo → Trail 
         ∙ (ap (λ (tr : Trail). tr ++ x1 ∷ []) went.call ∙ append_assoc (call_before (k.fresh m) (memo_of (readied p c) c).call) went.trail (x1 ∷ []))
 
     -- the steps of the machine up to this one
-    pub went_took : Took k c p m q'
+    pub went_took : TookSteps k c p m q'
     went_took = record { trail = asked; grew = grown; goes = goes_last k m went.trail x1 went.going going_now; call = called }
 
     spent_more : (y' : ℕ) → y' + 1 ≡ y → y' + length asked ≡ x
@@ -333,7 +333,7 @@ module _ {M A : Type 0} (k : Control M A) (fits : M → Memo → Memo → Trail 
           }
 
   -- the steps of the machine up to now, where there were some
-  up_to : (p : Pool) (m : M) (x : ℕ) (q : Pool) (n : M) (y : ℕ) → Went p m x q n y → acts (memo_of q c) ≡ true → k.fresh n ≡ false → Took k c p m q
+  up_to : (p : Pool) (m : M) (x : ℕ) (q : Pool) (n : M) (y : ℕ) → Went p m x q n y → acts (memo_of q c) ≡ true → k.fresh n ≡ false → TookSteps k c p m q
   up_to p m x q n y went acting begun =
       record {
         trail = went.trail;
@@ -343,7 +343,7 @@ module _ {M A : Type 0} (k : Control M A) (fits : M → Memo → Memo → Trail 
       }
 
   -- no word step is left, and there were some
-  pub died_took : (p : Pool) (m : M) (x : ℕ) (q : Pool) (n : M) (y : ℕ) → Went p m x q n y → y ≡ 0 → 0 < x → Took k c p m q
+  pub died_took : (p : Pool) (m : M) (x : ℕ) (q : Pool) (n : M) (y : ℕ) → Went p m x q n y → y ≡ 0 → 0 < x → TookSteps k c p m q
   died_took p m x q n y went none some =
       elim went.same [
         | inl s ↦ absurd (let e : y ≡ x = s.1 in omega arith)

@@ -11,7 +11,7 @@ use Rattle.shm_graph.specs.Runs.{Leads, State, account_entered, changed, first_s
 use Rattle.shm_graph.specs.{Tells.{GoesOn, Tells, happens_along, is_event, machine_steps, tells_along}, Whole.fits_now}
 use Rattle.shm_graph.proofs.Runs.OwnEvents.{own_told}
 use Rattle.shm_plain.specs.Pools.{Pool, pool, IsOf, IsRun, MayStep, memo_of, readied}
-use Rattle.shm_plain.specs.{Calls.{AreOf, Did, Took, state_of, words}, Tracks.kind_next}
+use Rattle.shm_plain.specs.{Calls.{AreOf, Did, TookSteps, state_of, words}, Tracks.kind_next}
 use Rattle.shm_plain.proofs.Turning.{ready_run}
 
 -- what leads on from where a run ends
@@ -57,7 +57,7 @@ module _ {M A : Type 0} (k : Control M A) (c : ℕ) (p q : Pool) (m : M) where
   r = readied p c
 
   -- the pool grew by the turns of the machine, after the beginning of an agent where none acted
-  grown : (steady : Steady k) → IsOf p c k m → (t : Took k c p m q) → (es : List Event) → filter is_event (events_in g c (state_of r) (words (machine_steps k m t.trail))) ≡ es → Did c p q es
+  grown : (steady : Steady k) → IsOf p c k m → (t : TookSteps k c p m q) → (es : List Event) → filter is_event (events_in g c (state_of r) (words (machine_steps k m t.trail))) ≡ es → Did c p q es
   grown steady of t es told = go (acts (memo_of p c)) t.grew told
     where
       ms : List Move
@@ -77,12 +77,12 @@ module _ {M A : Type 0} (k : Control M A) (c : ℕ) (p q : Pool) (m : M) where
       go false e f = record { turns = Begins c kind ∷ ms; grew = e ∙ append_assoc p.turns (Begins c kind ∷ []) ms; own = (refl, own); events = f }
 
   -- by turns of c, with some events
-  pub took_grew : Steady k → IsOf p c k m → Took k c p m q → (es : List Event) × Did c p q es
+  pub took_grew : Steady k → IsOf p c k m → TookSteps k c p m q → (es : List Event) × Did c p q es
   took_grew steady of t = (filter is_event (events_in g c (state_of r) (words (machine_steps k m t.trail))), grown steady of t _ refl)
 
   module _ (fits : M → Memo → Memo → Trail → Type 0) (gives : M → Memo → Memo → Trail → A → Type 0) (laws : Laws k fits gives) (does : M → ℕ → Event) (tells : Tells k fits does) where
     -- with those that the machine tells along what it asked
-    pub took_did : (r0 : Memo) → IsRun p → IsRun q → q.start ≡ p.start → MayStep p c → IsOf p c k m → fits_now k fits m r0 (memo_of r c) → (t : Took k c p m q) → Did c p q (happens_along k does m t.trail)
+    pub took_did : (r0 : Memo) → IsRun p → IsRun q → q.start ≡ p.start → MayStep p c → IsOf p c k m → fits_now k fits m r0 (memo_of r c) → (t : TookSteps k c p m q) → Did c p q (happens_along k does m t.trail)
     took_did r0 before now start may of fit t =
         let ready : IsRun r = (ready_run p c before of.1 may).0 in
         let ms : List Move = words (machine_steps k m t.trail) in
@@ -95,7 +95,7 @@ module _ {M A : Type 0} (k : Control M A) (c : ℕ) (p q : Pool) (m : M) where
         grown laws.steady of t (happens_along k does m t.trail) (ap (filter is_event) told)
 
     -- where it had made no step, that is its call
-    pub called_did : (r0 : Memo) → IsRun p → IsRun q → q.start ≡ p.start → MayStep p c → IsOf p c k m → fits_now k fits m r0 (memo_of r c) → k.fresh m ≡ true → Took k c p m q → Did c p q (happens_along k does m (memo_of q c).call)
+    pub called_did : (r0 : Memo) → IsRun p → IsRun q → q.start ≡ p.start → MayStep p c → IsOf p c k m → fits_now k fits m r0 (memo_of r c) → k.fresh m ≡ true → TookSteps k c p m q → Did c p q (happens_along k does m (memo_of q c).call)
     called_did r0 before now start may of fit fresh t =
         let same : (memo_of q c).call ≡ t.trail = t.call ∙ ap (λ (b : Bool). call_before b (memo_of r c).call ++ t.trail) fresh in
         subst (λ (tr : Trail). Did c p q (happens_along k does m tr)) (sym same) (took_did r0 before now start may of fit t)

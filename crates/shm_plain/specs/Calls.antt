@@ -41,7 +41,7 @@ pub record Did (c : ℕ) (p q : Pool) (es : List Event) : Type 0 where
   pub events : filter is_event (events_in p.start.geometry c (state_of p) turns) ≡ es
 
 -- The pool p, in which an agent of c acts, grew to q by the steps of the machine m as it asked for this trail, and nothing else
-pub record Took {M A : Type 0} (k : Control M A) (c : ℕ) (p : Pool) (m : M) (q : Pool) : Type 0 where
+pub record TookSteps {M A : Type 0} (k : Control M A) (c : ℕ) (p : Pool) (m : M) (q : Pool) : Type 0 where
   pub trail : Trail
   pub grew : q.turns ≡ (readied p c).turns ++ words (machine_steps k m trail)
   pub goes : GoesOn k m trail

@@ -4,10 +4,11 @@ ghost use Rattle.std.specs.{Prelude.{◌≡◌, ℕ, ◌+◌, ◌<◌, true, fal
 ghost use Rattle.shm_words.specs.Layout.{GeometryFits};
 ghost use Rattle.shm_graph.specs.{declared.memo.Memo.Memo, Events.Event, Tells.{Tells, happens_along}};
 ghost use Rattle.shm_graph.specs.Whole.{fits_now, gives_now};
-ghost use Rattle.shm_plain.specs.{Pools.{IsOf, IsRun, MayStep, memo_of, readied}, Calls.{Did, IsAtWork, Ran, Took}};
+ghost use Rattle.shm_plain.specs.Pools.{IsOf, IsRun, MayStep, memo_of, readied};
+ghost use Rattle.shm_plain.specs.Calls.{Did, IsAtWork, Ran, TookSteps};
 
 use crate::pool::PlainPool;
-use shm_calls::Begin;
+use plans::Begin;
 use shm_graph::{Life, Machine, Me, Operation, Turn};
 
 impl PlainPool {
@@ -20,7 +21,7 @@ impl PlainPool {
         ensures cut { is_some result ≡ false → (M.control.finished m.new ≡ false) × ((r0 : Memo) → fits_now M.control M.fits m.old r0 (memo_of (readied self.old who) who) → fits_now M.control M.fits m.new r0 (memo_of (readied self.new who) who)) }
         ensures ran { Ran who (M.control.fresh m.old) (is_some result) self.old self.new life.old.left life.new.left }
         ensures spent { 0 < life.old.left → M.control.fresh m.old ≡ true → life.new.left + length (memo_of self.new who).call ≡ life.old.left }
-        ensures took { 0 < life.old.left → Took M.control who self.old m.old self.new }
+        ensures took { 0 < life.old.left → TookSteps M.control who self.old m.old self.new }
         ensures events { 0 < life.old.left → M.control.fresh m.old ≡ true → (does : M → ℕ → Event) → Tells M.control M.fits does → Did who self.old self.new (happens_along M.control does m.old (memo_of self.new who).call) }
     {
         // for the proof: its turns lead to the words and accounts
@@ -58,7 +59,7 @@ impl PlainPool {
         requires may { B.Op.may (B.op begins) (memo_of self.old who) }
         ensures leaves { IfSome result (λ a. let tr = (memo_of self.new who).call in let es = happens_along B.Op.control B.Op.does (B.op begins) tr in Did who self.old self.new es × B.Op.leaves (B.op begins) (memo_of self.old who) (memo_of self.new who) tr es a) }
         ensures gives { IfSome result (λ a. gives_now B.Op.gives (B.op begins) (memo_of self.old who) (memo_of self.new who) a) }
-        ensures took { IfSome result (λ a. Took B.Op.control who self.old (B.op begins) self.new) }
+        ensures took { IfSome result (λ a. TookSteps B.Op.control who self.old (B.op begins) self.new) }
         ensures at_work { IfSome result (λ a. B.Op.rests (B.op begins) a → IsAtWork who self.new) }
         ensures cut { is_some result ≡ false → (m : B.Op) × (B.Op.control.finished m ≡ false) × fits_now B.Op.control B.Op.fits m (memo_of self.old who) (memo_of (readied self.new who) who) }
         ensures ran { Ran who true (is_some result) self.old self.new life.old.left life.new.left }
@@ -79,7 +80,7 @@ impl PlainPool {
         requires may { O.may operation (memo_of self.old who) }
         ensures leaves { IfSome result (λ a. let tr = (memo_of self.new who).call in let es = happens_along O.control O.does operation tr in Did who self.old self.new es × O.leaves operation (memo_of self.old who) (memo_of self.new who) tr es a) }
         ensures gives { IfSome result (λ a. gives_now O.gives operation (memo_of self.old who) (memo_of self.new who) a) }
-        ensures took { IfSome result (λ a. Took O.control who self.old operation self.new) }
+        ensures took { IfSome result (λ a. TookSteps O.control who self.old operation self.new) }
         ensures at_work { IfSome result (λ a. O.rests operation a → IsAtWork who self.new) }
         ensures cut { is_some result ≡ false → (m : O) × (O.control.finished m ≡ false) × fits_now O.control O.fits m (memo_of self.old who) (memo_of (readied self.new who) who) }
         ensures ran { Ran who true (is_some result) self.old self.new life.old.left life.new.left }

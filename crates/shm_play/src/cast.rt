@@ -2,76 +2,66 @@
 
 use crate::play::Play;
 use shm_agents::agents::{Agents, Standing};
+use shm_agents::machine::WorkMachine;
+use shm_agents::piece::Piece;
 use shm_graph::Me;
 use shm_plain::Workplace;
 use shm_script::{Log, Script};
 use std::alloc::{AllocError, Global};
-use std::marker::Model;
 
 /// The agents of a script at their machines.
-pub struct Cast {
-    agents: Agents,
-}
+pub type Cast = Agents<WorkMachine>;
 
-// by hand, so that who lets them go needn't know what they are made of
-impl Drop for Cast {
-    fn drop(self) {
-        let Cast { agents: _agents } = self;
-    }
-}
-
-impl Model for Cast {
-    ghost use Rattle.shm_agents.specs.Agents.{Playing};
-
-    ghost Value = { Playing };
-
-    ghost view = { λ x. x.agents };
-}
-
-impl Play for Cast {
+impl<P: Piece> Play for Agents<P> {
     ghost playing = { λ x. x };
 
-    fn new(alloc: Global, me: Me, at: usize, script: &Script) -> Result<Cast, AllocError> {
-        Ok(Cast {
-            agents: Agents::new(alloc, me, at, script)?,
-        })
+    #[inline(always)]
+    fn new(alloc: Global, me: Me, at: usize, script: &Script) -> Result<Agents<P>, AllocError> {
+        Agents::new(alloc, me, at, script)
     }
 
+    #[inline(always)]
     fn script(&self) -> usize {
-        self.agents.script()
+        Agents::script(self)
     }
 
+    #[inline(always)]
     fn standing(&self) -> Standing {
-        self.agents.standing()
+        Agents::standing(self)
     }
 
+    #[inline(always)]
     fn is_client(&self) -> bool {
-        self.agents.is_client()
+        Agents::is_client(self)
     }
 
+    #[inline(always)]
     fn client(&self) -> u8 {
-        self.agents.client()
+        Agents::client(self)
     }
 
+    #[inline(always)]
     fn is_at_command(&self) -> bool {
-        self.agents.is_at_command()
+        Agents::is_at_command(self)
     }
 
+    #[inline(always)]
     fn answered(&self) -> usize {
-        self.agents.answered()
+        Agents::answered(self)
     }
 
     #[inline(always)]
     fn turn<W: Workplace>(&mut self, script: &Script, pool: &mut W) {
-        self.agents.turn(script, pool)
+        Agents::turn(self, script, pool)
     }
 
+    #[inline(always)]
     fn cut<W: Workplace>(&mut self, script: &Script, pool: &mut W) -> bool {
-        self.agents.cut(script, pool)
+        Agents::cut(self, script, pool)
     }
 
+    #[inline(always)]
     fn log(self) -> Log {
-        let Cast { agents } = self;
-        agents.log()
+        Agents::log(self)
     }
 }

@@ -4,8 +4,8 @@ ghost use Rattle.std.specs.Prelude.{◌≡◌, ◌+◌, ◌<◌, ◌^◌, ℕ, t
 ghost use Rattle.shm_words.specs.Layout.{GeometryFits};
 ghost use Rattle.shm_graph.specs.{declared.run.Start.Start as AStart, Agents.acts, Runs.first_account, Laws.step_of};
 ghost use Rattle.shm_script.specs.Ranges.{ScriptFits};
-ghost use Rattle.shm_agents.specs.{Agents.{Playing, Stands, is_client, is_command, logged}, Cuts.{IsCut, account_cut}};
-ghost use Rattle.shm_agents.specs.{TurnsLeft.{turns_by, turns_given}, Work.work_control};
+ghost use Rattle.shm_agents.specs.Agents.{Playing, AgentsStand, is_client, is_command, logged};
+ghost use Rattle.shm_agents.specs.{Cuts.{IsCut, account_cut}, TurnsLeft.{turns_by, turns_given}, Work.work_control};
 
 use shm_agents::agents::Standing;
 use shm_graph::Me;
@@ -25,7 +25,7 @@ pub trait Play: Drop {
         ensures me { IfOk result (λ x. (playing x).me ≡ me) }
         ensures script { IfOk result (λ x. (playing x).script ≡ at) }
         ensures here { IfOk result (λ x. (playing x).standing ≡ Standing.AtWork) }
-        ensures stands { IfOk result (λ x. (start : AStart) → start.geometry ≡ me.geometry → start.first_era < 2 ^ 46 → start.tables ≡ true → script.now.client ≡ me.who → ScriptFits me.geometry.clients script.now → Stands start script.now (playing x) (first_account start me.who)) };
+        ensures stands { IfOk result (λ x. (start : AStart) → start.geometry ≡ me.geometry → start.first_era < 2 ^ 46 → start.tables ≡ true → script.now.client ≡ me.who → ScriptFits me.geometry.clients script.now → AgentsStand start script.now (playing x) (first_account start me.who)) };
 
     /// Which of the scripts is theirs.
     fn script(&self) -> usize
@@ -54,7 +54,7 @@ pub trait Play: Drop {
     /// A turn of theirs: the agent makes one word step, or where it has none left it dies.
     fn turn<W: Workplace>(&mut self, script: &Script, pool: &mut W)
         requires has { W.has pool.old (playing self.old).me.who }
-        requires stands { Stands (W.start pool.old) script.now (playing self.old) (W.account pool.old (playing self.old).me.who) }
+        requires stands { AgentsStand (W.start pool.old) script.now (playing self.old) (W.account pool.old (playing self.old).me.who) }
         requires here { (playing self.old).standing ≡ Standing.AtWork }
         ensures start { W.start pool.new ≡ W.start pool.old }
         ensures has { W.has pool.new (playing self.old).me.who }
@@ -62,7 +62,7 @@ pub trait Play: Drop {
         ensures fell { (playing self.old).life.left ≡ 0 → W.fell pool.old (playing self.old).me.who pool.new }
         ensures me { (playing self.new).me ≡ (playing self.old).me }
         ensures script { (playing self.new).script ≡ (playing self.old).script }
-        ensures stands { Stands (W.start pool.new) script.now (playing self.new) (W.account pool.new (playing self.old).me.who) }
+        ensures stands { AgentsStand (W.start pool.new) script.now (playing self.new) (W.account pool.new (playing self.old).me.who) }
         ensures given { turns_given (W.account pool.new (playing self.old).me.who) ≡ turns_given (W.account pool.old (playing self.old).me.who) + 1 }
         ensures turns { turns_by (playing self.new) (Some script.now) < turns_by (playing self.old) (Some script.now) };
 
@@ -72,7 +72,7 @@ pub trait Play: Drop {
     /// It tells whether one of them had begun.
     fn cut<W: Workplace>(&mut self, script: &Script, pool: &mut W) -> bool
         requires has { W.has pool.old (playing self.old).me.who }
-        requires stands { Stands (W.start pool.old) script.now (playing self.old) (W.account pool.old (playing self.old).me.who) }
+        requires stands { AgentsStand (W.start pool.old) script.now (playing self.old) (W.account pool.old (playing self.old).me.who) }
         requires here { (playing self.old).standing ≡ Standing.AtWork }
         ensures start { W.start pool.new ≡ W.start pool.old }
         ensures has { W.has pool.new (playing self.old).me.who }

@@ -4,7 +4,7 @@ ghost use Rattle.std.specs.Prelude.{◌≡◌, ◌+◌, ◌<◌, ◌^◌, ℕ, t
 ghost use Rattle.shm_words.specs.Layout.{GeometryFits};
 ghost use Rattle.shm_graph.specs.{declared.run.Start.Start as AStart, Agents.acts, Runs.first_account, Laws.step_of};
 ghost use Rattle.shm_script.specs.Ranges.{ScriptFits};
-ghost use Rattle.shm_agents.specs.{Agents.{Stands, is_client, is_command, logged}, Cuts.{IsCut, account_cut}};
+ghost use Rattle.shm_agents.specs.{Agents.{AgentsStand, is_client, is_command, logged}, Cuts.{IsCut, account_cut}};
 ghost use Rattle.shm_agents.specs.{TurnsLeft.{turns_by, turns_given}, Work.work_control};
 
 use crate::play::Play;
@@ -38,7 +38,7 @@ impl<A: Play> Players<A> {
         ensures me { IfOk result (λ x. x.me ≡ me) }
         ensures script { IfOk result (λ x. x.script ≡ at) }
         ensures here { IfOk result (λ x. x.standing ≡ Standing.AtWork) }
-        ensures stands { IfOk result (λ x. (start : AStart) → start.geometry ≡ me.geometry → start.first_era < 2 ^ 46 → start.tables ≡ true → script.now.client ≡ me.who → ScriptFits me.geometry.clients script.now → Stands start script.now x (first_account start me.who)) }
+        ensures stands { IfOk result (λ x. (start : AStart) → start.geometry ≡ me.geometry → start.first_era < 2 ^ 46 → start.tables ≡ true → script.now.client ≡ me.who → ScriptFits me.geometry.clients script.now → AgentsStand start script.now x (first_account start me.who)) }
     {
         Ok(Players {
             agents: A::new(alloc, me, at, script)?,
@@ -97,7 +97,7 @@ impl<A: Play> Players<A> {
     #[inline(always)]
     pub fn turn<W: Workplace>(&mut self, script: &Script, pool: &mut W)
         requires has { W.has pool.old self.old.me.who }
-        requires stands { Stands (W.start pool.old) script.now self.old (W.account pool.old self.old.me.who) }
+        requires stands { AgentsStand (W.start pool.old) script.now self.old (W.account pool.old self.old.me.who) }
         requires here { self.old.standing ≡ Standing.AtWork }
         ensures start { W.start pool.new ≡ W.start pool.old }
         ensures has { W.has pool.new self.old.me.who }
@@ -105,7 +105,7 @@ impl<A: Play> Players<A> {
         ensures fell { self.old.life.left ≡ 0 → W.fell pool.old self.old.me.who pool.new }
         ensures me { self.new.me ≡ self.old.me }
         ensures script { self.new.script ≡ self.old.script }
-        ensures stands { Stands (W.start pool.new) script.now self.new (W.account pool.new self.old.me.who) }
+        ensures stands { AgentsStand (W.start pool.new) script.now self.new (W.account pool.new self.old.me.who) }
         ensures given { turns_given (W.account pool.new self.old.me.who) ≡ turns_given (W.account pool.old self.old.me.who) + 1 }
         ensures turns { turns_by self.new (Some script.now) < turns_by self.old (Some script.now) }
     {
@@ -119,7 +119,7 @@ impl<A: Play> Players<A> {
     #[inline(always)]
     pub fn cut<W: Workplace>(&mut self, script: &Script, pool: &mut W) -> bool
         requires has { W.has pool.old self.old.me.who }
-        requires stands { Stands (W.start pool.old) script.now self.old (W.account pool.old self.old.me.who) }
+        requires stands { AgentsStand (W.start pool.old) script.now self.old (W.account pool.old self.old.me.who) }
         requires here { self.old.standing ≡ Standing.AtWork }
         ensures start { W.start pool.new ≡ W.start pool.old }
         ensures has { W.has pool.new self.old.me.who }

@@ -9,7 +9,7 @@ use Rattle.shm_graph.specs.Laws.{Control, Steady, step_of, turn_of, is_died, is_
 use Rattle.shm_graph.specs.Runs.{account_after, told_by, told_left, begun_by}
 use Rattle.shm_graph.proofs.Memos.MemoSteps.{acts_after, acts-on, memo_call, memo_over, recovers_on}
 use Rattle.shm_pool.specs.{Rules.IsOf, Tokens.{IsServing, has_left}}
-use Rattle.shm_pool.specs.Calls.{Shown, shown, accounts_by, IsBy, Going, fresh_after, Ending, Calls, ClientStepped, Ongoing, Tells, acts_still}
+use Rattle.shm_pool.specs.Calls.{Shown, shown, accounts_by, IsBy, Going, fresh_after, Ending, CallSteps, ClientStepped, Ongoing, TellsLine, acts_still}
 
 -- a step leaves what kind of agent acts
 pub kind_same : (e : Account) (t : Step) → recovers (account_after e t).memo ≡ recovers e.memo
@@ -131,13 +131,13 @@ told_going s (t ∷ ts) r g =
     )
 
 -- what a whole call of a machine tells and begins
-pub tells : (s : Shown) (r r' : Account) (before left : ℕ) → s.fresh ≡ true → Calls s r r' true before left → Tells s.line r r'
+pub tells : (s : Shown) (r r' : Account) (before left : ℕ) → s.fresh ≡ true → CallSteps s r r' true before left → TellsLine s.line r r'
 tells s r r' before left fresh c = go c.last c.ends c.account
   where
     going : Going s true c.steps
     going = subst (λ (b : Bool). Going s b c.steps) fresh c.going
 
-    go : (last : List Step) → Ending s (fresh_after s.fresh c.steps) true last → r' ≡ accounts_by r (c.steps ++ last) → Tells s.line r r'
+    go : (last : List Step) → Ending s (fresh_after s.fresh c.steps) true last → r' ≡ accounts_by r (c.steps ++ last) → TellsLine s.line r r'
     go [] e m = absurd e
     go (t ∷ u ∷ us) e m = absurd e
     go (t ∷ []) e m =

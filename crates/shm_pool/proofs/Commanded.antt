@@ -4,14 +4,14 @@ use Rattle.shm_graph.specs.{declared.{ask.Me.Me, memo.Memo.Memo, run.Account.Acc
 use Rattle.shm_graph.specs.{Runs.Stood, Tells.after_all, Whole.fits_now}
 use Rattle.shm_script.specs.declared.{line.Line.Line, log.Answer.Answer}
 use Rattle.shm_script.specs.declared.line.Line.TheVariants as line
-use Rattle.shm_table.specs.Command.{CommandCall, CommandFits, MayStand, command_control, command_does, command_effect, command_of}
+use Rattle.shm_table.specs.Command.{CommandCall, CommandFits, LineMayStand, command_control, command_does, command_effect, command_of}
 use Rattle.shm_table.specs.{Command.{Maps.MapSoFar, Operates.CommandLeaves}, TableTasks.LineMay}
 use Rattle.shm_pool.specs.{declared.reply.Reply.TheVariants.{Died, Done}, Called.{HasCommanded, HasEffect}}
 use Rattle.shm_pool.specs.{Calls.{Drives, StillFits, pairs}, Doing.HasDone, Tokens.{Acting, me_of}}
 use Rattle.shm_pool.proofs.Named.{done_dead, rests_by}
 
 -- a line that may begin is of identities of the pool
-pub stands : (me : Me) (l : Line) (r : Memo) → LineMay me l r → MayStand me l
+pub stands : (me : Me) (l : Line) (r : Memo) → LineMay me l r → LineMayStand me l
 stands me (line.Put key n) r h = tt
 stands me (line.Copy key a other) r h = h.2
 stands me (line.Del key) r h = tt

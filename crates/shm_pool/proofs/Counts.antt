@@ -7,7 +7,7 @@ use mathlib.Core.Logic.{dite}
 use native.Mathlib.Decide.{ℕ_discrete}
 use lib.ListN.{get_elem?}
 use Rattle.shm_graph.specs.{declared.run.Account.Account, Runs.{account_at, IsAmong}}
-use Rattle.shm_pool.specs.Rules.{count_in, count_by, Knows, AllKnow, no_account}
+use Rattle.shm_pool.specs.Rules.{count_in, count_by, ViewKnows, AllKnow, no_account}
 
 abbrev one_if : Bool → ℕ
 one_if b = if b then 1 else 0
@@ -37,26 +37,26 @@ count_at c [] i v e = absurd (some-ne-none v (sym e))
 count_at c (x ∷ vs) zero v e = let is : count_in c x ≡ count_in c v = ap (count_in c) (some-injective x v e) in omega (arith, is)
 count_at c (x ∷ vs) (suc i) v e = let ih = count_at c vs i v e in omega (arith, ih)
 
-pub knows_at : (rs : List Account) (vs : List (List Account)) (i : ℕ) (v : List Account) → AllKnow rs vs → get_elem? vs i ≡ some v → Knows rs v
+pub knows_at : (rs : List Account) (vs : List (List Account)) (i : ℕ) (v : List Account) → AllKnow rs vs → get_elem? vs i ≡ some v → ViewKnows rs v
 knows_at rs [] i v k e = absurd (some-ne-none v (sym e))
-knows_at rs (x ∷ vs) zero v k e = subst (Knows rs) (some-injective x v e) k.0
+knows_at rs (x ∷ vs) zero v k e = subst (ViewKnows rs) (some-injective x v e) k.0
 knows_at rs (x ∷ vs) (suc i) v k e = knows_at rs vs i v k.1 e
 
-pub knows_append : (rs v w : List Account) → Knows rs v → Knows rs w → Knows rs (v ++ w)
+pub knows_append : (rs v w : List Account) → ViewKnows rs v → ViewKnows rs w → ViewKnows rs (v ++ w)
 knows_append rs [] w k l = l
 knows_append rs (r ∷ v) w k l = (k.0, knows_append rs v w k.1 l)
 
-pub known_set : (rs : List Account) (vs : List (List Account)) (i : ℕ) (w : List Account) → AllKnow rs vs → Knows rs w → AllKnow rs (set vs i w)
+pub known_set : (rs : List Account) (vs : List (List Account)) (i : ℕ) (w : List Account) → AllKnow rs vs → ViewKnows rs w → AllKnow rs (set vs i w)
 known_set rs [] i w k l = tt
 known_set rs (x ∷ vs) zero w k l = (l, k.1)
 known_set rs (x ∷ vs) (suc i) w k l = (k.0, known_set rs vs i w k.1 l)
 
-pub known_push : (rs : List Account) (vs : List (List Account)) (w : List Account) → AllKnow rs vs → Knows rs w → AllKnow rs (vs ++ w ∷ [])
+pub known_push : (rs : List Account) (vs : List (List Account)) (w : List Account) → AllKnow rs vs → ViewKnows rs w → AllKnow rs (vs ++ w ∷ [])
 known_push rs [] w k l = (l, tt)
 known_push rs (x ∷ vs) w k l = (k.0, known_push rs vs w k.1 l)
 
 -- the account of an identity that does not stand here may change
-pub knows_off : (rs : List Account) (c : ℕ) (r' : Account) (v : List Account) → count_in c v ≡ 0 → Knows rs v → Knows (set rs c r') v
+pub knows_off : (rs : List Account) (c : ℕ) (r' : Account) (v : List Account) → count_in c v ≡ 0 → ViewKnows rs v → ViewKnows (set rs c r') v
 knows_off rs c r' [] none k = tt
 knows_off rs c r' (r ∷ v) none k = dite (ℕ_discrete r.who c)
     (λ e. let one = count_here c r.who e in absurd (omega arith))

@@ -8,8 +8,7 @@ use Rattle.shm_graph.specs.{declared.run.Move.TheVariants.Word, Spots.{spot_at, 
 use Rattle.shm_graph.specs.{Asks.{Trail, at_of, call_before, pair}, CallEvents.{events_in, events_of, steps_in}}
 use Rattle.shm_graph.specs.{Changes.asked_spot, Events.Event, Laws.{Control, Laws, event_on, is_some, step_of}}
 use Rattle.shm_graph.specs.Runs.{State, account_after, memos_of, moved, state}
-use Rattle.shm_graph.specs.Tells.{Tells as TellsAll, after_all, machine_steps, tells_along}
-use Rattle.shm_graph.specs.Whole.{fits_now, gives_now}
+use Rattle.shm_graph.specs.{Tells.{Tells, after_all, machine_steps, tells_along}, Whole.{fits_now, gives_now}}
 use Rattle.shm_graph.proofs.{Machines.TellsAlong.after_all-append, Runs.OwnEvents.own_told}
 use Rattle.shm_pool.specs.{declared.reply.Reply.{Reply, TheVariants.{Done, Died}}, Replies.{IfReply, is_reply}}
 use Rattle.shm_pool.specs.Rules.{IsMade}
@@ -42,7 +41,7 @@ module _ {M A : Type 0} (k : Control M A) where
 
 module _ {M A : Type 0} (k : Control M A) (fits : M → Memo → Memo → Trail → Type 0) (gives : M → Memo → Memo → Trail → A → Type 0) (laws : Laws k fits gives) where
   -- the event of a step is the one that its machine tells
-  made_event : (does : M → ℕ → Event) → TellsAll k fits does → (m : M) (e : Account) (r0 : Memo) (n : ℕ) → (k.me m).who ≡ e.who → (k.me m).who < (k.me m).geometry.clients → k.finished m ≡ false → fits_now k fits m r0 e.memo → IsMade e (step_of k m n)
+  made_event : (does : M → ℕ → Event) → Tells k fits does → (m : M) (e : Account) (r0 : Memo) (n : ℕ) → (k.me m).who ≡ e.who → (k.me m).who < (k.me m).geometry.clients → k.finished m ≡ false → fits_now k fits m r0 e.memo → IsMade e (step_of k m n)
       → event_on e.memo (step_of k m n) (asked_spot e.memo (step_of k m n)) ≡ does m n
   made_event does tells m e r0 n who lt going fit x =
       let g : Geometry = (k.me m).geometry in

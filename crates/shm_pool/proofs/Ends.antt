@@ -8,7 +8,7 @@ use mathlib.Core.Option.{some}
 use lib.ListN.{get_elem?}
 use Rattle.shm_graph.specs.{declared.run.{Start.Start, Account.Account}, Runs.{account_at, memos_of}}
 use Rattle.shm_graph.proofs.States.StillClean.{still_state_clean}
-use Rattle.shm_pool.specs.Rules.{count_in, Knows, Rule, no_account}
+use Rattle.shm_pool.specs.Rules.{count_in, ViewKnows, Rule, no_account}
 use Rattle.shm_pool.specs.Tokens.{Its, Token, first_tokens, AllOf, accounts_of, AllStill, IsStill, find, by_who, IsClosedRun}
 use Rattle.shm_pool.proofs.Counts.{count_else, knows_at}
 
@@ -30,7 +30,7 @@ find_here c r rs e = ap (λ (b : Bool). if b then r else find c rs) (eq-eqb r.wh
 pub find_else : (c : ℕ) (r : Account) (rs : List Account) → r.who ≢ c → find c (r ∷ rs) ≡ find c rs
 find_else c r rs ne = ap (λ (b : Bool). if b then r else find c rs) (ne_eqb r.who c ne)
 
-pub found : (rs v : List Account) (c : ℕ) → Knows rs v → 1 ≤ count_in c v → find c v ≡ account_at rs c
+pub found : (rs v : List Account) (c : ℕ) → ViewKnows rs v → 1 ≤ count_in c v → find c v ≡ account_at rs c
 found rs [] c k h = absurd (omega arith)
 found rs (r ∷ v) c k h = dite (ℕ_discrete r.who c)
     (λ e. find_here c r v e ∙ (sym k.0.1 ∙ ap (account_at rs) e))
@@ -51,7 +51,7 @@ at-by_who b zero i v d h = absurd (omega arith)
 at-by_who b (suc n) zero v d h = let e : b ≡ b + 0 = omega arith in ap (λ (z : ℕ). find z v) e
 at-by_who b (suc n) (suc i) v d h = let e : suc b + i ≡ b + suc i = omega arith in at-by_who (suc b) n i v d (omega arith) ∙ ap (λ (z : ℕ). find z v) e
 
-pub sorted : (rs v : List Account) (n : ℕ) → length rs ≡ n → Knows rs v → ((c : ℕ) → c < n → 1 ≤ count_in c v) → rs ≡ by_who 0 n v
+pub sorted : (rs v : List Account) (n : ℕ) → length rs ≡ n → ViewKnows rs v → ((c : ℕ) → c < n → 1 ≤ count_in c v) → rs ≡ by_who 0 n v
 sorted rs v n long k all = ext_get_or (no_account) rs (by_who 0 n v) (long ∙ sym (length-by_who 0 n v))
     (λ i h. let l : i < n = subst (λ (z : ℕ). i < z) long h in let e : i ≡ 0 + i = omega arith in sym (found rs v i k (all i l)) ∙ (ap (λ (z : ℕ). find z v) e ∙ sym (at-by_who 0 n i v (no_account) l)))
 

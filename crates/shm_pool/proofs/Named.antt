@@ -7,7 +7,7 @@ use Rattle.shm_words.specs.Layout.{address_limit, total_of}
 use Rattle.shm_words.proofs.Placing.{total_small}
 use Rattle.shm_graph.specs.{declared.{ask.Me.Me, memo.Memo.Memo}, Asks.Trail, Events.Event, Laws.Control}
 use Rattle.shm_graph.specs.{Operations.IsReady, Reach.is_reached, Runs.Stood}
-use Rattle.shm_calls.specs.{CallsControl.{calls_control, calls_does, calls_of}, Plans.Planned, Tasks.CallsLeave}
+use Rattle.plans.specs.{CallsControl.{calls_control, calls_does, calls_of}, Plans.Planned, Tasks.CallsLeave}
 use Rattle.shm_ref.specs.Proved.ReadParts.{reached_room}
 use Rattle.shm_pool.specs.{declared.reply.Reply.{Reply, TheVariants.{Died, Done}}, Called.{HasCalled, IsAlive, Rests}}
 use Rattle.shm_pool.specs.{Calls.IsBetween, Doing.HasDone, Tokens.{Acting, me_of}}

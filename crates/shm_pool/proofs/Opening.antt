@@ -10,7 +10,7 @@ use Rattle.shm_words.specs.Layout.{GeometryFits}
 use Rattle.shm_graph.specs.declared.run.{Start.Start, Account.Account}
 use Rattle.shm_graph.specs.Runs.{first_account, first_words, accounts_from, EraFits, Stood, IsAmong}
 use Rattle.shm_graph.proofs.States.FirstHeld.{first_held, at-accounts_from, length-accounts_from}
-use Rattle.shm_pool.specs.{Rules.{count_in, Knows, Rule, no_account}, Tokens.{Its, token_first, first_tokens}}
+use Rattle.shm_pool.specs.{Rules.{count_in, ViewKnows, Rule, no_account}, Tokens.{Its, token_first, first_tokens}}
 use Rattle.shm_pool.proofs.Counts.{count_here, count_else, count_append, count_set, count_push, knows_at, knows_append, known_set, known_push}
 
 count_below : (s : Start) (c b n : ℕ) → c < b → count_in c (accounts_from s b n) ≡ 0
@@ -27,7 +27,7 @@ count_first s c b (suc n) low high =
 first_among : (s : Start) (n c : ℕ) → c < n → IsAmong (accounts_from s 0 n) (first_account s c)
 first_among s n c l = let e : 0 + c ≡ c = omega arith in (subst (λ (z : ℕ). c < z) (sym (length-accounts_from s 0 n)) l, at-accounts_from s 0 n c no_account l ∙ ap (first_account s) e)
 
-knows_from : (s : Start) (n c k : ℕ) → c + k ≤ n → Knows (accounts_from s 0 n) (accounts_from s c k)
+knows_from : (s : Start) (n c k : ℕ) → c + k ≤ n → ViewKnows (accounts_from s 0 n) (accounts_from s c k)
 knows_from s n c zero l = tt
 knows_from s n c (suc k) l = (first_among s n c (omega arith), knows_from s n (suc c) k (omega arith))
 
@@ -49,7 +49,7 @@ first_stood s c fits era l = record { words = first_words s; accounts = accounts
 
 module _ (g : Start) (ws : List ℕ) (views : List (List Account)) (r : Rule g ws views) where
   -- a view is cut in two
-  pub cuts : (id : ℕ) (v left right : List Account) → get_elem? views id ≡ some v → Knows r.accounts left → Knows r.accounts right → ((c : ℕ) → count_in c left + count_in c right ≡ count_in c v) → Rule g ws (set views id left ++ right ∷ [])
+  pub cuts : (id : ℕ) (v left right : List Account) → get_elem? views id ≡ some v → ViewKnows r.accounts left → ViewKnows r.accounts right → ((c : ℕ) → count_in c left + count_in c right ≡ count_in c v) → Rule g ws (set views id left ++ right ∷ [])
   cuts id v left right at kl kr counts = record {
     accounts = r.accounts;
     turns = r.turns;

@@ -7,7 +7,7 @@ use Rattle.shm_graph.specs.Agents.{acts, acts_by, ended, is_acting, last_agent, 
 use Rattle.shm_graph.specs.{Changes.asked_spot, Runs.{account_after, account_died, account_entered, fell_by, is_dead}}
 use Rattle.shm_graph.proofs.Memos.MemoSteps.{acts-died, agents_after, ends_agent, fell-died, last-with_last, memo_agents, with_some}
 use Rattle.shm_plain.specs.{Tracks.kind_next, Working.ready_account}
-use Rattle.shm_pool.specs.Posts.{Knows, account_seen}
+use Rattle.shm_pool.specs.Posts.{PostKnows, account_seen}
 
 -- ---- what begins
 
@@ -36,7 +36,7 @@ last_is : (b : Bool) (xs : List Agent) → last_agent (agents_after b xs) ≡ co
 last_is true xs = last-with_last ended (with_last stepped xs) ∙ ap (with_some ended) (last-with_last stepped xs)
 last_is false xs = last-with_last stepped xs
 
-pub stepped_knows : (e : Account) (t : Step) → acts e.memo ≡ true → Knows true false (account_after e t).memo
+pub stepped_knows : (e : Account) (t : Step) → acts e.memo ≡ true → PostKnows true false (account_after e t).memo
 stepped_knows e t h =
     let b = ends_agent e.memo t (asked_spot e.memo t) in
     let is = ap last_agent (memo_agents e.memo t (asked_spot e.memo t)) ∙ last_is b e.memo.agents in

@@ -3,7 +3,7 @@ use Rattle.std.proofs.Common.{◌≡◌, ℕ, ◌<◌, Bool, true, false, List, 
 use Rattle.shm_graph.specs.{declared.{ask.Me.Me, memo.Memo.Memo, run.Account.Account}, Asks.{Trail, call_before}}
 use Rattle.shm_graph.specs.{Events.Event, Idle.IsIdle, Laws.Control, Operations.{IsReady, OperationLaws}}
 use Rattle.shm_graph.specs.{Runs.{Stood, memos_of}, Spots.see, Tells.happens_along, Whole.{fits_now, gives_now}}
-use Rattle.shm_pool.specs.{declared.reply.Reply.{Reply, TheVariants.{Done, Died}}, Calls.{IsBetween, Tells}}
+use Rattle.shm_pool.specs.{declared.reply.Reply.{Reply, TheVariants.{Done, Died}}, Calls.{IsBetween, TellsLine}}
 use Rattle.shm_pool.specs.{Replies.{IfReply, IsLost}, Tokens.{Its, me_of}}
 
 -- an identity whose account stood is ready where it is idle
@@ -45,10 +45,10 @@ module _ {M A : Type 0} (k : Control M A) (fits : M → Memo → Memo → Trail 
   replied Died h g = tt
   replied (Done a) h g = of_living Left (Done a) h (λ d. left d a g)
 
-  pub told : (o : Reply A) → (dead ≡ true → IsLost o) → (k.fresh m ≡ true → IfReply o (λ _. Tells (k.line m) e q)) → IfReply o (λ _. Tells (k.line m) e q)
-  told o h t = of_living (λ _. Tells (k.line m) e q) o h (λ d. t (l.fresh m e.memo (fit d)))
+  pub told : (o : Reply A) → (dead ≡ true → IsLost o) → (k.fresh m ≡ true → IfReply o (λ _. TellsLine (k.line m) e q)) → IfReply o (λ _. TellsLine (k.line m) e q)
+  told o h t = of_living (λ _. TellsLine (k.line m) e q) o h (λ d. t (l.fresh m e.memo (fit d)))
 
-  pub rested : (o : Reply A) → (dead ≡ true → IsLost o) → IfReply o Left → IfReply o (λ _. Tells (k.line m) e q) → (k.me m).who ≡ q.who → IfReply o (λ a. ends m a → IsBetween q)
+  pub rested : (o : Reply A) → (dead ≡ true → IsLost o) → IfReply o Left → IfReply o (λ _. TellsLine (k.line m) e q) → (k.me m).who ≡ q.who → IfReply o (λ a. ends m a → IsBetween q)
   rested Died h g t w = tt
   rested (Done a) h g t w = by dead refl
     where

@@ -1,7 +1,7 @@
 -- a recovery in single steps
 use Rattle.std.proofs.Common.{◌≡◌, Bool, true, false, inr, refl, sym, ap, ◌∙◌, subst, true≢false}
 use Rattle.std.specs.Prelude.{Ok, Err, Option, None, Some}
-use Rattle.shm_calls.specs.{CallsFit.{CallsFits, CallsGives}, Proved.CallsKeep.calls_laws}
+use Rattle.plans.specs.{CallsFit.{CallsFits, CallsGives}, Proved.CallsKeep.calls_laws}
 use Rattle.shm_graph.specs.declared.{ask.{Me.Me, Turn.{Turn, TheVariants.{More, Done, Died}}}, memo.Memo.Memo}
 use Rattle.shm_graph.specs.declared.{memo.Status.TheVariants.Gone, run.{Account.Account, Start.Start}}
 use Rattle.shm_graph.specs.{Agents.{acts, is_gone}, Laws.{Laws, Stays, is_died, is_done, is_some, turn_of}}

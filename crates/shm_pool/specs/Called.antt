@@ -6,7 +6,7 @@ use Rattle.shm_graph.specs.{Whole.fits_now, Laws.Control}
 use Rattle.shm_alloc.specs.declared.{alloc.AllocFault.AllocFault, point.AllocPoint.TheVariants.Era}
 use Rattle.shm_alloc.specs.{declared.{point.AllocState.AllocState, request.Near.Near}, Alloc.AsPart.AllocLeaves}
 use Rattle.shm_alloc.specs.Alloc.{Control.alloc_control, Events.alloc_event}
-use Rattle.shm_calls.specs.{CallsControl.{calls_control, calls_does, calls_of}, Plans.Planned, Tasks.CallsLeave}
+use Rattle.plans.specs.{CallsControl.{calls_control, calls_does, calls_of}, Plans.Planned, Tasks.CallsLeave}
 use Rattle.shm_count.specs.{declared.answer.Made.Made, Roots.root_word}
 use Rattle.shm_script.specs.declared.{line.Line.Line, log.Answer.Answer}
 use Rattle.shm_table.specs.Command.{CommandCall, CommandFits, command_control, command_does, command_effect, command_of}

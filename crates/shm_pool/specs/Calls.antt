@@ -4,7 +4,7 @@ use Rattle.shm_graph.specs.declared.{ask.{Me.Me, Turn.Turn}, memo.{Memo.Memo, St
 use Rattle.shm_graph.specs.{Agents.is_gone, Asks.{Trail, call_before, pair}, CallEvents.events_of, Events.Event}
 use Rattle.shm_graph.specs.{Idle.IsIdle, Laws.{Control, step_of, turn_of}}
 use Rattle.shm_graph.specs.Runs.{account_after, told_by, told_left, begun_by}
-use Rattle.shm_graph.specs.{Tells.{Tells as TellsEvents, after_all, machine_steps, tells_along}, Whole.Learns}
+use Rattle.shm_graph.specs.{Tells.{Tells, after_all, machine_steps, tells_along}, Whole.Learns}
 use Rattle.shm_pool.specs.Rules.{IsMade}
 
 -- what a machine shows of itself
@@ -45,7 +45,7 @@ Ending s fresh false [] = Unit {0}
 Ending s fresh _ _ = ⊥
 
 -- the steps of a call that takes the account r to r' and left `left` of `before` steps: all but the last of a whole call, or those of one that was cut off
-pub record Calls (s : Shown) (r r' : Account) (over : Bool) (before left : ℕ) : Type 0 where
+pub record CallSteps (s : Shown) (r r' : Account) (over : Bool) (before left : ℕ) : Type 0 where
   pub steps : List Step
   pub last : List Step
   pub going : Going s s.fresh steps
@@ -74,11 +74,11 @@ module _ {M A : Type 0} (k : Control M A) (fits : M → Memo → Memo → Trail 
     pub steps : ts ≡ machine_steps k m (pairs ts)
     pub machine : m' ≡ after_all k m (pairs ts)
     pub asked : call_before (fresh_after (k.fresh m) ts) r'.memo.call ≡ call_before (k.fresh m) r.memo.call ++ pairs ts
-    pub events : (does : M → ℕ → Event) → TellsEvents k fits does → events_of r.memo ts ≡ tells_along k does m (pairs ts)
+    pub events : (does : M → ℕ → Event) → Tells k fits does → events_of r.memo ts ≡ tells_along k does m (pairs ts)
 
   -- a call of the machine m
   pub record Drives (m m' : M) (r r' : Account) (over : Bool) (before left : ℕ) : Type 0 where
-    pub call : Calls (shown k m) r r' over before left
+    pub call : CallSteps (shown k m) r r' over before left
     pub driven : IsDriven m m' r r' (call.steps ++ call.last)
 
 -- a call that goes on: the machine showed s at first and shows s' now
@@ -92,7 +92,7 @@ pub record Ongoing (s : Shown) (r : Account) (s' : Shown) (r' : Account) (before
   pub first : s'.fresh ≡ fresh_after s.fresh steps
 
 -- what a whole call of a machine with this line leaves beside the memo
-pub record Tells (line : List ℕ) (r r' : Account) : Type 0 where
+pub record TellsLine (line : List ℕ) (r r' : Account) : Type 0 where
   pub told : r'.told ≡ told_by line r'.memo.call true (told_left true r)
   pub begun : r'.begun ≡ begun_by line r.begun
   pub running : r'.running ≡ []

@@ -3,7 +3,7 @@ use Rattle.std.specs.Prelude.{◌≡◌, ◌↔◌, ℕ, true, false, List, ◌+
 use Rattle.shm_graph.specs.{declared.{memo.{Memo.Memo, Step.Step}, run.Account.Account}, Asks.Trail}
 use Rattle.shm_graph.specs.{CallEvents.events_of, Events.Event, Laws.Control, Runs.Stood}
 use Rattle.shm_graph.specs.Tells.{happens_along, machine_steps, tells_along}
-use Rattle.shm_pool.specs.{declared.reply.Reply.Reply, Calls.{Calls, IsBetween, Tells, pairs, shown}}
+use Rattle.shm_pool.specs.{declared.reply.Reply.Reply, Calls.{CallSteps, IsBetween, TellsLine, pairs, shown}}
 use Rattle.shm_pool.specs.{Replies.{IfReply, IsLost, is_reply}, Tokens.Acting}
 
 module _ {M A : Type 0} (k : Control M A) (does : M → ℕ → Event) where
@@ -24,9 +24,9 @@ module _ {M A : Type 0} (k : Control M A) (does : M → ℕ → Event) (leaves :
     pub died : IsLost o ↔ (c'.dead ≡ true)
     pub again : c.dead ≡ true → IsLost o × (c' ≡ c) × (left ≡ before)
     pub spent : c.dead ≡ false → IsLost o → left ≡ 0
-    pub call : c.dead ≡ false → Calls (shown k m) c.account c'.account (is_reply o) before left
+    pub call : c.dead ≡ false → CallSteps (shown k m) c.account c'.account (is_reply o) before left
     pub events : (alive : c.dead ≡ false) → AreTold k does m c.account ((call alive).steps ++ (call alive).last)
     pub asked : (alive : c.dead ≡ false) → IfReply o (λ _. c'.account.memo.call ≡ pairs ((call alive).steps ++ (call alive).last))
-    pub told : IfReply o (λ _. Tells (k.line m) c.account c'.account)
+    pub told : IfReply o (λ _. TellsLine (k.line m) c.account c'.account)
     pub left_so : IfReply o (LeftOf m c.account c'.account)
     pub between : IfReply o (λ a. ends m a → IsBetween c'.account)

@@ -2,13 +2,13 @@
 use Rattle.std.specs.Prelude.{◌≡◌, ℕ, true, false, List, ◌++◌, Result, Ok, Err}
 use Rattle.shm_graph.specs.declared.{memo.{Memo.Memo, Status.TheVariants.Gone, Step.Step}, run.Account.Account}
 use Rattle.shm_graph.specs.{Agents.is_gone, Asks.Trail, Events.Event, Laws.Control, Whole.gives_now}
-use Rattle.shm_calls.specs.{CallsControl.{calls_does, calls_of}, CallsFit.{CallsFits, CallsGives}}
+use Rattle.plans.specs.{CallsControl.{calls_does, calls_of}, CallsFit.{CallsFits, CallsGives}}
 use Rattle.shm_count.specs.declared.answer.EraSpent.{EraSpent}
 use Rattle.shm_recover.specs.Leave.{Control.{leave_parts, leaving, leave_steered}, MayLeave, leave_plan}
 use Rattle.shm_recover.specs.Machines.{leave, Recovering.recover}
-use Rattle.shm_recover.specs.Recover.{Control.{recover_parts, recovering as recovery, recover_steered}, recover_plan}
-use Rattle.shm_pool.specs.{declared.token.Cause.Cause, Calls.{Calls, IsDriven, Tells, pairs, shown}, Doing.AreTold}
-use Rattle.shm_pool.specs.Tokens.{Acting, Its, Token, me_of, recovering}
+use Rattle.shm_recover.specs.Recover.{Control.{recover_parts, recovering, recover_steered}, recover_plan}
+use Rattle.shm_pool.specs.{declared.token.Cause.Cause, Calls.{CallSteps, IsDriven, TellsLine, pairs, shown}}
+use Rattle.shm_pool.specs.{Doing.AreTold, Tokens.{Acting, Its, Token, me_of, recovering_account}}
 use Rattle.shm_pool.specs.declared.token.Cause.TheVariants as cause
 
 -- what such a machine answers: it is done, or the own era left no room for a step
@@ -20,7 +20,7 @@ abbrev pub spent : ℕ → EraSpent
 spent n = record { era = n }
 
 -- where the machine m is run over the memo r, it leaves the identity gone where it answers Ok, and there still where it doesn't
-pub record Leaves {M : Type 0} (gives : M → Memo → Memo → Answer → Type 0) (m : M) (r : Memo) : Type 0 where
+pub record LeavesGone {M : Type 0} (gives : M → Memo → Memo → Answer → Type 0) (m : M) (r : Memo) : Type 0 where
   pub ok : (r' : Memo) → gives m r r' (Ok tt) → r'.status ≡ Gone
   pub err : (r' : Memo) (e : EraSpent) → gives m r r' (Err e) → is_gone r'.status ≡ false
 
@@ -31,16 +31,16 @@ IsSame p e t = (t.of ≡ p) × (t.account.who ≡ e.who)
 module _ {M : Type 0} (k : Control M Answer) (fits : M → Memo → Memo → Trail → Type 0) (gives : M → Memo → Memo → Answer → Type 0) (m : M) (p : Its) (e : Account) (before left : ℕ) where
   -- a whole call of the machine m by the agent of the account e, of which this account is left, and this was answered: m asked for its steps, their events are those that it tells, and they are its call
   pub record HasAnswered (a : Answer) (e' : Account) : Type 0 where
-    pub call : Calls (shown k m) e e' true before left
+    pub call : CallSteps (shown k m) e e' true before left
     pub machine : M
     pub driven : IsDriven k fits m machine e e' (call.steps ++ call.last)
     pub asked : k.fresh m ≡ true → e'.memo.call ≡ pairs (call.steps ++ call.last)
     pub gave : gives m e.memo e'.memo a
-    pub told : k.fresh m ≡ true → Tells (k.line m) e e'
+    pub told : k.fresh m ≡ true → TellsLine (k.line m) e e'
 
   -- a call of it that was cut off, for no life was left; its steps and events likewise
   pub record HasDied (e' : Account) : Type 0 where
-    pub call : Calls (shown k m) e e' false before left
+    pub call : CallSteps (shown k m) e e' false before left
     pub machine : M
     pub driven : IsDriven k fits m machine e e' (call.steps ++ call.last)
     pub spent : left ≡ 0
@@ -100,8 +100,8 @@ fallen_of t = record { of = t.of; account = t.account }
 
 -- what a recovery gave, and that its steps' events are those that it tells
 abbrev pub HasRecovered : Its → Account → ℕ → ℕ → Token → Type 0
-HasRecovered p e = EndIsTold recover (CallsFits recover_parts recover_plan) (gives_now (CallsGives recover_parts recover_plan)) (calls_does recover_parts recover_plan) (calls_of recover_steered (recovery (me_of p e))) p (recovering e)
+HasRecovered p e = EndIsTold recover (CallsFits recover_parts recover_plan) (gives_now (CallsGives recover_parts recover_plan)) (calls_does recover_parts recover_plan) (calls_of recover_steered (recovering (me_of p e))) p (recovering_account e)
 
 -- and what stopped it
 abbrev pub HasNotRecovered : Its → Account → ℕ → ℕ → Cause → Token → Type 0
-HasNotRecovered p e = StopIsTold recover (CallsFits recover_parts recover_plan) (gives_now (CallsGives recover_parts recover_plan)) (calls_does recover_parts recover_plan) (calls_of recover_steered (recovery (me_of p e))) p (recovering e)
+HasNotRecovered p e = StopIsTold recover (CallsFits recover_parts recover_plan) (gives_now (CallsGives recover_parts recover_plan)) (calls_does recover_parts recover_plan) (calls_of recover_steered (recovering (me_of p e))) p (recovering_account e)

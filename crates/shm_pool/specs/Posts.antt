@@ -17,7 +17,7 @@ abbrev pub has_begun : Memo → Bool
 has_begun m = is_some (last_agent m.agents)
 
 -- what the post knows of its seat's memo: whether an agent has begun, and that none has died but the one that fell
-pub record Knows (begun fallen : Bool) (m : Memo) : Type 0 where
+pub record PostKnows (begun fallen : Bool) (m : Memo) : Type 0 where
   pub some : has_begun m ≡ begun
   pub whole : fell_by (last_agent m.agents) ≡ false
   pub acting : fallen ≡ true → acts m ≡ true

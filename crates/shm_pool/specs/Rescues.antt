@@ -1,15 +1,15 @@
 -- a recovery in single steps
 use Rattle.std.specs.Prelude.{◌≡◌, Bool, true, false, if◌then◌else◌, List}
 use Rattle.atomic_table.specs.declared.shared.Seat.{Seat}
-use Rattle.shm_calls.specs.{declared.calls.Calls.Calls, CallsFit.CallsFits}
+use Rattle.plans.specs.{declared.calls.Calls.Calls, CallsFit.CallsFits}
 use Rattle.shm_graph.specs.{declared.{memo.Memo.Memo, run.{Account.Account, Start.Start}}, Agents.acts, Whole.fits_now}
 use Rattle.shm_recover.specs.{declared.recover.RecoverState.RecoverState, Machines.Recovering.recover}
-use Rattle.shm_recover.specs.Recover.{Control.{RecoverAnswer, RecoverCall, recover_parts}, recover_plan}
-use Rattle.shm_pool.specs.{Endings.Answer, Rules.alone, Tokens.{Its, IsFallen, IsStill, its, recovering}}
+use Rattle.shm_recover.specs.Recover.{Control.{RecoverCall, recover_parts}, recover_plan}
+use Rattle.shm_pool.specs.{Rules.alone, Tokens.{Its, IsFallen, IsStill, its, recovering_account}}
 
 -- the machine of a recovery
 abbrev pub RecoverMachine : Type 0
-RecoverMachine = Calls RecoverState RecoverCall Answer RecoverAnswer
+RecoverMachine = Calls RecoverState RecoverCall
 
 -- a token of an identity that is recovered step by step: the account of its seat, whether the recoverer has begun, its machine, and whether that has answered Ok
 pub record Rescuing : Type 0 where
@@ -21,7 +21,7 @@ pub record Rescuing : Type 0 where
 
 -- the recoverer's account: where it hasn't begun, the seat's with the death and the recoverer that begins with its first word step
 abbrev pub account_of : Bool → Account → Account
-account_of begun e = if begun then e else recovering e
+account_of begun e = if begun then e else recovering_account e
 
 -- the token of a seat
 abbrev pub rescuing_of : Start → Seat (Unit {0}) (List Account) → Bool → RecoverMachine → Bool → Rescuing

@@ -18,14 +18,14 @@ count_by c [] = 0
 count_by c (v ∷ vs) = count_in c v + count_by c vs
 
 -- each account of a view is one of these
-abbrev pub Knows : List Account → List Account → Type 0
-Knows rs [] = Unit {0}
-Knows rs (r ∷ v) = IsAmong rs r × Knows rs v
+abbrev pub ViewKnows : List Account → List Account → Type 0
+ViewKnows rs [] = Unit {0}
+ViewKnows rs (r ∷ v) = IsAmong rs r × ViewKnows rs v
 
 -- and each account of each view
 abbrev pub AllKnow : List Account → List (List Account) → Type 0
 AllKnow rs [] = Unit {0}
-AllKnow rs (v ∷ vs) = Knows rs v × AllKnow rs vs
+AllKnow rs (v ∷ vs) = ViewKnows rs v × AllKnow rs vs
 
 -- the words are those of a Held state to which a run leads, each view shows accounts of that state, and each identity stands in exactly one view
 pub record Rule (s : Start) (ws : List ℕ) (views : List (List Account)) : Type 0 where
@@ -68,8 +68,8 @@ pub record IsMade (e : Account) (t : Step) : Type 0 where
 
 module _ {M A : Type 0} (k : Control M A) (fits : M → Memo → Memo → Type 0) (gives : M → Memo → Memo → A → Type 0) where
   -- the account e' after the step of m that was given n
-  abbrev pub Told : Start → M → Account → ℕ → Account → Type 0
-  Told s m e n e' = (e' ≡ account_after e (step_of k m n)) × Learns k fits gives m n e.memo e'.memo × Stood s e' × IsMade e (step_of k m n)
+  abbrev pub AccountTold : Start → M → Account → ℕ → Account → Type 0
+  AccountTold s m e n e' = (e' ≡ account_after e (step_of k m n)) × Learns k fits gives m n e.memo e'.memo × Stood s e' × IsMade e (step_of k m n)
 
   -- what is told follows from what the step is
   abbrev pub Follows : Start → M → Account → ℕ → (List Account → Type 0) → Type 0

@@ -62,8 +62,8 @@ abbrev pub begun_account : Account → Account
 begun_account e = if acts e.memo then e else account_entered Client e
 
 -- the account of a corpse where a recoverer has begun
-abbrev pub recovering : Account → Account
-recovering e = account_entered Recoverer (account_died (begun_account e))
+abbrev pub recovering_account : Account → Account
+recovering_account e = account_entered Recoverer (account_died (begun_account e))
 
 -- the token of a seat
 abbrev pub token_of : Start → Seat (Unit {0}) (List Account) → Token

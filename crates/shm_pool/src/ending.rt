@@ -3,14 +3,14 @@
 ghost use Rattle.std.specs.Prelude.{◌≡◌, ◌<◌, true, false, IfOk, IfErr, is_err, is_ok};
 ghost use Rattle.shm_graph.specs.{Agents.acts, Whole.{fits_now, gives_now}};
 ghost use Rattle.shm_pool.specs.{Rules.alone, Tokens.{has_left, its, me_of, token_of, IsFor, IsFallen, IsSeated}};
-ghost use Rattle.shm_pool.specs.Endings.{ClientMayLeave, HasEnded, HasStopped, HasLeft, HasNotLeft, Leaves, fallen_of};
+ghost use Rattle.shm_pool.specs.Endings.{ClientMayLeave, HasEnded, HasStopped, HasLeft, HasNotLeft, LeavesGone, fallen_of};
 ghost use Rattle.shm_pool.specs.declared.token.Cause.TheVariants as cause;
 
 use crate::pool::SharedPool;
 use crate::rule::Place;
 use crate::steps::{load_status, run_place};
 use crate::token::{Cause, Client, Corpse, Stopped, Vacant};
-use shm_calls::Calls;
+use plans::Calls;
 use shm_count::EraSpent;
 use shm_graph::{Life, Machine, Start};
 use shm_recover::Leave;
@@ -44,7 +44,7 @@ pub(crate) fn end_by<M: Machine<Answer = Result<(), EraSpent>>>(
     requires acts { acts (alone place).memo ≡ true }
     requires machine { (M.control.me m.old ≡ me_of pool.now (alone place)) × (M.control.finished m.old ≡ false) }
     requires fits { fits_now M.control M.fits m.old (alone place).memo (alone place).memo }
-    requires leaves { Leaves (gives_now M.gives) m.old (alone place).memo }
+    requires leaves { LeavesGone (gives_now M.gives) m.old (alone place).memo }
     ensures ended { IfOk result (HasEnded M.control M.fits (gives_now M.gives) m.old pool.now (alone place) life.old.left life.new.left) }
     ensures stopped { IfErr result (λ s. HasStopped M.control M.fits (gives_now M.gives) m.old pool.now (alone place) life.old.left life.new.left s.cause s.corpse) }
 {
@@ -72,7 +72,7 @@ impl Client {
         requires pool { self.of ≡ pool.now }
         requires machine { self.dead ≡ false → IsFor self.of self.account M.control m.old }
         requires fits { self.dead ≡ false → fits_now M.control M.fits m.old self.account.memo self.account.memo }
-        requires leaves { self.dead ≡ false → Leaves (gives_now M.gives) m.old self.account.memo }
+        requires leaves { self.dead ≡ false → LeavesGone (gives_now M.gives) m.old self.account.memo }
         ensures ended { IfOk result (HasEnded M.control M.fits (gives_now M.gives) m.old self.of self.account life.old.left life.new.left) }
         ensures stopped { self.dead ≡ false → IfErr result (λ s. HasStopped M.control M.fits (gives_now M.gives) m.old self.of self.account life.old.left life.new.left s.cause s.corpse) }
         ensures again { self.dead ≡ true → (is_err result ≡ true) × IfErr result (λ s. (s.cause ≡ cause.Died) × (s.corpse ≡ fallen_of self) × (m.new ≡ m.old) × (life.new ≡ life.old)) }

@@ -3,7 +3,7 @@
 ghost use Rattle.std.specs.Prelude.{◌≡◌, ◌<◌, ℕ, true, false, []};
 ghost use Rattle.shm_words.specs.Layout.{total_of};
 ghost use Rattle.shm_graph.specs.{Agents.{acts, last_agent}, Runs.{Stood, account_died, fell_by, first_account}};
-ghost use Rattle.shm_pool.specs.{Rules.{IsAlone, alone}, Posts.{IsPosted, Knows, account_seen}};
+ghost use Rattle.shm_pool.specs.{Rules.{IsAlone, alone}, Posts.{IsPosted, PostKnows, account_seen}};
 ghost use Rattle.shm_pool.specs.Tokens.{IsOut, IsSeated};
 ghost use Rattle.shm_plain.specs.Working.{MayWork, ready_account};
 
@@ -31,20 +31,20 @@ impl<'p> Model for Post<'p> {
     ghost use Rattle.std.specs.Prelude.{◌≡◌};
     ghost use Rattle.shm_pool.specs.Rules.{alone};
     ghost use Rattle.shm_pool.specs.Tokens.{Token, IsSeated, its};
-    ghost use Rattle.shm_pool.specs.Posts.{Knows, post_of};
+    ghost use Rattle.shm_pool.specs.Posts.{PostKnows, post_of};
 
     ghost Value = { Token };
 
     ghost view = { λ t. post_of t.start t.fallen t.place };
 
-    ghost invariant = { λ t. IsSeated t.start t.who t.place × Knows t.begun t.fallen (alone t.place).memo × (its t.place.table_id t.start ≡ t.pool.now) };
+    ghost invariant = { λ t. IsSeated t.start t.who t.place × PostKnows t.begun t.fallen (alone t.place).memo × (its t.place.table_id t.start ≡ t.pool.now) };
 }
 
 /// Notes that an agent begins, where none acts; after a death that is noted first.
 fn note_ready(top: &Top, place: &mut Place, begun: bool, fallen: bool)
     requires table { (place.old.table_id ≡ top.now.table_id) × (top.now.table_id.words ≡ total_of top.now.key.geometry) × IsAlone place.old }
     requires who { (alone place.old).who < top.now.key.geometry.clients }
-    requires knows { Knows begun fallen (alone place.old).memo }
+    requires knows { PostKnows begun fallen (alone place.old).memo }
     requires may { MayWork (account_seen fallen (alone place.old)) }
     ensures place { (place.new.table_id ≡ place.old.table_id) × (place.new.id ≡ place.old.id) × IsAlone place.new }
     ensures stood { Stood top.now.key (alone place.old) → Stood top.now.key (alone place.new) }

@@ -3,8 +3,8 @@
 ghost use Rattle.std.specs.Prelude.{◌≡◌, ◌<◌, true, false, IfOk, IfErr, is_err};
 ghost use Rattle.shm_words.specs.Layout.{total_of};
 ghost use Rattle.shm_graph.specs.{Agents.acts, Runs.Stood, Whole.{fits_now, gives_now}};
-ghost use Rattle.shm_pool.specs.{Rules.{IsAlone, alone}, Tokens.{me_of, begun_account, recovering, IsFallen}};
-ghost use Rattle.shm_pool.specs.Endings.{HasEnded, HasNotRecovered, HasRecovered, HasStopped, Leaves};
+ghost use Rattle.shm_pool.specs.{Rules.{IsAlone, alone}, Tokens.{me_of, begun_account, recovering_account, IsFallen}};
+ghost use Rattle.shm_pool.specs.Endings.{HasEnded, HasNotRecovered, HasRecovered, HasStopped, LeavesGone};
 ghost use Rattle.shm_pool.specs.declared.token.Cause.TheVariants as cause;
 
 use crate::ending::{end_by, stop};
@@ -12,7 +12,7 @@ use crate::pool::SharedPool;
 use crate::rule::{Place, Top};
 use crate::steps::{note_client, note_death, note_recoverer};
 use crate::token::{Cause, Corpse, Stopped, Vacant};
-use shm_calls::Calls;
+use plans::Calls;
 use shm_count::EraSpent;
 use shm_graph::{Life, Machine, Me};
 use shm_recover::Recover;
@@ -24,7 +24,7 @@ pub(crate) fn note_change(top: &Top, place: &mut Place, begun: bool)
     requires fallen { IsFallen begun (alone place.old).memo }
     ensures place { (place.new.table_id ≡ place.old.table_id) × (place.new.id ≡ place.old.id) × IsAlone place.new }
     ensures stood { Stood top.now.key (alone place.old) → Stood top.now.key (alone place.new) }
-    ensures account { alone place.new ≡ recovering (alone place.old) }
+    ensures account { alone place.new ≡ recovering_account (alone place.old) }
     ensures who { (alone place.new).who ≡ (alone place.old).who }
     ensures acts { acts (alone place.new).memo ≡ true }
 {
@@ -72,10 +72,10 @@ impl Corpse {
     ) -> Result<Vacant, Stopped>
         requires pool { self.of ≡ pool.now }
         requires machine { (M.control.me m.old ≡ me_of self.of self.account) × (M.control.finished m.old ≡ false) }
-        requires fits { fits_now M.control M.fits m.old (recovering self.account).memo (recovering self.account).memo }
-        requires leaves { Leaves (gives_now M.gives) m.old (recovering self.account).memo }
-        ensures ended { IfOk result (HasEnded M.control M.fits (gives_now M.gives) m.old self.of (recovering self.account) life.old.left life.new.left) }
-        ensures stopped { 0 < life.old.left → IfErr result (λ s. HasStopped M.control M.fits (gives_now M.gives) m.old self.of (recovering self.account) life.old.left life.new.left s.cause s.corpse) }
+        requires fits { fits_now M.control M.fits m.old (recovering_account self.account).memo (recovering_account self.account).memo }
+        requires leaves { LeavesGone (gives_now M.gives) m.old (recovering_account self.account).memo }
+        ensures ended { IfOk result (HasEnded M.control M.fits (gives_now M.gives) m.old self.of (recovering_account self.account) life.old.left life.new.left) }
+        ensures stopped { 0 < life.old.left → IfErr result (λ s. HasStopped M.control M.fits (gives_now M.gives) m.old self.of (recovering_account self.account) life.old.left life.new.left s.cause s.corpse) }
         ensures unbegun { life.old.left ≡ 0 → (is_err result ≡ true) × IfErr result (λ s. (s.cause ≡ cause.Died) × (s.corpse ≡ self) × (m.new ≡ m.old) × (life.new ≡ life.old)) }
     {
         let Corpse {

@@ -2,12 +2,11 @@
 
 ghost use Rattle.std.specs.Prelude.{◌≡◌, ◌+◌, ◌<◌, ◌↔◌, true, false, Ok, IfOk, IfErr, is_ok};
 ghost use Rattle.shm_words.specs.Layout.{total_of};
-ghost use Rattle.shm_calls.specs.{CallsControl.calls_of, CallsFit.{CallsFits, CallsGives}};
+ghost use Rattle.plans.specs.{CallsControl.calls_of, CallsFit.{CallsFits, CallsGives}};
 ghost use Rattle.shm_graph.specs.{Agents.acts, Laws.{is_died, is_done}, Runs.Stood, Whole.{fits_now, gives_now}};
 ghost use Rattle.shm_graph.specs.declared.ask.Turn.TheVariants as turns;
 ghost use Rattle.shm_recover.specs.Machines.Recovering.{recover};
-ghost use Rattle.shm_recover.specs.Recover.Control.{recover_parts, recovering as recovery, recover_steered};
-ghost use Rattle.shm_recover.specs.Recover.{recover_plan};
+ghost use Rattle.shm_recover.specs.Recover.{Control.{recover_parts, recovering, recover_steered}, recover_plan};
 ghost use Rattle.shm_pool.specs.{Calls.ClientStepped, Rules.{IsAlone, alone}, Rescues.account_of};
 ghost use Rattle.shm_pool.specs.Tokens.{me_of, IsFallen};
 
@@ -16,7 +15,7 @@ use crate::recovery::note_change;
 use crate::rule::{Place, Top};
 use crate::steps::step_place;
 use crate::token::{Corpse, Vacant};
-use shm_calls::Calls;
+use plans::Calls;
 use shm_count::EraSpent;
 use shm_graph::{Life, Me, Start, Turn};
 use shm_recover::Recover;
@@ -71,7 +70,7 @@ impl Corpse {
     /// A recovery of the identity that is stepped: it makes no step. The death is noted and the recoverer begins with its first word step.
     pub fn start(self) -> Rescuer
         ensures of { (result.of ≡ self.of) × (result.seat ≡ self.account) × (result.begun ≡ false) × (result.done ≡ false) }
-        ensures machine { result.machine ≡ calls_of recover_steered (recovery (me_of self.of self.account)) }
+        ensures machine { result.machine ≡ calls_of recover_steered (recovering (me_of self.of self.account)) }
         ensures fits { let r = (account_of false self.account).memo in fits_now recover (CallsFits recover_parts recover_plan) result.machine r r }
     {
         let Corpse {

@@ -7,8 +7,8 @@ ghost use Rattle.shm_graph.specs.declared.memo.Kind.TheVariants.{Client as AClie
 ghost use Rattle.shm_graph.specs.{declared.memo.Memo.Memo, Agents.{acts, recovers}, Held.status_word};
 ghost use Rattle.shm_graph.specs.Laws.{is_died, is_done, is_some, turn_of};
 ghost use Rattle.shm_graph.specs.{Runs.{MayBegin, account_died, account_entered, Stood}, Whole.{fits_now, gives_now}};
-ghost use Rattle.shm_pool.specs.{Rules.{IsOf, IsAlone, alone, Told}, Sites.{MayMake, Made, last_word}};
-ghost use Rattle.shm_pool.specs.{Calls.{ClientStepped, Drives, Tells, acts_still, StillFits}, Tokens.has_left};
+ghost use Rattle.shm_pool.specs.{Rules.{IsOf, IsAlone, alone, AccountTold}, Sites.{MayMake, Made, last_word}};
+ghost use Rattle.shm_pool.specs.{Calls.{ClientStepped, Drives, TellsLine, acts_still, StillFits}, Tokens.has_left};
 
 use crate::rule::{ClientBegins, Dies, Place, ReadsStatus, RecovererBegins, Say, Top};
 use crate::site::OnTable;
@@ -38,7 +38,7 @@ fn act_place<M: Machine>(top: &Top, place: &mut Place, m: &mut M) -> Turn<M::Ans
     requires me { IsOf top.now.key.geometry (alone place.old) M.control m.old }
     requires fits { (r0 : Memo) × fits_now M.control M.fits m.old r0 (alone place.old).memo }
     ensures place { (place.new.table_id ≡ place.old.table_id) × (place.new.id ≡ place.old.id) × IsAlone place.new }
-    ensures told { Told M.control (fits_now M.control M.fits) (gives_now M.gives) top.now.key m.old (alone place.old) (last_word place.new) (alone place.new) }
+    ensures told { AccountTold M.control (fits_now M.control M.fits) (gives_now M.gives) top.now.key m.old (alone place.old) (last_word place.new) (alone place.new) }
     ensures machine { m.new ≡ M.control.after m.old (last_word place.new) }
     ensures turn { result ≡ turn_of (M.control.turns m.old (last_word place.new)) }
 {
@@ -90,7 +90,7 @@ pub(crate) fn run_place<M: Machine>(
     ensures stood { Stood top.now.key (alone place.new) }
     ensures call { Drives M.control M.fits m.old m.new (alone place.old) (alone place.new) (is_some result) life.old.left life.new.left }
     ensures cut { IsNone result → StillFits M.control (fits_now M.control M.fits) m.new (alone place.old).memo (alone place.new).memo }
-    ensures told { M.control.fresh m.old ≡ true → IfSome result (λ _. Tells (M.control.line m.old) (alone place.old) (alone place.new)) }
+    ensures told { M.control.fresh m.old ≡ true → IfSome result (λ _. TellsLine (M.control.line m.old) (alone place.old) (alone place.new)) }
     ensures spent { IsNone result → life.new.left ≡ 0 }
     ensures gives { IfSome result (gives_now M.gives m.old (alone place.old).memo (alone place.new).memo) }
     ensures acts { acts (alone place.new).memo ≡ acts_still (is_some result) (alone place.new).memo }

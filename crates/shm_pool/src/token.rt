@@ -5,7 +5,7 @@ ghost use Rattle.shm_words.specs.Layout.{GeometryFits};
 ghost use Rattle.shm_graph.specs.{declared.memo.{Kind.TheVariants.Client as AClient, Memo.Memo}, Agents.recovers};
 ghost use Rattle.shm_graph.specs.{Core.core, Laws.is_died, Runs.{account_entered, Stood}, Whole.{fits_now, gives_now}};
 ghost use Rattle.shm_recover.specs.Join.{JoinGives, join_control, join_fresh, join_line};
-ghost use Rattle.shm_pool.specs.Calls.{Calls, ClientStepped, Drives, IsBetween, Tells, StillFits, shown};
+ghost use Rattle.shm_pool.specs.Calls.{CallSteps, ClientStepped, Drives, IsBetween, TellsLine, StillFits, shown};
 ghost use Rattle.shm_pool.specs.{Doing.HasDone, Tokens.{has_left, me_of, live, IsFor, IsOut, IsServing}};
 ghost use Rattle.shm_pool.specs.{Replies.{IsLost, IfReply, is_reply}, Endings.ClientMayLeave};
 ghost use Rattle.shm_pool.specs.declared.token.Cause.TheVariants as cause;
@@ -15,7 +15,7 @@ use crate::pool::SharedPool;
 use crate::reply::Reply;
 use crate::rule::Place;
 use crate::steps::{note_client, run_place, step_place};
-use shm_calls::Begin;
+use plans::Begin;
 use shm_graph::{Life, Machine, Me, Operation, Start, Turn};
 use shm_recover::Join;
 use shm_script::Answer;
@@ -123,8 +123,8 @@ impl Vacant {
         ensures same { IfOk result (λ c. (c.of ≡ self.of) × (c.account.who ≡ self.account.who) × (c.dead ≡ false)) }
         ensures gives { IfOk result (λ c. JoinGives (join_fresh (me_of self.of self.account)) (account_entered AClient self.account).memo c.account.memo c.account.memo.call tt) }
         ensures stood { IfOk result (λ c. Stood c.of.start c.account) }
-        ensures told { IfOk result (λ c. Tells join_line (account_entered AClient self.account) c.account) }
-        ensures call { IfOk result (λ c. Calls (shown join_control (join_fresh (me_of self.of self.account))) (account_entered AClient self.account) c.account true life.old.left life.new.left) }
+        ensures told { IfOk result (λ c. TellsLine join_line (account_entered AClient self.account) c.account) }
+        ensures call { IfOk result (λ c. CallSteps (shown join_control (join_fresh (me_of self.of self.account))) (account_entered AClient self.account) c.account true life.old.left life.new.left) }
         ensures keeps { IfOk result (λ c. core c.account.memo ≡ core (live self.account.memo)) }
         ensures leaves { IfOk result (λ c. ClientMayLeave c.of c.account) }
         ensures err { IfErr result (λ s. (s.cause ≡ cause.Died) × (s.corpse.of ≡ self.of) × (s.corpse.account.who ≡ self.account.who) × (life.new.left ≡ 0)) }
@@ -222,7 +222,7 @@ impl Client {
         ensures again { self.old.dead ≡ true → IsLost result × (self.new ≡ self.old) × (m.new ≡ m.old) × (life.new ≡ life.old) }
         ensures spent { self.old.dead ≡ false → IsLost result → life.new.left ≡ 0 }
         ensures call { self.old.dead ≡ false → Drives M.control M.fits m.old m.new self.old.account self.new.account (is_reply result) life.old.left life.new.left }
-        ensures told { M.control.fresh m.old ≡ true → IfReply result (λ _. Tells (M.control.line m.old) self.old.account self.new.account) }
+        ensures told { M.control.fresh m.old ≡ true → IfReply result (λ _. TellsLine (M.control.line m.old) self.old.account self.new.account) }
         ensures gives { IfReply result (gives_now M.gives m.old self.old.account.memo self.new.account.memo) }
         ensures cut { self.old.dead ≡ false → IsLost result → StillFits M.control (fits_now M.control M.fits) m.new self.old.account.memo self.new.account.memo }
         ensures effect { self.new.effect ≡ self.old.effect }

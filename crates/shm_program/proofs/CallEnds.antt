@@ -4,7 +4,7 @@ use Rattle.std.specs.{Prelude.{Option, Some, None, Result, Ok, Err, IfOk, IfErr}
 use Rattle.std.specs.declared.io.ErrorKind.{ErrorKind, TheVariants.OutOfMemory}
 use Rattle.shm_io.specs.{Faults.{NoFault, Rose}, Reading.{LosesFront, TakesFront}}
 use Rattle.shm_program.specs.Commands.{Ends, EndsUnread}
-use Rattle.shm_program.specs.Outcomes.{Answers, IsCall, IsWanting, IsWritten, Misused, Sides, usage_text}
+use Rattle.shm_program.specs.Outcomes.{JobAnswers, IsCall, IsWanting, IsWritten, Misused, Sides, usage_text}
 use Rattle.shm_program.specs.{Reads.{IsRead, IsUnread, limit_of, most_of}, Words.{NamesCommand, job_of}}
 use Rattle.shm_program.specs.declared.{answer.Reply.Reply, outcome.Finished.{Finished, TheVariants.Neither}}
 use Rattle.shm_program.specs.declared.words.Job.{Job}
@@ -170,7 +170,7 @@ module _ (words : List (List ℕ)) (old new : Sides) (code : ℕ) (made : Finish
 
   -- the bytes were read, and the answer to them written, unless memory was wanting for it
   pub replying : (job : Job) (bytes read : List ℕ) (answered : Result Reply AllocError) → job_of words ≡ Some job → IsRead old.left old.read_faults new.left new.read_faults (limit_of job) bytes → read ≡ bytes
-      → IfOk answered (λ r. Answers job read r.status r.finished r.text.items) → IfOk answered (λ r. made ≡ r.finished) → IfOk answered (λ r. Wrote old new code r.status r.text.items)
+      → IfOk answered (λ r. JobAnswers job read r.status r.finished r.text.items) → IfOk answered (λ r. made ≡ r.finished) → IfOk answered (λ r. Wrote old new code r.status r.text.items)
       → IfErr answered (λ _. IsWanting old.held old.write_faults new.held new.write_faults code made) → IsCall words old new code made
   replying job bytes read (Ok r) asked taken same answers kept w none =
       answering job r.status r.text.items asked (lost_at words job old.left new.left asked (takes_loses old.left new.left (limit_of job) bytes taken.front)) taken.quiet

@@ -18,7 +18,8 @@ use Rattle.shm_report.specs.Report.{named_from, row_line, rows_below, table_line
 use Rattle.shm_script.specs.{Logged.Logged, Values.Traced}
 use Rattle.shm_versions.specs.RunTexts.{last_line}
 use Rattle.shm_program.specs.declared.{outcome.Finished.Finished, words.Form.TheVariants.Report}
-use Rattle.shm_program.specs.{declared.words.Job.TheVariants.Audit, Outcomes.Answers, Replays.{IsRan, IsTold, written}}
+use Rattle.shm_program.specs.{declared.words.Job.TheVariants.Audit, Outcomes.JobAnswers}
+use Rattle.shm_program.specs.Replays.{IsRan, IsTold, written}
 
 -- each word of a pool whose state holds is below 2 ^ 64
 words_small : (g : Geometry) (ws : List ℕ) (es : List Account) → Held g ws es → (i : ℕ) → get_or ws i 0 < 2 ^ 64
@@ -73,7 +74,7 @@ module _ (p : Pool) (closed : IsClosedRun p) (image : List ℕ) (is : image ≡ 
   verdict_told : verdict_of (geometry_in image) (see (geometry_in image) (words_in image)) ≡ clean_verdict g (see g ws)
   verdict_told = ap (λ (bytes : List ℕ). verdict_of (geometry_in bytes) (see (geometry_in bytes) (words_in bytes))) is ∙ image_verdict g ws closed.run.held.at.fits small closed.clean
 
-  pub clean_answer : (ended : Finished) (text : List ℕ) (status : ℕ) → Answers Audit image status ended text → (status ≡ 0) × (text ≡ codes "clean " ++ last_line p)
+  pub clean_answer : (ended : Finished) (text : List ℕ) (status : ℕ) → JobAnswers Audit image status ended text → (status ≡ 0) × (text ≡ codes "clean " ++ last_line p)
   clean_answer ended text status (inl (s, d)) = (s, d.verdict ∙ ap verdict_line verdict_told)
   clean_answer ended text status (inr refused) =
       let e : ◌≡◌ {A = Option ImageFault} None (Some refused.2.0) = sym faultless_image ∙ refused.2.1 in

@@ -5,7 +5,7 @@ use Rattle.std.specs.Prelude.{Option, Some, None}
 use Rattle.shm_io.specs.Writing.{Appends, AppendsFront}
 use Rattle.shm_program.specs.declared.{outcome.Finished.Finished, words.Job.Job}
 use Rattle.shm_program.specs.declared.words.Job.TheVariants.{Replay, Print, Run, Rescue, Audit, Migrate, Make, Draw, Poll, Tree}
-use Rattle.shm_program.specs.Outcomes.{Answers, Decided, Done, IsCall, IsDone, IsStatus, Misused, Refused, Sides}
+use Rattle.shm_program.specs.Outcomes.{JobAnswers, Decided, Done, IsCall, IsDone, IsStatus, Misused, Refused, Sides}
 use Rattle.shm_program.specs.Reads.{Reads, limit_of, most_of}
 use Rattle.shm_program.specs.Streams.{AreFirst, Grows, IsAnswered, IsStopped, IsTextOf, WritesFrontOf}
 use Rattle.shm_program.specs.Words.{AreDetermined, job_of}
@@ -56,7 +56,7 @@ text_same ws bytes x y e (inl a) (inr (job, asked, h)) = absurd (some_none (job_
 text_same ws bytes x y e (inr (job, asked, h)) (inl b) = absurd (some_none (job_of ws) job asked b.0)
 text_same ws bytes x y e (inr (job, asked, (m, one, h))) (inr (job2, asked2, (n, two, k))) =
     let same : job2 ≡ job = same_job (job_of ws) job2 job asked2 asked in
-    answers_same job bytes m n one two x y (e job asked) h (subst (λ (j : Job). Answers j bytes n two y) same k)
+    answers_same job bytes m n one two x y (e job asked) h (subst (λ (j : Job). JobAnswers j bytes n two y) same k)
 
 -- ---- the statuses
 

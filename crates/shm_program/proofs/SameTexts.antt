@@ -2,7 +2,7 @@
 use Rattle.std.proofs.Common.{◌≡◌, true, ℕ, zero, suc, ◌<◌, ◌≤◌, List, [], ◌∷◌, ◌++◌, map, refl, sym, ap, ◌∙◌, subst, arith, inl, inr}
 use Rattle.std.proofs.lemmas.Bool.{cases_eq}
 use Rattle.std.specs.{Prelude.{Option, Some, None, Result, Ok, Err}, List.flat_map}
-use Rattle.shm_audit.specs.Texts.{fault_line as image_fault_line}
+use Rattle.shm_audit.specs.Texts.{image_fault_line}
 use Rattle.shm_words.specs.declared.geometry.Geometry.{Geometry}
 use Rattle.shm_graph.specs.{declared.{spot.Spot.TheVariants.Home, table.Entry.Entry}, Spots.see}
 use Rattle.shm_graph.specs.Tables.{IsChain, IsTable}
@@ -16,7 +16,7 @@ use Rattle.shm_script.specs.{Text.text_of, Values.Traced}
 use Rattle.shm_script.proofs.Complete.{faultless, one_spelling}
 use Rattle.shm_tree.specs.Scripts.{script_of}
 use Rattle.shm_migrate.specs.Migrations.{stop_line}
-use Rattle.shm_program.specs.{Outcomes.{Answers, IsDone, IsFaulty, Spells}, Refusals.fault_line}
+use Rattle.shm_program.specs.{Outcomes.{JobAnswers, IsDone, IsFaulty, Spells}, Refusals.fault_line}
 use Rattle.shm_program.specs.{Replays.{IsTold, written}, declared.{outcome.Finished.Finished, words.Form.Form}}
 use Rattle.shm_program.specs.declared.words.{Form.TheVariants.{Report, Image, Summary}, Job.Job}
 use Rattle.shm_program.specs.declared.words.Job.TheVariants.{Replay, Print, Run, Rescue, Audit, Migrate, Make, Draw, Poll, Tree}
@@ -143,14 +143,14 @@ done_or_faulty (Make start size) bytes one x y h b = b
 done_or_faulty (Draw start size) bytes one x y h b = b
 
 -- one status answers the bytes
-pub status_same : (job : Job) (bytes : List ℕ) (m n : ℕ) (one other : Finished) (x y : List ℕ) → Answers job bytes m one x → Answers job bytes n other y → m ≡ n
+pub status_same : (job : Job) (bytes : List ℕ) (m n : ℕ) (one other : Finished) (x y : List ℕ) → JobAnswers job bytes m one x → JobAnswers job bytes n other y → m ≡ n
 status_same job bytes m n one other x y (inl a) (inl b) = a.0 ∙ sym b.0
 status_same job bytes m n one other x y (inl a) (inr b) = absurd (done_or_faulty job bytes one x y a.1 b.2)
 status_same job bytes m n one other x y (inr a) (inl b) = absurd (done_or_faulty job bytes other y x b.1 a.2)
 status_same job bytes m n one other x y (inr a) (inr b) = a.0 ∙ sym b.0
 
 -- and one text, but for a run or `tree`
-pub answers_same : (job : Job) (bytes : List ℕ) (m n : ℕ) (one other : Finished) (x y : List ℕ) → is_determined job ≡ true → Answers job bytes m one x → Answers job bytes n other y → x ≡ y
+pub answers_same : (job : Job) (bytes : List ℕ) (m n : ℕ) (one other : Finished) (x y : List ℕ) → is_determined job ≡ true → JobAnswers job bytes m one x → JobAnswers job bytes n other y → x ≡ y
 answers_same job bytes m n one other x y e (inl a) (inl b) = done_same job bytes one other x y e a.1 b.1
 answers_same job bytes m n one other x y e (inl a) (inr b) = absurd (done_or_faulty job bytes one x y a.1 b.2)
 answers_same job bytes m n one other x y e (inr a) (inl b) = absurd (done_or_faulty job bytes other y x b.1 a.2)

@@ -7,7 +7,7 @@ use Rattle.shm_script.proofs.Complete.{faultless}
 use Rattle.shm_tree.specs.Scripts.{script_of}
 use Rattle.shm_program.specs.declared.{outcome.Finished.Finished, words.Job.Job}
 use Rattle.shm_program.specs.declared.words.Job.TheVariants.{Replay, Print, Run, Rescue, Audit, Migrate, Make, Draw, Poll, Tree}
-use Rattle.shm_program.specs.Outcomes.{Answers, Done, IsDone, IsFaulty, IsInput, Refused, Spells}
+use Rattle.shm_program.specs.Outcomes.{JobAnswers, Done, IsDone, IsFaulty, IsInput, Refused, Spells}
 use Rattle.shm_program.specs.Reads.{IsRead, Reads, ReadsAll, ReadsLimit, input_of, limit_of}
 use Rattle.shm_program.proofs.{ImageSizes.{image_short, unrefused}, SpelledScripts.spelled_read}
 use Rattle.shm_program.proofs.TopReads.{read_same, reads, reads_all, reads_none}
@@ -61,17 +61,17 @@ abbrev pub Said : Job → Option (List ℕ) → Option (List ℕ) → ℕ → Fi
 Said job before after status finished text = ((status ≡ 0) × Done job before after finished text) ⊎ ((status ≡ 3) × Refused job before after finished text)
 
 answered : (job : Job) (before after : Option (List ℕ)) (bytes : List ℕ) (status : ℕ) (finished : Finished) (text : List ℕ) → TakesFront before after (limit_of job) bytes → length bytes ≤ limit_of job
-    → Answers job bytes status finished text → Said job before after status finished text
+    → JobAnswers job bytes status finished text → Said job before after status finished text
 answered job before after bytes status finished text t few (inl d) =
     inl (d.0, record { bytes = bytes; read = done_read job before after bytes t few (done_input job bytes finished text d.1); is = d.1 })
 answered job before after bytes status finished text t few (inr d) = inr (d.0, record { kept = d.1; bytes = bytes; few = few; read = any_read job before after bytes t few; is = d.2 })
 
 -- the answer to what was read
 pub said : (job : Job) (before after : Option (List ℕ)) (faults later : ℕ) (bytes read : List ℕ) (status : ℕ) (finished kept : Finished) (text : List ℕ) → IsRead before faults after later (limit_of job) bytes
-    → read ≡ bytes → Answers job read status finished text → kept ≡ finished → Said job before after status kept text
+    → read ≡ bytes → JobAnswers job read status finished text → kept ≡ finished → Said job before after status kept text
 said job before after faults later bytes read status finished kept text taken same a k =
-    let b = subst (λ (xs : List ℕ). Answers job xs status finished text) same a in
-    answered job before after bytes status kept text taken.front taken.few (subst (λ (f : Finished). Answers job bytes status f text) (sym k) b)
+    let b = subst (λ (xs : List ℕ). JobAnswers job xs status finished text) same a in
+    answered job before after bytes status kept text taken.front taken.few (subst (λ (f : Finished). JobAnswers job bytes status f text) (sym k) b)
 
 -- ---- what the answer is to what the source had left
 

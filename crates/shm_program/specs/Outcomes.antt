@@ -1,13 +1,13 @@
 -- what a call of the program does: what it reads, what it answers and what it writes
 use Rattle.std.specs.Prelude.{◌≡◌, ◌≢◌, ℕ, ◌≤◌, ◌⊎◌, List, length, codes, Option, Some, None, Err}
 use Rattle.shm_audit.specs.{declared.fault.ImageFault.ImageFault, Faults.image_fault_of, Images.{geometry_in, words_in}}
-use Rattle.shm_audit.specs.{Texts.{fault_line as image_fault_line, verdict_line}, Verdicts.verdict_of}
+use Rattle.shm_audit.specs.{Texts.{image_fault_line, verdict_line}, Verdicts.verdict_of}
 use Rattle.shm_graph.specs.Spots.{see}
 use Rattle.shm_migrate.specs.{declared.stop.MigrateStop.MigrateStop, Migrations.{migrated, refusal_of, stop_line}}
 use Rattle.shm_io.specs.{Faults.{NoFault, Rose}, Reading.LosesFront, Writing.{Appends, AppendsFront}}
 use Rattle.shm_script.specs.{declared.fault.TraceFault.TraceFault, Drawing.drawn_trace, Faults.fault_of}
 use Rattle.shm_script.specs.{Ranges.{IsTrace, IsTraceText}, Text.text_of, Values.Traced}
-use Rattle.shm_tree.specs.{Scripts.{Scripted, script_of}, ScriptTexts.Spells as SpellsScript}
+use Rattle.shm_tree.specs.{Scripts.{TreeScripted, script_of}, ScriptTexts.SpellsScript}
 use Rattle.shm_program.specs.{Reads.{Reads, ReadsLimit, input_of, limit_of, most_of}, Refusals.fault_line}
 use Rattle.shm_program.specs.{Replays.{IsPollTold, IsRescueTold, IsTeamTold, IsTold}, Trees.IsTreeTold}
 use Rattle.shm_program.specs.{Words.{NamesCommand, job_of}, declared.outcome.Finished.{Finished, TheVariants.Neither}}
@@ -32,7 +32,7 @@ IsInput Audit bytes = image_fault_of bytes ≡ None
 IsInput Migrate bytes = refusal_of bytes ≡ None
 IsInput (Make start size) bytes = Unit {0}
 IsInput (Draw start size) bytes = Unit {0}
-IsInput Tree bytes = (s : Scripted) × SpellsScript bytes s
+IsInput Tree bytes = (s : TreeScripted) × SpellsScript bytes s
 IsInput _ bytes = IsTraceText bytes
 
 -- ---- what is answered to the bytes that were read
@@ -64,7 +64,7 @@ IsDone (Make start size) bytes finished text = IsTold Summary (drawn_trace start
 IsDone (Draw start size) bytes finished text = IsPrinted (drawn_trace start size) finished text
 IsDone (Rescue form medics) bytes finished text = (t : Traced) × Spells bytes t × IsRescueTold form t finished text
 IsDone (Poll q limit) bytes finished text = (t : Traced) × Spells bytes t × IsPollTold q limit t finished text
-IsDone Tree bytes finished text = (s : Scripted) × SpellsScript bytes s × IsTreeTold s finished text
+IsDone Tree bytes finished text = (s : TreeScripted) × SpellsScript bytes s × IsTreeTold s finished text
 
 -- the bytes are no trace, no image or no script, and the line names their first fault; or it names what stands against their migration
 abbrev pub IsFaulty : Job → List ℕ → List ℕ → Type 0
@@ -76,8 +76,8 @@ IsFaulty Tree bytes text = (fault : TraceFault) × (script_of bytes ≡ Err faul
 IsFaulty _ bytes text = (fault : TraceFault) × (fault_of bytes ≡ Some fault) × (text ≡ fault_line fault)
 
 -- the answer to the bytes that were read
-abbrev pub Answers : Job → List ℕ → ℕ → Finished → List ℕ → Type 0
-Answers job bytes status finished text =
+abbrev pub JobAnswers : Job → List ℕ → ℕ → Finished → List ℕ → Type 0
+JobAnswers job bytes status finished text =
     ((status ≡ 0) × IsDone job bytes finished text)
     ⊎ ((status ≡ 3) × (finished ≡ Neither) × IsFaulty job bytes text)
 

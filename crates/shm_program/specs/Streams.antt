@@ -1,11 +1,11 @@
 -- what a sink holds after a call of the program: what it held before, and a front of one text
 use Rattle.std.specs.Prelude.{◌≡◌, ◌⊎◌, ℕ, ◌<◌, ◌≤◌, List, ◌++◌, length, take, Option, Some, None, MatchOption}
-use Rattle.shm_program.specs.{Outcomes.{Answers, Asks, Sides, usage_text}, Reads.most_of, Words.job_of}
+use Rattle.shm_program.specs.{Outcomes.{JobAnswers, Asks, Sides, usage_text}, Reads.most_of, Words.job_of}
 use Rattle.shm_program.specs.declared.outcome.Finished.{Finished}
 
 -- the text that these words and the bytes that were read give: the usage line where the words aren't accepted, and otherwise the answer to the bytes
 abbrev pub IsTextOf : List (List ℕ) → List ℕ → List ℕ → Type 0
-IsTextOf words bytes text = ((job_of words ≡ None) × (text ≡ usage_text)) ⊎ Asks words (λ job. (status : ℕ) × (made : Finished) × Answers job bytes status made text)
+IsTextOf words bytes text = ((job_of words ≡ None) × (text ≡ usage_text)) ⊎ Asks words (λ job. (status : ℕ) × (made : Finished) × JobAnswers job bytes status made text)
 
 -- these are the first bytes of those that the source had left, where it tells them: all, or as many as are read at most
 abbrev pub AreFirst : ℕ → Option (List ℕ) → List ℕ → Type 0

@@ -4,7 +4,7 @@ ghost use Rattle.std.specs.Prelude.{◌≡◌, true, false, ℕ, List, IfOk, IfS
 ghost use Rattle.shm_audit.specs.Faults.{image_fault_of};
 ghost use Rattle.shm_script.specs.declared.fault.{ParseStop.ParseStop as AStop, TraceFault.TraceFault as AFault};
 ghost use Rattle.shm_stream.specs.Audits.{IsJudged};
-ghost use Rattle.shm_program.specs.{Outcomes.{Answers, IsPrinted}, Refusals.fault_line};
+ghost use Rattle.shm_program.specs.{Outcomes.{JobAnswers, IsPrinted}, Refusals.fault_line};
 ghost use Rattle.shm_program.specs.Words.{AreMedics, IsCount, JobFits, may_wait};
 
 use crate::outcome::Finished;
@@ -33,7 +33,7 @@ pub struct Reply {
 pub fn answer(alloc: Global, job: Job, bytes: &[u8]) -> Result<Reply, AllocError>
     requires fits { JobFits job }
     requires returns { may_wait job ≡ false }
-    ensures { IfOk result (λ r. Answers job bytes.now r.status r.finished r.text.items) }
+    ensures { IfOk result (λ r. JobAnswers job bytes.now r.status r.finished r.text.items) }
 {
     match job {
         Job::Replay(form) => match parse(alloc, bytes) {
@@ -63,7 +63,7 @@ pub fn answer_waiting<R: Threads + Wait + Sync + RandomSource + AllocGlobal, G: 
 ) -> Result<Reply, AllocError>
     requires fits { JobFits job }
     requires waits { may_wait job ≡ true }
-    ensures { IfOk result (λ r. Answers job bytes.now r.status r.finished r.text.items) }
+    ensures { IfOk result (λ r. JobAnswers job bytes.now r.status r.finished r.text.items) }
 {
     match job {
         Job::Run(form) => answer_run(rt, alloc, form, bytes, gate),
@@ -83,7 +83,7 @@ fn answer_poll<R: Wait + RandomSource + AllocGlobal>(
 ) -> Result<Reply, AllocError>
     requires turns { IsCount turns }
     requires limit { IfSome limit IsCount }
-    ensures { IfOk result (λ r. Answers (Job.Poll turns limit) bytes.now r.status r.finished r.text.items) }
+    ensures { IfOk result (λ r. JobAnswers (Job.Poll turns limit) bytes.now r.status r.finished r.text.items) }
 {
     match parse(alloc, bytes) {
         Ok(trace) => match limit {
@@ -104,7 +104,7 @@ fn answer_rescue<R: Threads + Wait + Sync, G: Gate>(
     gate: &G,
 ) -> Result<Reply, AllocError>
     requires { AreMedics medics }
-    ensures { IfOk result (λ r. Answers (Job.Rescue form medics) bytes.now r.status r.finished r.text.items) }
+    ensures { IfOk result (λ r. JobAnswers (Job.Rescue form medics) bytes.now r.status r.finished r.text.items) }
 {
     match parse(alloc, bytes) {
         Ok(trace) => tell_rescue(rt, alloc, &trace, form, medics, gate),
@@ -120,7 +120,7 @@ fn answer_run<R: Threads + Wait + Sync, G: Gate>(
     bytes: &[u8],
     gate: &G,
 ) -> Result<Reply, AllocError>
-    ensures { IfOk result (λ r. Answers (Job.Run form) bytes.now r.status r.finished r.text.items) }
+    ensures { IfOk result (λ r. JobAnswers (Job.Run form) bytes.now r.status r.finished r.text.items) }
 {
     match parse(alloc, bytes) {
         Ok(trace) => tell_team(rt, alloc, &trace, form, gate),
@@ -130,7 +130,7 @@ fn answer_run<R: Threads + Wait + Sync, G: Gate>(
 
 /// What `tree` answers to the bytes that it read: those of a script are run.
 fn answer_tree(alloc: Global, bytes: &[u8]) -> Result<Reply, AllocError>
-    ensures { IfOk result (λ r. Answers Job.Tree bytes.now r.status r.finished r.text.items) }
+    ensures { IfOk result (λ r. JobAnswers Job.Tree bytes.now r.status r.finished r.text.items) }
 {
     match parse_tree(alloc, bytes) {
         Ok(script) => tell_tree(alloc, &script),
@@ -172,7 +172,7 @@ fn refuse(alloc: Global, stop: ParseStop) -> Result<Reply, AllocError>
 
 /// The line of the verdict on an image, or of its first fault.
 pub fn tell_audit(alloc: Global, judged: Result<Verdict, ImageFault>) -> Result<Reply, AllocError>
-    ensures { IfOk result (λ r. (image : List ℕ) → IsJudged image judged → Answers Job.Audit image r.status r.finished r.text.items) }
+    ensures { IfOk result (λ r. (image : List ℕ) → IsJudged image judged → JobAnswers Job.Audit image r.status r.finished r.text.items) }
 {
     match judged {
         Ok(verdict) => Ok(plain(0, verdict_text(alloc, &verdict)?)),
@@ -182,7 +182,7 @@ pub fn tell_audit(alloc: Global, judged: Result<Verdict, ImageFault>) -> Result<
 
 /// The verdict on an image, or its first fault.
 fn audit_of(alloc: Global, image: &[u8]) -> Result<Reply, AllocError>
-    ensures { IfOk result (λ r. Answers Job.Audit image.now r.status r.finished r.text.items) }
+    ensures { IfOk result (λ r. JobAnswers Job.Audit image.now r.status r.finished r.text.items) }
 {
     match audit(alloc, image) {
         Ok(verdict) => tell_audit(alloc, Ok(verdict)),
@@ -193,7 +193,7 @@ fn audit_of(alloc: Global, image: &[u8]) -> Result<Reply, AllocError>
 
 /// The image in format 2, or what stands against the migration.
 fn migration_of(alloc: Global, image: &[u8]) -> Result<Reply, AllocError>
-    ensures { IfOk result (λ r. Answers Job.Migrate image.now r.status r.finished r.text.items) }
+    ensures { IfOk result (λ r. JobAnswers Job.Migrate image.now r.status r.finished r.text.items) }
 {
     match migrate(alloc, image) {
         Ok(migrated) => Ok(plain(0, migrated)),

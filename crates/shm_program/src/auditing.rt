@@ -1,7 +1,7 @@
 //! The audit of an image that is read as a stream.
 
 ghost use Rattle.std.specs.Prelude.{◌≡◌, ℕ, List, IfErr, IfOk};
-ghost use Rattle.shm_program.specs.{Outcomes.Answers, declared.words.Job.TheVariants.Audit};
+ghost use Rattle.shm_program.specs.{Outcomes.JobAnswers, declared.words.Job.TheVariants.Audit};
 ghost use Rattle.shm_program.specs.Reads.{IsRead, IsUnread, limit_of};
 
 use crate::answer::{Reply, tell_audit};
@@ -14,7 +14,7 @@ pub fn audit_input<S: Source>(
     alloc: Global,
     source: &mut S,
 ) -> Result<Result<Reply, AllocError>, u8>
-    ensures read { IfOk result (λ answered. (bytes : List ℕ) × IsRead (S.left source.old) (S.faults source.old) (S.left source.new) (S.faults source.new) (limit_of Audit) bytes × IfOk answered (λ r. Answers Audit bytes r.status r.finished r.text.items)) }
+    ensures read { IfOk result (λ answered. (bytes : List ℕ) × IsRead (S.left source.old) (S.faults source.old) (S.left source.new) (S.faults source.new) (limit_of Audit) bytes × IfOk answered (λ r. JobAnswers Audit bytes r.status r.finished r.text.items)) }
     ensures unread { IfErr result (λ status. IsUnread (S.left source.old) (S.faults source.old) (S.left source.new) (S.faults source.new) (limit_of Audit) status) }
 {
     match audit_source(alloc, source) {

@@ -10,7 +10,7 @@ ghost use Rattle.shm_report.specs.Logs.{log_text};
 ghost use Rattle.shm_script.specs.Values.{Traced};
 ghost use Rattle.shm_program.specs.declared.{outcome.Finished.Finished as AFinished, words.Form.TheVariants.Report};
 ghost use Rattle.shm_program.specs.declared.words.{Form.Form as AForm, Job.Job as AJob};
-ghost use Rattle.shm_program.specs.{Outcomes.{Answers, Asks, Decided, Done, Refused}, Replays.{IsRan, IsTold}};
+ghost use Rattle.shm_program.specs.{Outcomes.{JobAnswers, Asks, Decided, Done, Refused}, Replays.{IsRan, IsTold}};
 ghost use Rattle.shm_program.specs.{Runs.{IsOneEvent, IsSoundState, IsSoundTurn}, Words.{AreDetermined, is_determined}};
 
 /// The report of a trace that was replayed begins with the text of these very logs.
@@ -39,8 +39,8 @@ pub fn replays_write_one_text()
 
 /// The status that a job answers follows from its bytes alone, and of each job but a run and `tree` so does the text.
 pub fn answers_follow_from_bytes()
-    ensures status { (job : AJob) (bytes : List ℕ) (status other : ℕ) (one two : AFinished) (text again : List ℕ) → Answers job bytes status one text → Answers job bytes other two again → status ≡ other }
-    ensures text { (job : AJob) (bytes : List ℕ) (status other : ℕ) (one two : AFinished) (text again : List ℕ) → is_determined job ≡ true → Answers job bytes status one text → Answers job bytes other two again → text ≡ again }
+    ensures status { (job : AJob) (bytes : List ℕ) (status other : ℕ) (one two : AFinished) (text again : List ℕ) → JobAnswers job bytes status one text → JobAnswers job bytes other two again → status ≡ other }
+    ensures text { (job : AJob) (bytes : List ℕ) (status other : ℕ) (one two : AFinished) (text again : List ℕ) → is_determined job ≡ true → JobAnswers job bytes status one text → JobAnswers job bytes other two again → text ≡ again }
 {}
 
 /// Where the source tells its bytes, whether what a call asks for is done or refused follows from the words of the call and from those bytes alone,

@@ -11,7 +11,7 @@ ghost use Rattle.shm_script.specs.Values.{Traced};
 ghost use Rattle.shm_versions.specs.RunTexts.{last_line};
 ghost use Rattle.shm_program.specs.declared.outcome.Finished.{Finished as AFinished};
 ghost use Rattle.shm_program.specs.declared.words.{Form.TheVariants.{Image, Report}, Job.TheVariants.Audit};
-ghost use Rattle.shm_program.specs.{Outcomes.Answers, Replays.{IsTeam, IsTeamTold, team_pool}};
+ghost use Rattle.shm_program.specs.{Outcomes.JobAnswers, Replays.{IsTeam, IsTeamTold, team_pool}};
 ghost use Rattle.shm_program.specs.Runs.{IsOneEvent, IsSoundState, IsSoundTurn};
 
 /// The state before the first turn is sound. Each turn, in the order in which the threads took them, could be taken where it was taken, and led to
@@ -32,6 +32,6 @@ pub fn team_tables_are_of_logs()
 /// word `clean` and the line `live L refs F` of that pool, with which a report of it ends.
 pub fn team_images_are_clean()
     ensures faultless { (t : Traced) (finished : AFinished) (image : List ℕ) → IsTeamTold Image t finished image → image_fault_of image ≡ None }
-    ensures audited { (t : Traced) (finished ended : AFinished) (image text : List ℕ) (status : ℕ) → (told : IsTeamTold Image t finished image) → Answers Audit image status ended text → (status ≡ 0) × (text ≡ codes "clean " ++ last_line (team_pool told.0.run told.0.turns)) }
+    ensures audited { (t : Traced) (finished ended : AFinished) (image text : List ℕ) (status : ℕ) → (told : IsTeamTold Image t finished image) → JobAnswers Audit image status ended text → (status ≡ 0) × (text ≡ codes "clean " ++ last_line (team_pool told.0.run told.0.turns)) }
     ensures report { (t : Traced) (finished : AFinished) (report : List ℕ) → (told : IsTeamTold Report t finished report) → (front : List ℕ) × (report ≡ front ++ last_line (team_pool told.0.run told.0.turns)) }
 {}

@@ -1,7 +1,7 @@
 //! The program over a source and a sink.
 
 ghost use Rattle.std.specs.{Prelude.{◌≡◌, ◌≢◌, ℕ, List, false, IfErr, IfOk, Some, map, true}, String.string_bytes};
-ghost use Rattle.shm_program.specs.Outcomes.{Answers, IsCall, IsWanting, IsWritten, sides};
+ghost use Rattle.shm_program.specs.Outcomes.{JobAnswers, IsCall, IsWanting, IsWritten, sides};
 ghost use Rattle.shm_program.specs.{Reads.{IsRead, IsUnread, limit_of}, Words.{JobFits, job_of, may_wait}};
 
 use crate::answer::{Reply, answer, answer_waiting};
@@ -102,7 +102,7 @@ fn answer_input<S: Source>(
 ) -> Result<Result<Reply, AllocError>, u8>
     requires fits { JobFits job }
     requires returns { may_wait job ≡ false }
-    ensures read { IfOk result (λ answered. (bytes : List ℕ) × IsRead (S.left source.old) (S.faults source.old) (S.left source.new) (S.faults source.new) (limit_of job) bytes × IfOk answered (λ r. Answers job bytes r.status r.finished r.text.items)) }
+    ensures read { IfOk result (λ answered. (bytes : List ℕ) × IsRead (S.left source.old) (S.faults source.old) (S.left source.new) (S.faults source.new) (limit_of job) bytes × IfOk answered (λ r. JobAnswers job bytes r.status r.finished r.text.items)) }
     ensures unread { IfErr result (λ status. IsUnread (S.left source.old) (S.faults source.old) (S.left source.new) (S.faults source.new) (limit_of job) status) }
 {
     match job {

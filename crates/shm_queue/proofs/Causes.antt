@@ -6,7 +6,7 @@ use Rattle.shm_words.specs.Layout.{address}
 use Rattle.shm_words.specs.declared.place.Place.TheVariants as place
 use Rattle.shm_graph.specs.{declared.ask.{Ask.{Ask, TheVariants.Load}, Me.Me}, Asks.{Trail, pair}}
 use Rattle.shm_graph.specs.Trails.{Answers, Asked}
-use Rattle.shm_calls.specs.{declared.or.Or.TheVariants.{First, Second}, Plans.plan_trail}
+use Rattle.plans.specs.{declared.or.Or.TheVariants.{First, Second}, Plans.plan_trail}
 use Rattle.shm_count.specs.{declared.answer.{UpFault.TheVariants.{CountFull, EraSpent}, Made.Made}, Refusing.ReadsCount}
 use Rattle.shm_count.specs.{Proved.Step.Refusing.step_reads, UpRoot.Control.rooting}
 use Rattle.shm_count.specs.declared.answer.ShareFault.TheVariants as share

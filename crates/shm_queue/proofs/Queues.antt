@@ -4,7 +4,7 @@ use Rattle.std.proofs.lemmas.Bool.{and_right, ne_eqb}
 use Rattle.std.specs.Prelude.{Ok, Err, slice_index}
 use Rattle.shm_graph.specs.{declared.{ask.Me.Me, memo.Memo.Memo, spot.Spot.TheVariants.Root}, Asks.Trail, Events.Event}
 use Rattle.shm_graph.specs.{Held.is_loose, Spots.same_spot, MemoAfterStore.lane_with}
-use Rattle.shm_steps.specs.Reparting.{sight}
+use Rattle.kind_parts.specs.Reparting.{sight}
 use Rattle.shm_count.specs.{declared.answer.{EraSpent.EraSpent as ASpent, Made.Made}, Roots.rest, Slots.Untouched}
 use Rattle.shm_count.specs.Waiting.{LeavesQueues}
 use Rattle.shm_count.proofs.Waiting.{own_queues, queues_then, root_part, same_queues}

@@ -56,10 +56,8 @@ module _ (me : Me) (s : ℕ) (r0 r : Memo) (tr : Trail) (es : List Event) where
       never (x ∷ xs) ys e f = cc
 
   pub refused_peek : (f : PeekFault) → ReceiveLeaves (receiving me s) r0 r tr es (Err f) → es ≡ [] → PeekLeaves (peeking me s) r0 r tr es (Err f)
-  refused_peek (Empty n) g none = g
   refused_peek (EraSpent e) g none = elim g [ inl p ↦ p | inr d ↦ absurd (rooted_event e d none) ]
-  refused_peek RootsFull g none = g
-  refused_peek (CountFull b n) g none = g
+  refused_peek _ g none = g
 
   pub refused_only : (f : PeekFault) → ReceiveLeaves (receiving me s) r0 r tr es (Err f) → es ≢ [] → (e : ℕ) × (f ≡ EraSpent e) × (2 ^ 47 - 3 < e) × (e ≤ own_word r.own (Era w w))
   refused_only (Empty n) g some = absurd (some g.none)

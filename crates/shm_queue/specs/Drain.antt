@@ -7,10 +7,9 @@ use Rattle.shm_graph.specs.declared.{ask.Me.Me, spot.Spot.{Spot, TheVariants.{Er
 use Rattle.shm_graph.specs.declared.memo.{Fact.TheVariants.Counter, Memo.Memo, Op.TheVariants.Nothing}
 use Rattle.shm_graph.specs.{Asks.{Trail, IsWithin}, Bounds.{drain_steps, tear_steps, redo_steps}, Events.Event}
 use Rattle.shm_graph.specs.{Spots.same_spot, Views.own_word}
-use Rattle.shm_steps.specs.{Conditions.IsHere, WordParts.StatusLoaded}
-use Rattle.shm_calls.specs.{CallsPart.calls_part, Either.or_part, Grown.grown, Parts.Part, Plans.Planned}
-use Rattle.shm_calls.specs.Words.{word_part}
-use Rattle.shm_count.specs.{declared.answer.EraSpent.EraSpent, Roots.rest, Tear.{Events.frees, Memos.is_lasting}}
+use Rattle.kind_parts.specs.{Conditions.IsHere, WordParts.StatusLoaded}
+use Rattle.plans.specs.{CallsPart.calls_part, Either.or_part, Grown.grown, Parts.Part, Plans.Planned, Words.word_part}
+use Rattle.shm_count.specs.{declared.answer.EraSpent.EraSpent, Roots.rest, Tear.Events.frees, Lasting.is_lasting}
 use Rattle.shm_queue.specs.declared.drain.{DrainPoint.{DrainPoint, TheVariants.{Status, Item}}, DrainState.DrainState}
 use Rattle.shm_queue.specs.Drain.Control.{DrainCall, DrainAnswer, drain_ask, is_status, drain_steered}
 use Rattle.shm_queue.specs.Take.{Control.take_parts, NotTaken, TakeEvents, TakeStopped, take_plan}

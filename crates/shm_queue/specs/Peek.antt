@@ -8,8 +8,8 @@ use Rattle.shm_graph.specs.Views.{own_word}
 use Rattle.shm_graph.specs.declared.ask.Ask.TheVariants as ask
 use Rattle.shm_graph.specs.declared.spot.Spot.TheVariants as spot
 use Rattle.shm_graph.specs.Events as event
-use Rattle.shm_steps.specs.WordParts.{CountLoaded, HeadSlotLoaded, IsHeadSlot}
-use Rattle.shm_calls.specs.{Either.or_part, Grown.grown, Parts.Part, Plans.Planned, Words.word_part}
+use Rattle.kind_parts.specs.WordParts.{CountLoaded, HeadSlotLoaded, IsHeadSlot}
+use Rattle.plans.specs.{Either.or_part, Grown.grown, Parts.Part, Plans.Planned, Words.word_part}
 use Rattle.shm_count.specs.{declared.answer.Made.Made, Roots.root_word, Slots.{Filled, Untouched}, UpRoot.MayUpRoot}
 use Rattle.shm_count.specs.UpRoot.AsPart.{up_root_part}
 use Rattle.shm_queue.specs.declared.answer.PeekFault.{PeekFault, TheVariants.{Empty, EraSpent, RootsFull, CountFull}}

@@ -5,7 +5,7 @@ use Rattle.shm_words.specs.Layout.{GeometryFits}
 use Rattle.shm_graph.specs.declared.{ask.Me.Me, spot.Spot.TheVariants.{Era, QueueHead, Slot, Tail}}
 use Rattle.shm_graph.specs.declared.memo.{Fact.TheVariants.Counter, Memo.Memo, Op.TheVariants.Nothing}
 use Rattle.shm_graph.specs.{Agents.recovers, Held.is_loose, Reach.is_reached, Views.own_word}
-use Rattle.shm_steps.specs.Conditions.{IsHere}
+use Rattle.kind_parts.specs.Conditions.{IsHere}
 use Rattle.shm_count.specs.Step.Control.{IsInside}
 
 -- ---- a step up at the next slot of a queue to another

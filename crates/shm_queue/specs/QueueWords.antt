@@ -7,9 +7,9 @@ use Rattle.shm_words.specs.declared.place.Place.TheVariants as place
 use Rattle.shm_graph.specs.declared.{ask.{Ask.TheVariants.Load, Me.Me}, spot.Spot.TheVariants.{QueueHead, Tail}}
 use Rattle.shm_graph.specs.{declared.memo.{Fact.TheVariants.Counter, Memo.Memo}, Laws.framed, Views.{own_word, view}}
 use Rattle.shm_graph.proofs.{Memos.Calls.FactHolds, Spots.SpotPlaces.spot-place}
-use Rattle.shm_calls.specs.{Words.IsWord, Proved.WordSteps.load_at}
-use Rattle.shm_steps.specs.WordParts.{Leaves, same_memo}
-use Rattle.shm_steps.proofs.Words.Own.{at_step, word_for}
+use Rattle.plans.specs.{Words.IsWord, Proved.WordSteps.load_at}
+use Rattle.kind_parts.specs.WordParts.{Leaves, same_memo}
+use Rattle.kind_parts.proofs.Words.Own.{at_step, word_for}
 
 -- ---- loads of heads and tails
 

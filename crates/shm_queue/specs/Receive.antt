@@ -3,7 +3,7 @@ pub mod Control
 use Rattle.std.specs.Prelude.{◌≡◌, ℕ, ◌+◌, ◌-◌, ◌^◌, ◌<◌, ◌⊎◌, Result, Ok, Err, List, [], ◌++◌, length, ◌*◌}
 use Rattle.shm_graph.specs.{declared.{ask.Me.Me, memo.Memo.Memo}, Asks.{Trail, IsWithin}}
 use Rattle.shm_graph.specs.{Bounds.{tear_steps, redo_steps}, Events.Event}
-use Rattle.shm_calls.specs.{CallsPart.calls_part, Either.or_part, Grown.grown, Parts.Part, Plans.Planned}
+use Rattle.plans.specs.{CallsPart.calls_part, Either.or_part, Grown.grown, Parts.Part, Plans.Planned}
 use Rattle.shm_count.specs.{declared.answer.Made.Made, Tear.Events.frees}
 use Rattle.shm_queue.specs.declared.answer.PeekFault.{PeekFault, TheVariants.EraSpent}
 use Rattle.shm_queue.specs.declared.receive.ReceivePoint.{ReceivePoint, TheVariants.{Look, Item}}

@@ -2,7 +2,7 @@
 use Rattle.std.proofs.Common.{Bool, true}
 use Rattle.std.specs.Prelude.{Result}
 use Rattle.shm_graph.specs.declared.spot.Spot.{Spot}
-use Rattle.shm_calls.specs.Parts.{Part}
+use Rattle.plans.specs.Parts.{Part}
 use Rattle.shm_count.specs.declared.{answer.EraSpent.EraSpent as ASpent, point.StepState.StepState}
 use Rattle.shm_count.specs.{Slots.Parts.down_slot_part, Step.{Machines.down_told, Asks.step_trail}}
 

@@ -10,9 +10,9 @@ use Rattle.shm_graph.specs.declared.ask.Ask.TheVariants as ask
 use Rattle.shm_graph.specs.declared.spot.Spot.TheVariants as spot
 use Rattle.shm_graph.specs.Events as event
 use Rattle.shm_words.specs.Layout.{GeometryFits}
-use Rattle.shm_steps.specs.{Conditions.IsHere, WordParts.{CountLoaded, TailStored}}
-use Rattle.shm_calls.specs.{Either.or_part, Parts.Part, Plans.Planned, Words.word_part}
-use Rattle.shm_count.specs.{Slots.{Filled, Untouched, Parts.up_slot_part}, Tear.Memos.is_lasting}
+use Rattle.kind_parts.specs.{Conditions.IsHere, WordParts.{CountLoaded, TailStored}}
+use Rattle.plans.specs.{Either.or_part, Parts.Part, Plans.Planned, Words.word_part}
+use Rattle.shm_count.specs.{Slots.{Filled, Untouched, Parts.up_slot_part}, Lasting.is_lasting}
 use Rattle.shm_queue.specs.declared.answer.SendFault.{SendFault, TheVariants.{QueueFull, EraSpent, CountFull}}
 use Rattle.shm_queue.specs.declared.send.SendPoint.{SendPoint, TheVariants.{Tail, Head, Up, Store}}
 use Rattle.shm_queue.specs.{declared.send.SendState.SendState, QueueSteps.MayPutAt, QueueWords.HeadSeen}

@@ -11,12 +11,12 @@ use Rattle.shm_graph.specs.Views.{own_word}
 use Rattle.shm_graph.specs.declared.ask.Ask.TheVariants as ask
 use Rattle.shm_graph.specs.declared.spot.Spot.TheVariants as spot
 use Rattle.shm_graph.specs.Events as event
-use Rattle.shm_steps.specs.Conditions.{IsHere}
-use Rattle.shm_steps.specs.WordParts.{CountLoaded, HeadSlotLoaded, HeadStored, IsHeadSlot, as_known}
-use Rattle.shm_calls.specs.{Either.or_part, Grown.{Grows, grown}, Parts.{IsHeld, Part}, Plans.Planned, Words.word_part}
+use Rattle.kind_parts.specs.Conditions.{IsHere}
+use Rattle.kind_parts.specs.WordParts.{CountLoaded, HeadSlotLoaded, HeadStored, IsHeadSlot, as_known}
+use Rattle.plans.specs.{Either.or_part, Grown.{Grows, grown}, Parts.{IsHeld, Part}, Plans.Planned, Words.word_part}
 use Rattle.shm_count.specs.{CountParts.tear_part, Lowering.StoppedAt, Roots.rest}
 use Rattle.shm_count.specs.{Slots.{Lost, Sifts, Untouched, emptied}, Step.Control.IsInside}
-use Rattle.shm_count.specs.Tear.{Events.{Visit, Walks, frees}, CanTear, Memos.is_lasting}
+use Rattle.shm_count.specs.{Tear.{Events.{Visit, Walks, frees}, CanTear}, Lasting.is_lasting}
 use Rattle.shm_queue.specs.declared.answer.TakeFault.{TakeFault, TheVariants.{Empty, EraSpent}}
 use Rattle.shm_queue.specs.declared.take.TakePoint.{TakePoint, TheVariants.{Head, Tail, Slot, Lower, Store, Tear}}
 use Rattle.shm_queue.specs.{declared.take.TakeState.TakeState, QueueSteps.MayTakeAt, QueueWords.TailSeen}

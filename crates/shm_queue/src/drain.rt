@@ -7,7 +7,7 @@ ghost use Rattle.shm_queue.specs.Proved.{Drain.Laws.drain_laws, Take.Laws.take_l
 
 use crate::answer::TakeFault;
 use crate::take::Take;
-use shm_calls::{Calls, Or, Plan, Task, Word};
+use plans::{Calls, Or, Plan, Task, Word};
 use shm_count::EraSpent;
 use shm_graph::{Machine, Me};
 use std::marker::Model;

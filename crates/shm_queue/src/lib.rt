@@ -1,6 +1,6 @@
 //! Queues between identities: a block is sent to another identity, taken out of a queue, and all queues to an identity are drained.
 //!
-//! Each machine is a plan of calls (`shm_calls`), which says which call comes next. The type with the operation's name is the plan: a pool
+//! Each machine is a plan of calls (`plans`), which says which call comes next. The type with the operation's name is the plan: a pool
 //! runs it as it is, and machines above call `Calls` of it.
 #![tactic(auto)]
 

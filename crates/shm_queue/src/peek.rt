@@ -6,7 +6,7 @@ ghost use Rattle.shm_queue.specs.Peek.{Control.{peeking, after_word, turns_word}
 ghost use Rattle.shm_queue.specs.Proved.{Peek.Laws.peek_laws, QueueTasks.{PeekMay, peek_task}};
 
 use crate::answer::PeekFault;
-use shm_calls::{Calls, Or, Plan, Task, Word};
+use plans::{Calls, Or, Plan, Task, Word};
 use shm_count::Made;
 use shm_count::parts::{ShareFault, UpRoot};
 use shm_graph::{Machine, Me};

@@ -9,7 +9,7 @@ ghost use Rattle.shm_queue.specs.Proved.QueueTasks.{ReceiveMay, receive_task};
 use crate::answer::{PeekFault, TakeFault};
 use crate::peek::Peek;
 use crate::take::Take;
-use shm_calls::{Calls, Or, Plan, Task};
+use plans::{Calls, Or, Plan, Task};
 use shm_count::Made;
 use shm_graph::{Machine, Me};
 use std::marker::Model;

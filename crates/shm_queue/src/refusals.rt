@@ -9,8 +9,8 @@ ghost use Rattle.shm_graph.specs.{Asks.{Trail, pair}, Core.core, Events.Event as
 ghost use Rattle.shm_graph.specs.declared.ask.Ask.TheVariants as ask;
 ghost use Rattle.shm_graph.specs.declared.spot.Spot.TheVariants as spots;
 ghost use Rattle.shm_graph.specs.Events as event;
-ghost use Rattle.shm_steps.specs.WordParts.{as_known};
-ghost use Rattle.shm_calls.specs.Plans.{plan_trail};
+ghost use Rattle.kind_parts.specs.WordParts.{as_known};
+ghost use Rattle.plans.specs.Plans.{plan_trail};
 ghost use Rattle.shm_count.specs.{declared.answer.EraSpent.EraSpent as ASpent, Lowering.StoppedAt, Refusing.ReadsCount};
 ghost use Rattle.shm_count.specs.{Roots.root_word, Slots.Untouched, Tear.Events.{Visit as AVisit, Walks}};
 ghost use Rattle.shm_queue.specs.{declared.answer.PeekFault.PeekFault as APeekFault, Drain.Control.draining};

@@ -6,7 +6,7 @@ ghost use Rattle.shm_queue.specs.{Send.{Control.sending, send_plan}, Proved.Send
 ghost use Rattle.shm_queue.specs.Proved.QueueTasks.{SendMay, send_task};
 
 use crate::answer::SendFault;
-use shm_calls::{Or, Plan, Task, Word};
+use plans::{Or, Plan, Task, Word};
 use shm_count::{StepUp, UpFault};
 use shm_graph::{Machine, Me};
 use std::marker::Model;

@@ -6,7 +6,7 @@ ghost use Rattle.shm_queue.specs.Take.{Control.{taking, after_word, turns_word},
 ghost use Rattle.shm_queue.specs.Proved.{Take.Laws.take_laws, QueueTasks.{TakeMay, take_task}};
 
 use crate::answer::TakeFault;
-use shm_calls::{Or, Plan, Task, Word};
+use plans::{Or, Plan, Task, Word};
 use shm_count::{EraSpent, StepDown, TearDown};
 use shm_graph::{Machine, Me};
 use shm_words::ADDRESS_LIMIT;

@@ -4,7 +4,7 @@ use Rattle.shm_words.specs.Layout.{address}
 use Rattle.shm_words.specs.declared.place.Place.TheVariants as place
 use Rattle.shm_graph.specs.{declared.{ask.Ask.TheVariants.Store, spot.Spot.Spot}, Asks.Trail, Blocks.classes}
 use Rattle.shm_graph.specs.{Events.Nothing, Laws.{framed, event_on}, Tells.{Tells, happens_along}}
-use Rattle.shm_calls.specs.{Parts.PartLaws, Proved.Placed.placed}
+use Rattle.plans.specs.{Parts.PartLaws, Proved.Placed.placed}
 use Rattle.shm_recover.specs.{declared.join.JoinState.JoinState, Join.Asks.join_trail}
 use Rattle.shm_recover.specs.Join.{JoinFits, JoinGives, join_control, AsPart.{join_does, join_part}}
 use Rattle.shm_recover.specs.Proved.Join.Keeps.{join_begins, join_laws, status_spot}

@@ -9,7 +9,7 @@ use Rattle.shm_graph.specs.{Asks.{IsWithin, Trail}, Blocks.{IsLive, headers}, Bo
 use Rattle.shm_graph.specs.{Events.{Event, Free}, Held.{HeldAt, IsDying, OwnSound, is_root, room_of}, Reach.shown}
 use Rattle.shm_graph.specs.Views.{own_word, view}
 use Rattle.shm_count.specs.{declared.answer.EraSpent.EraSpent, Roots.root_word, Tear.Events.{Visit, events_of, frees}}
-use Rattle.shm_count.specs.Tear.Memos.{is_lasting}
+use Rattle.shm_count.specs.Lasting.{is_lasting}
 use Rattle.shm_count.proofs.TearWalks.{walk_frees}
 use Rattle.shm_ref.specs.Lefts.{is_root_of}
 use Rattle.shm_recover.specs.{Departures.WasSpent, Leave.{Control.leaving, LeaveLeaves}, Recover.Control.recovering}

@@ -4,10 +4,10 @@ pub mod Queues
 use Rattle.std.proofs.Common.{◌≡◌, ℕ, Bool, refl, ap, List}
 use Rattle.std.specs.Prelude.{Result}
 use Rattle.shm_graph.specs.{declared.{memo.Memo.Memo, ask.Me.Me}, Asks.Trail, Events.Event, Held.is_loose}
-use Rattle.shm_steps.specs.Reparting.{map_in}
-use Rattle.shm_calls.specs.{CallsControl.calls_control, CallsPart.calls_part, Either.{or_control, or_part}}
-use Rattle.shm_calls.specs.Words.{word_control, word_part}
-use Rattle.shm_count.specs.Steady.{IsSteady, SameTable}
+use Rattle.kind_parts.specs.Reparting.{map_in}
+use Rattle.plans.specs.{CallsControl.calls_control, CallsPart.calls_part, Either.{or_control, or_part}}
+use Rattle.plans.specs.Words.{word_control, word_part}
+use Rattle.shm_count.specs.Steady.{IsSteady, SameMap}
 use Rattle.shm_count.proofs.Steady.{calls_steady, or_steady, table_of, table_then, word_steady}
 use Rattle.shm_ref.specs.DropRoots.{Control.drop_root, roots_plan}
 use Rattle.shm_ref.proofs.Steady.{roots_steady}
@@ -27,18 +27,14 @@ use Rattle.shm_recover.proofs.Steady.Queues.{back_steady, finish_steady, give_st
 -- ---- a recovery
 
 -- once it is mended
-recovering_table : (me : Me) (k : ℕ) (r0 r : Memo) (tr : Trail) (es : List Event) → IsRecovering me k r0 r tr es → SameTable r0 r
+recovering_table : (me : Me) (k : ℕ) (r0 r : Memo) (tr : Trail) (es : List Event) → IsRecovering me k r0 r tr es → SameMap r0 r
 recovering_table me k r0 r tr es h =
     let q : Memo = h.q in
     table_then r0 q r (h.mended.mended.map, h.mended.mended.loose) (ap (λ (x : Memo). map_in x.part) h.mended.same, ap (λ (x : Memo). is_loose x.part) h.mended.same)
 
-recover_known : (m : RecoverState) (y : RecoverPoint) (r0 r : Memo) (tr : Trail) (es : List Event) → RecoverKnows m y r0 r tr es → SameTable r0 r
+recover_known : (m : RecoverState) (y : RecoverPoint) (r0 r : Memo) (tr : Trail) (es : List Event) → RecoverKnows m y r0 r tr es → SameMap r0 r
 recover_known m recover.Mend r0 r tr es (may, same, none, quiet) = table_of r0 r (ap (λ (x : Memo). x.part) same)
-recover_known m recover.Roots r0 r tr es h = recovering_table m.me _ r0 r tr es h.0
-recover_known m recover.Back r0 r tr es h = recovering_table m.me _ r0 r tr es h.0
-recover_known m recover.Takes r0 r tr es h = recovering_table m.me _ r0 r tr es h.0
-recover_known m recover.Scan r0 r tr es h = recovering_table m.me _ r0 r tr es h.0
-recover_known m recover.Give r0 r tr es h = recovering_table m.me _ r0 r tr es h.0
+recover_known m _ r0 r tr es h = recovering_table m.me _ r0 r tr es h.0
 
 -- each of its calls
 recover_calls : IsSteady recover_parts recover_part
@@ -60,10 +56,10 @@ recover_steady = calls_steady recover_parts recover_plan (λ m. recover_known m 
 
 -- ---- a leaving
 
-left_table : (me : Me) (n : ℕ) (r0 r : Memo) (tr : Trail) (es : List Event) → HasLeft me n r0 r tr es → SameTable r0 r
+left_table : (me : Me) (n : ℕ) (r0 r : Memo) (tr : Trail) (es : List Event) → HasLeft me n r0 r tr es → SameMap r0 r
 left_table me n r0 r tr es h = table_of r0 r h.part
 
-leave_known : (m : LeaveState) (y : LeavePoint) (r0 r : Memo) (tr : Trail) (es : List Event) → LeaveKnows m y r0 r tr es → SameTable r0 r
+leave_known : (m : LeaveState) (y : LeavePoint) (r0 r : Memo) (tr : Trail) (es : List Event) → LeaveKnows m y r0 r tr es → SameMap r0 r
 leave_known m leave.Roots r0 r tr es (may, same, none, quiet, at) = table_of r0 r (ap (λ (x : Memo). x.part) same)
 leave_known m leave.Look r0 r tr es h = left_table m.me _ r0 r tr es h.2
 leave_known m leave.Give r0 r tr es h = left_table m.me _ r0 r tr es h.3

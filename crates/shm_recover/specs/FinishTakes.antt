@@ -4,8 +4,8 @@ pub mod Words
 use Rattle.std.specs.Prelude.{◌≡◌, ◌≢◌, ℕ, ◌+◌, ◌*◌, ◌-◌, ◌^◌, ◌<◌, ◌≤◌, ◌==◌, if◌then◌else◌, ◌⊎◌, false, List, [], ◌∷◌, ◌++◌, length, slice_index, slice_index_or}
 use Rattle.shm_graph.specs.declared.{ask.Me.Me, spot.Spot.{Spot, TheVariants.QueueHead}, memo.Memo.Memo}
 use Rattle.shm_graph.specs.{Asks.{Trail, IsWithin}, Core.core, Events.Event, Spots.same_spot, Views.own_word}
-use Rattle.shm_steps.specs.WordParts.{CountLoaded, HeadStored}
-use Rattle.shm_calls.specs.{declared.word.Word.Word, Parts.Part, Plans.Planned, Words.word_part}
+use Rattle.kind_parts.specs.WordParts.{CountLoaded, HeadStored}
+use Rattle.plans.specs.{declared.word.Word.Word, Parts.Part, Plans.Planned, Words.word_part}
 use Rattle.shm_recover.specs.declared.finish_takes.FinishPoint.{FinishPoint, TheVariants.{Head, Tail, Slot, Store}}
 use Rattle.shm_recover.specs.declared.finish_takes.FinishState.{FinishState}
 use Rattle.shm_recover.specs.FinishTakes.Control.{finish_ask, from_of, is_first, finish_steered}

@@ -12,10 +12,10 @@ use Rattle.shm_graph.specs.{Bounds.redo_steps, Core.core, Events.{ChangeDown, Ev
 use Rattle.shm_graph.specs.{Ops.{IsUncommitted, held_over_of, slot_of}, Reach.{learnt, shown}, Spots.spot_address}
 use Rattle.shm_graph.specs.{MemoAfterStore.{op_closed, op_written, with_own, written}, Views.{own_word, owner_is}}
 use Rattle.shm_graph.specs.declared.memo.Status.TheVariants as status
-use Rattle.shm_laws.specs.{OwnWords.Closes, Slotting.Writes}
-use Rattle.shm_steps.specs.{Reparting.map_in, WordParts.{CountLoaded, DeadStored, EraStored, Makes, OwnLoaded}}
-use Rattle.shm_calls.specs.{CallsPart.calls_part, Either.or_part, Parts.{IsHeld, Part}, Plans.Planned}
-use Rattle.shm_calls.specs.Words.{word_control, word_part}
+use Rattle.kind_laws.specs.{OwnWords.Closes, Slotting.Writes}
+use Rattle.kind_parts.specs.{Reparting.map_in, WordParts.{CountLoaded, DeadStored, EraStored, Makes, OwnLoaded}}
+use Rattle.plans.specs.{CallsPart.calls_part, Either.or_part, Parts.{IsHeld, Part}, Plans.Planned}
+use Rattle.plans.specs.Words.{word_control, word_part}
 use Rattle.shm_count.specs.CommitTest.{record_in, testing_plan}
 use Rattle.shm_recover.specs.declared.mend.MendPoint.{MendPoint}
 use Rattle.shm_recover.specs.declared.mend.MendPoint.TheVariants.{Dead, Era, Redo, More, Test, Slot, Close, Lower, Unlatch}

@@ -9,10 +9,10 @@ use Rattle.shm_graph.specs.declared.memo.Op.TheVariants.{Change, Nothing}
 use Rattle.shm_graph.specs.declared.memo.ChangeStage.TheVariants.{Lowering as LoweringStage}
 use Rattle.shm_graph.specs.{declared.memo.Second.TheVariants.{Closed, Open}, Agents.recovers, Asks.{Trail, IsWithin}}
 use Rattle.shm_graph.specs.{Core.core, Events.{ChangeDown, Event}, Views.own_word}
-use Rattle.shm_steps.specs.{Conditions.IsHere, Raising.OwnRowShows}
-use Rattle.shm_steps.specs.WordParts.{CountLoaded, EraClosedLowering, FormerLowered, HeaderSeen, RowStored, former_event}
-use Rattle.shm_calls.specs.{declared.word.Word.Word, EventWords.event_part, Grown.grown, Parts.Part, Plans.Planned}
-use Rattle.shm_calls.specs.Words.{word_part}
+use Rattle.kind_parts.specs.{Conditions.IsHere, Raising.OwnRowShows}
+use Rattle.kind_parts.specs.WordParts.{CountLoaded, EraClosedLowering, FormerLowered, HeaderSeen, RowStored, former_event}
+use Rattle.plans.specs.{declared.word.Word.Word, EventWords.event_part, Grown.grown, Parts.Part, Plans.Planned}
+use Rattle.plans.specs.Words.{word_part}
 use Rattle.shm_count.specs.CommitTest.StepTrail.{read_part}
 use Rattle.shm_recover.specs.declared.mend_lower.MendLowerPoint.{MendLowerPoint}
 use Rattle.shm_recover.specs.declared.mend_lower.MendLowerPoint.TheVariants.{Header, Row, Show, Exchange, Close}

@@ -5,8 +5,8 @@ use Rattle.shm_words.specs.Layout.{GeometryFits}
 use Rattle.shm_graph.specs.declared.{ask.Me.Me, spot.Spot.{Spot, TheVariants.Hold}, memo.Memo.Memo}
 use Rattle.shm_graph.specs.{declared.memo.Op.TheVariants.Nothing, Agents.recovers, Asks.{Trail, IsWithin}, Core.core}
 use Rattle.shm_graph.specs.{Events.Event, Ops.IsUncommitted, Views.own_word}
-use Rattle.shm_steps.specs.{Conditions.IsHere, WordParts.{HoldLoaded, HoldStored, LatchGiven, LatchLoaded}}
-use Rattle.shm_calls.specs.{declared.word.Word.Word, Parts.Part, Plans.Planned, Words.word_part}
+use Rattle.kind_parts.specs.{Conditions.IsHere, WordParts.{HoldLoaded, HoldStored, LatchGiven, LatchLoaded}}
+use Rattle.plans.specs.{declared.word.Word.Word, Parts.Part, Plans.Planned, Words.word_part}
 use Rattle.shm_recover.specs.declared.mend_unlatch.MendUnlatchPoint.{MendUnlatchPoint}
 use Rattle.shm_recover.specs.declared.mend_unlatch.MendUnlatchPoint.TheVariants.{Whose, Look, Give, Back}
 use Rattle.shm_recover.specs.{declared.mend_unlatch.MendUnlatchState.MendUnlatchState, MendRest.{bare, is_hold}}

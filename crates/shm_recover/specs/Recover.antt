@@ -9,10 +9,10 @@ use Rattle.shm_graph.specs.{declared.memo.Op.TheVariants.Nothing, Asks.{Trail, I
 use Rattle.shm_graph.specs.{Laws.GoneNow, Reach.shown, Views.own_word}
 use Rattle.shm_graph.specs.declared.memo.Status.TheVariants as status
 use Rattle.shm_graph.specs.Events as event
-use Rattle.shm_steps.specs.Reparting.{map_in}
-use Rattle.shm_calls.specs.{CallsPart.calls_part, Either.or_part, Parts.Part, Plans.Planned, Words.word_control}
+use Rattle.kind_parts.specs.Reparting.{map_in}
+use Rattle.plans.specs.{CallsPart.calls_part, Either.or_part, Parts.Part, Plans.Planned, Words.word_control}
 use Rattle.shm_count.specs.{declared.answer.EraSpent.EraSpent, Roots.{rest, root_word}, Tear.Events.{Visit, frees}}
-use Rattle.shm_count.specs.Tear.Memos.{is_lasting}
+use Rattle.shm_count.specs.Lasting.{is_lasting}
 use Rattle.shm_ref.specs.DropRoots.{Control.drop_root, roots_plan}
 use Rattle.shm_recover.specs.declared.recover.RecoverPoint.{RecoverPoint}
 use Rattle.shm_recover.specs.declared.recover.RecoverPoint.TheVariants.{Mend, Roots, Back, Takes, Scan, Give}

@@ -7,9 +7,9 @@ use Rattle.shm_words.specs.{Classes.IsClass, Layout.bodies}
 use Rattle.shm_graph.specs.{Bounds.tear_steps, declared.{ask.Me.Me, spot.Spot.{Spot, TheVariants.Era}}}
 use Rattle.shm_graph.specs.declared.memo.{Fact.TheVariants.Class, Memo.Memo, Op.TheVariants.Nothing}
 use Rattle.shm_graph.specs.{Asks.{Trail, IsWithin}, Events.Event, Views.own_word}
-use Rattle.shm_calls.specs.{Either.or_part, Grown.grown, Parts.Part, Plans.Planned, Words.word_part}
+use Rattle.plans.specs.{Either.or_part, Grown.grown, Parts.Part, Plans.Planned, Words.word_part}
 use Rattle.shm_count.specs.{declared.answer.EraSpent.EraSpent, CountParts.tear_part, Roots.rest}
-use Rattle.shm_count.specs.Tear.{Events.{Visit, Walks, frees}, CanTear, Memos.is_lasting}
+use Rattle.shm_count.specs.{Tear.{Events.{Visit, Walks, frees}, CanTear}, Lasting.is_lasting}
 use Rattle.shm_ref.specs.Lefts.{MayDrop}
 use Rattle.shm_recover.specs.declared.scan.ScanPoint.{ScanPoint, TheVariants.{Page, Header, Tear}}
 use Rattle.shm_recover.specs.declared.scan.ScanState.{ScanState}
@@ -38,7 +38,7 @@ ScanEvents c [] es = es ≡ []
 ScanEvents c (b ∷ bs) es = (before after : List Event) × (es ≡ before ++ after) × ScanEvents c bs before × Walks c b after []
 
 -- These blocks were zero-count blocks, each of which was found once; of the others that were so before all are still, and there are no new ones
-pub record Lost (bs : List ℕ) (m r : Memo) : Type 0 where
+pub record LostByScan (bs : List ℕ) (m r : Memo) : Type 0 where
   pub found : (b : ℕ) → Contains bs b → Contains m.dying b
   pub apart : IsApart bs
   pub left : (b : ℕ) → Contains r.dying b → Contains m.dying b
@@ -55,7 +55,7 @@ pub record IsScanning (me : Me) (s q i n k : ℕ) (r0 r : Memo) (tr : Trail) (es
   pub blocks : List ℕ
   pub count : n ≡ length blocks
   pub few : 4 * length blocks ≤ words_before s q i
-  pub lost : Lost blocks r0 r
+  pub lost : LostByScan blocks r0 r
   pub behind : (b : ℕ) → Contains blocks b → b < place_in me s q i
   pub ahead : (b : ℕ) → Contains r.dying b → words_before s q i ≤ b - bodies me.geometry
   pub events : ScanEvents me.who blocks es

@@ -7,11 +7,11 @@ use Rattle.shm_graph.specs.{Bounds.{redo_steps, tear_steps}, declared.{ask.Me.Me
 use Rattle.shm_graph.specs.{declared.memo.Op.TheVariants.Nothing, Asks.{Trail, IsWithin}, Events.Event, Views.own_word}
 use Rattle.shm_graph.specs.declared.spot.Spot.TheVariants as spot
 use Rattle.shm_graph.specs.Events as event
-use Rattle.shm_steps.specs.WordParts.{CountLoaded, IsTailSlot, TailSlotLoaded}
-use Rattle.shm_calls.specs.{Either.or_part, Parts.{IsHeld, Part}, Plans.Planned, Words.word_part}
+use Rattle.kind_parts.specs.WordParts.{CountLoaded, IsTailSlot, TailSlotLoaded}
+use Rattle.plans.specs.{Either.or_part, Parts.{IsHeld, Part}, Plans.Planned, Words.word_part}
 use Rattle.shm_count.specs.{declared.answer.EraSpent.EraSpent, CountParts.tear_part, Lowering.StoppedAt, Roots.rest}
 use Rattle.shm_count.specs.{Slots.{Lost, Parts.down_slot_part}, Tear.{Events.{Visit, Walks, frees}, CanTear}}
-use Rattle.shm_count.specs.Tear.Memos.{is_lasting}
+use Rattle.shm_count.specs.Lasting.{is_lasting}
 use Rattle.shm_recover.specs.declared.take_back.BackPoint.{BackPoint, TheVariants.{Tail, Head, Slot, Lower, Tear}}
 use Rattle.shm_recover.specs.{declared.take_back.BackState.BackState, Others.{MayServe, other_at}}
 use Rattle.shm_recover.specs.TakeBack.Control.{BackAnswer, BackCall, back_ask, is_first, to_of, back_steered}

@@ -11,7 +11,7 @@ ghost use Rattle.shm_graph.specs.Sound.{IsGone};
 ghost use Rattle.shm_graph.specs.declared.memo.Status.TheVariants as status;
 ghost use Rattle.shm_graph.specs.declared.spot.Spot.TheVariants as spot;
 ghost use Rattle.shm_count.specs.{declared.answer.EraSpent.EraSpent as ASpent, Roots.root_word};
-ghost use Rattle.shm_count.specs.Tear.{Events.{Visit, frees}, Memos.is_lasting};
+ghost use Rattle.shm_count.specs.{Tear.Events.{Visit, frees}, Lasting.is_lasting};
 ghost use Rattle.shm_ref.specs.DropRoots.{Control.dropping_roots, RootsLeaves};
 ghost use Rattle.shm_recover.specs.{Departures.{LeftOrRecovered, WasSpent}, Leave.{Control.leaving, LeaveLeaves}};
 ghost use Rattle.shm_recover.specs.{Recover.{Control.recovering, Losses.IsLoss, RecoverLeaves}, Scan.Control.scanning};

@@ -6,7 +6,7 @@ ghost use Rattle.shm_recover.specs.FinishTakes.Control.{finishing, after_word, t
 ghost use Rattle.shm_recover.specs.{FinishTakes.finish_plan, Proved.FinishTakes.Laws.finish_laws};
 
 use crate::others::other;
-use shm_calls::{Plan, Word};
+use plans::{Plan, Word};
 use shm_graph::{Machine, Me};
 use std::marker::Model;
 

@@ -5,7 +5,7 @@ ghost use Rattle.shm_words.specs.Layout.{GeometryFits};
 ghost use Rattle.shm_recover.specs.{Leave.{Control.{leaving, leave_next}, leave_plan}, Proved.Leave.Laws.leave_laws};
 ghost use Rattle.shm_recover.specs.Proved.LeaveTask.{LeaveMay, LeaveRests, leave_task};
 
-use shm_calls::{Calls, Or, Plan, Task, Word};
+use plans::{Calls, Or, Plan, Task, Word};
 use shm_count::EraSpent;
 use shm_graph::{Machine, Me};
 use shm_ref::parts::DropRoots;

@@ -8,15 +8,15 @@ ghost use Rattle.shm_words.specs.Layout.{GeometryFits};
 ghost use Rattle.shm_graph.specs.declared.{ask.Me.Me as AMe, memo.{Kind.TheVariants.Recoverer, Memo.Memo as AMemo}};
 ghost use Rattle.shm_graph.specs.{declared.spot.Spot.Spot as ASpot, Agents.entered, Asks.{Trail, IsWithin}};
 ghost use Rattle.shm_graph.specs.{Bounds.redo_steps, Events.ChangeDown, Held.is_loose, Ops.held_over_of, Tells.Tells};
-ghost use Rattle.shm_steps.specs.Reparting.{map_in};
-ghost use Rattle.shm_calls.specs.{CallsControl.calls_does, CallsFit.CallsFits, Plans.plan_trail};
+ghost use Rattle.kind_parts.specs.Reparting.{map_in};
+ghost use Rattle.plans.specs.{CallsControl.calls_does, CallsFit.CallsFits, Plans.plan_trail};
 ghost use Rattle.shm_recover.specs.Mend.{Control.{mend_parts, mending}, IsMended, MayMend, mend_plan};
 ghost use Rattle.shm_recover.specs.{Mend.Machines.{mend, MendFits, MendGives, mend_told}, Proved.Mend.Laws.mend_laws};
 ghost use Rattle.shm_recover.specs.Mend.Control as control;
 
 use crate::mend_lower::MendLower;
 use crate::mend_unlatch::MendUnlatch;
-use shm_calls::{Calls, Or, Plan, Word};
+use plans::{Calls, Or, Plan, Word};
 use shm_count::{Commit, CommitTest};
 use shm_graph::{Machine, Me};
 use shm_words::Redo;

@@ -6,7 +6,7 @@ ghost use Rattle.shm_count.specs.Step.Control as step;
 ghost use Rattle.shm_recover.specs.{MendLower.{Control.lowering, lowering_plan}, Proved.MendLower.Laws.lowering_laws};
 ghost use Rattle.shm_recover.specs.MendLower.Control as control;
 
-use shm_calls::{Plan, Word};
+use plans::{Plan, Word};
 use shm_graph::{Machine, Me};
 use shm_words::Header;
 use std::marker::Model;

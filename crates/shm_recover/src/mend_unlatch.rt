@@ -5,7 +5,7 @@ ghost use Rattle.shm_words.specs.Layout.{GeometryFits};
 ghost use Rattle.shm_recover.specs.MendUnlatch.{Control.unlatching, unlatching_plan};
 ghost use Rattle.shm_recover.specs.Proved.MendUnlatch.Laws.{unlatching_laws};
 
-use shm_calls::{Plan, Word};
+use plans::{Plan, Word};
 use shm_graph::{Machine, Me};
 use std::marker::Model;
 

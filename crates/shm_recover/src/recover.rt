@@ -13,7 +13,7 @@ use crate::give_up::GiveUp;
 use crate::mend::Mend;
 use crate::scan::Scan;
 use crate::take_back::TakeBack;
-use shm_calls::{Calls, Or, Plan};
+use plans::{Calls, Or, Plan};
 use shm_count::EraSpent;
 use shm_graph::{Machine, Me};
 use shm_ref::parts::DropRoots;

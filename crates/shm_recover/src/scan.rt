@@ -5,7 +5,7 @@ ghost use Rattle.shm_words.specs.Layout.{GeometryFits};
 ghost use Rattle.shm_recover.specs.Scan.Control.{scanning, block_at, is_lost, page_passed, page_answer, block_passed, block_answer};
 ghost use Rattle.shm_recover.specs.{Scan.scan_plan, Proved.Scan.Laws.scan_laws};
 
-use shm_calls::{Or, Plan, Word};
+use plans::{Or, Plan, Word};
 use shm_count::{EraSpent, TearDown};
 use shm_graph::{Machine, Me};
 use shm_words::Header;

@@ -6,7 +6,7 @@ ghost use Rattle.shm_recover.specs.TakeBack.Control.{taking_back, after_word, tu
 ghost use Rattle.shm_recover.specs.{TakeBack.back_plan, Proved.TakeBack.Laws.back_laws};
 
 use crate::others::other;
-use shm_calls::{Or, Plan, Word};
+use plans::{Or, Plan, Word};
 use shm_count::{EraSpent, StepDown, TearDown};
 use shm_graph::{Machine, Me};
 use shm_words::ADDRESS_LIMIT;

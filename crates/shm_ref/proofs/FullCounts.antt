@@ -3,7 +3,7 @@ use Rattle.std.proofs.Common.{◌≡◌, ℕ, ◌+◌, Bool, true, false}
 use Rattle.std.specs.Prelude.{◌==◌, ◌%◌, nat_le, if◌then◌else◌, Option, Some, None, Result, Ok, Err}
 use Rattle.shm_words.specs.{Layout.address_limit, Tags.{tag_author, tag_refs}}
 use Rattle.shm_graph.specs.Asks.{Trail}
-use Rattle.shm_calls.specs.{declared.or.Or.TheVariants.{First, Second}, Plans.plan_trail}
+use Rattle.plans.specs.{declared.or.Or.TheVariants.{First, Second}, Plans.plan_trail}
 use Rattle.shm_count.specs.{declared.answer.UpFault.TheVariants.{CountFull, EraSpent}, Refusing.ReadsCount}
 use Rattle.shm_count.specs.Proved.Step.Refusing.{step_reads}
 use Rattle.shm_count.specs.declared.point.Aim.TheVariants as aims

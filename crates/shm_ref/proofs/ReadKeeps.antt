@@ -8,25 +8,25 @@ use Rattle.shm_graph.proofs.StepKinds.Loads.{choice}
 use Rattle.shm_ref.specs.declared.answer.LookFault.{LookFault, TheVariants.{NoSuchRef, NotHeld}}
 use Rattle.shm_ref.specs.declared.answer.{NoSuchWord.NoSuchWord, NotHeld.NotHeld as Unheld}
 use Rattle.shm_ref.specs.declared.{home_of.HomeOfState.HomeOfState, look.LookState.LookState, read.ReadState.ReadState}
-use Rattle.shm_ref.specs.{HomeOf.HomeLeaves, Look.LookLeaves}
+use Rattle.shm_ref.specs.{HomeOf.HomeOfLeaves, Look.LookLeaves}
 use Rattle.shm_ref.specs.{Proved.OnlyRead.{home_reads, look_reads, read_reads, still_reached}, Read.ReadLeaves}
 use Rattle.shm_ref.specs.ReadParts.{tagged}
 
 -- ---- a home
 
 module _ (m : HomeOfState) (r0 r : Memo) (tr : Trail) (es : List Event) where
-  pub home_of_reached : (a : Result ℕ Unheld) → HomeLeaves m r0 r tr es a → IfOk a (λ b. b ≢ 0 → is_reached m.me.who r b ≡ true)
+  pub home_of_reached : (a : Result ℕ Unheld) → HomeOfLeaves m r0 r tr es a → IfOk a (λ b. b ≢ 0 → is_reached m.me.who r b ≡ true)
   home_of_reached (Ok b) h = h.reach
   home_of_reached (Err e) h = tt
 
-  pub home_of_other : (a : Result ℕ Unheld) → HomeLeaves m r0 r tr es a → IsIdle m.me.who r0 → IfErr a (λ e. r0.latch ≢ Some m.author)
+  pub home_of_other : (a : Result ℕ Unheld) → HomeOfLeaves m r0 r tr es a → IsIdle m.me.who r0 → IfErr a (λ e. r0.latch ≢ Some m.author)
   home_of_other (Ok b) h idle = tt
   home_of_other (Err e) h idle = λ same. h.other (idle.hold ∙ ap hold_word same)
 
-  pub home_of_stays : (a : Result ℕ Unheld) → HomeLeaves m r0 r tr es a → (b : ℕ) → is_reached m.me.who r0 b ≡ true → is_reached m.me.who r b ≡ true
+  pub home_of_stays : (a : Result ℕ Unheld) → HomeOfLeaves m r0 r tr es a → (b : ℕ) → is_reached m.me.who r0 b ≡ true → is_reached m.me.who r b ≡ true
   home_of_stays a h b reach = still_reached m.me.who b r0 r (home_reads m r0 r tr es a h) reach
 
-  pub home_of_loose : (a : Result ℕ Unheld) → HomeLeaves m r0 r tr es a → is_loose r.part ≡ is_loose r0.part
+  pub home_of_loose : (a : Result ℕ Unheld) → HomeOfLeaves m r0 r tr es a → is_loose r.part ≡ is_loose r0.part
   home_of_loose (Ok b) h =
       ap (λ (x : Memo). is_loose x.part) h.memo
       ∙ choice (λ (x : Memo). is_loose x.part ≡ is_loose r0.part) (b == 0) r0 (record r0 { looks = r0.looks ++ record { block = b; from = Home m.author } ∷ [] }) (λ e. refl) (λ e. refl)

@@ -5,7 +5,7 @@ use Rattle.std.specs.Prelude.{◌==◌, ◌⊎◌, nat_lt}
 use Rattle.shm_graph.specs.declared.{ask.Me.Me, memo.Memo.Memo, spot.Spot.TheVariants.{Era, Root}}
 use Rattle.shm_graph.specs.{Asks.{IsWithin, Trail}, Bounds.{redo_steps, tear_steps}, Events.Event, Views.own_word}
 use Rattle.shm_graph.specs.Events as event
-use Rattle.shm_calls.specs.Proved.CallTells.{within_more}
+use Rattle.plans.specs.Proved.CallTells.{within_more}
 use Rattle.shm_count.specs.{Roots.root_word, Slots.Untouched, Tear.Events.{Visit, Walks, frees}}
 use Rattle.shm_ref.specs.Proved.{Costs.{drops_more, tear_sum}, Leaving.{frees-append, left_empty, left_root, root_took}}
 use Rattle.shm_ref.specs.{DropRoot.{DropSpent, DropSpent.{AtStep, AtTear}}, DropRoots.RefusedAt}

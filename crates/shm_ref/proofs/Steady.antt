@@ -4,10 +4,10 @@ use Rattle.shm_words.specs.Layout.{address}
 use Rattle.shm_words.specs.declared.place.Place.TheVariants as place
 use Rattle.shm_graph.specs.declared.{ask.Ask.TheVariants.Load as LoadWord, spot.Spot.TheVariants.Root, memo.Memo.Memo}
 use Rattle.shm_graph.specs.{Asks.Trail, Events.Event}
-use Rattle.shm_steps.specs.WordParts.{OwnLoaded}
-use Rattle.shm_calls.specs.{CallsControl.calls_control, CallsPart.calls_part, Either.{or_control, or_part}}
-use Rattle.shm_calls.specs.Words.{word_control}
-use Rattle.shm_count.specs.{CountParts.tear_part, Slots.Parts.down_slot_part, Steady.{IsSteady, SameTable}}
+use Rattle.kind_parts.specs.WordParts.{OwnLoaded}
+use Rattle.plans.specs.{CallsControl.calls_control, CallsPart.calls_part, Either.{or_control, or_part}}
+use Rattle.plans.specs.Words.{word_control}
+use Rattle.shm_count.specs.{CountParts.tear_part, Slots.Parts.down_slot_part, Steady.{IsSteady, SameMap}}
 use Rattle.shm_count.specs.{Step.Machines.down_control, Tear.Control.tear_control}
 use Rattle.shm_count.proofs.Steady.{calls_steady, or_steady, table_of, word_steady, Steps.{down_steady, lost_part}}
 use Rattle.shm_count.proofs.Steady.Tears.{tear_steady}
@@ -17,7 +17,7 @@ use Rattle.shm_ref.specs.{DropRoot.{DropKnows, drop_plan}, DropRoots.{Control.{d
 use Rattle.shm_ref.specs.RootParts.{load_part}
 
 -- a drop of a root, before each call
-drop_known : (m : DropState) (y : DropPoint) (r0 r : Memo) (tr : Trail) (es : List Event) → DropKnows m y r0 r tr es → SameTable r0 r
+drop_known : (m : DropState) (y : DropPoint) (r0 r : Memo) (tr : Trail) (es : List Event) → DropKnows m y r0 r tr es → SameMap r0 r
 drop_known m Load r0 r tr es (may, low, same, none, quiet) = table_of r0 r (ap (λ (x : Memo). x.part) same)
 drop_known m Lower r0 r tr es h = table_of r0 r (ap (λ (x : Memo). x.part) h.same)
 drop_known m Tear r0 r tr es h = table_of r0 r (lost_part m.me.who (Root m.me.who m.root) false m.block 0 true r0 r tt h.lost)

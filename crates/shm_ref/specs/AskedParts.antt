@@ -1,6 +1,6 @@
 -- a part that leaves what it asked, besides what it leaves
 use Rattle.std.proofs.Common.{[]}
-use Rattle.shm_calls.specs.Parts.{Part}
+use Rattle.plans.specs.Parts.{Part}
 
 -- its trail is one of its trails
 abbrev pub asked_part : {S A : Type 0} → Part S A → Part S A

@@ -6,7 +6,7 @@ use Rattle.shm_graph.specs.{Bounds.{redo_steps, tear_steps}, declared.spot.Spot.
 use Rattle.shm_graph.specs.{declared.memo.Memo.Memo, Asks.{Trail, IsWithin}, Events.Event, Views.own_word, Core.core}
 use Rattle.shm_graph.specs.Events as event
 use Rattle.shm_words.specs.Layout.{total_of}
-use Rattle.shm_calls.specs.{Either.or_part, Parts.IsHeld, Plans.Planned}
+use Rattle.plans.specs.{Either.or_part, Parts.IsHeld, Plans.Planned}
 use Rattle.shm_count.specs.{declared.answer.EraSpent.EraSpent, CountParts.tear_part, Roots.root_word}
 use Rattle.shm_count.specs.{Slots.{Lost, Took, Untouched, Parts.down_slot_part}, Step.Control.IsInside}
 use Rattle.shm_count.specs.Tear.{Events.{Visit, Walks, frees}, CanTear, Memos.Remains}

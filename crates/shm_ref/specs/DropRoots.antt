@@ -3,7 +3,7 @@ pub mod Control
 use Rattle.std.specs.Prelude.{◌≡◌, ℕ, ◌+◌, ◌*◌, ◌<◌, ◌≤◌, nat_lt, Bool, Result, Ok, Err, List, ◌++◌, length}
 use Rattle.shm_graph.specs.{Bounds.{redo_steps, tear_steps}, declared.{ask.Me.Me, memo.Memo.Memo}}
 use Rattle.shm_graph.specs.{declared.spot.Spot.TheVariants.Era, Asks.{Trail, IsWithin}, Events.Event, Views.own_word}
-use Rattle.shm_calls.specs.{CallsPart.calls_part, Plans.Planned}
+use Rattle.plans.specs.{CallsPart.calls_part, Plans.Planned}
 use Rattle.shm_count.specs.{declared.answer.EraSpent.EraSpent, Roots.root_word, Tear.Events.{Visit, frees}}
 use Rattle.shm_ref.specs.{declared.drop_roots.RootsState.RootsState, DropRoot.Control.{drop_parts, dropping}}
 use Rattle.shm_ref.specs.{DropRoot.{DropStopped, drop_plan}, Lefts.{Left, MayDrop, RootsEvents, Stopped}}

@@ -4,8 +4,8 @@ use Rattle.std.specs.Prelude.{◌≡◌, ℕ, ◌+◌, ◌<◌, ◌≤◌, ◌==
 use Rattle.shm_words.specs.Layout.{GeometryFits}
 use Rattle.shm_graph.specs.declared.{ask.Me.Me, spot.Spot.TheVariants.Hold, memo.{Memo.Memo, Op.TheVariants.Nothing}}
 use Rattle.shm_graph.specs.{Asks.{Trail, pair}, Events.Event, MemoAfterStore.with_own, Core.core}
-use Rattle.shm_steps.specs.Conditions.{IsHere}
-use Rattle.shm_calls.specs.{declared.word.Word.Word, Parts.Part, Plans.Planned, Words.word_part}
+use Rattle.kind_parts.specs.Conditions.{IsHere}
+use Rattle.plans.specs.{declared.word.Word.Word, Parts.Part, Plans.Planned, Words.word_part}
 use Rattle.shm_ref.specs.declared.hold.{HoldPoint.{HoldPoint, TheVariants.{Want, Take, Back}}, HoldState.HoldState}
 use Rattle.shm_ref.specs.{declared.answer.Busy.Busy, AskedParts.asked_part}
 use Rattle.shm_ref.specs.Hold.Control.{hold_ask, is_want, taken_trail, busy_trail, hold_steered}

@@ -5,8 +5,8 @@ use Rattle.shm_words.specs.declared.place.Place.TheVariants as place
 use Rattle.shm_graph.specs.declared.{ask.{Ask.{Ask, TheVariants.Load}, Me.Me}, spot.Spot.TheVariants.{Hold, Home}}
 use Rattle.shm_graph.specs.{declared.memo.Memo.Memo, Asks.{Trail, pair}, Core.core, Events.Event, Reach.is_reached}
 use Rattle.shm_graph.specs.Views.{own_word}
-use Rattle.shm_steps.specs.WordParts.{HomeLooked, OwnLoaded}
-use Rattle.shm_calls.specs.{declared.word.Word.Word, Parts.Part, Plans.Planned, Words.word_part, Steering.Steered}
+use Rattle.kind_parts.specs.WordParts.{HomeLooked, OwnLoaded}
+use Rattle.plans.specs.{declared.word.Word.Word, Parts.Part, Plans.Planned, Words.word_part, Steering.Steered}
 use Rattle.shm_ref.specs.declared.{answer.NotHeld.NotHeld, home_of.HomeOfPoint.{HomeOfPoint, TheVariants.{Whose, Find}}}
 use Rattle.shm_ref.specs.{declared.home_of.HomeOfState.HomeOfState, AskedParts.asked_part, ReadParts.MayAsk}
 
@@ -80,9 +80,9 @@ pub record IsNotHeld (me : Me) (a : ℕ) (r0 r : Memo) (tr : Trail) (es : List E
   pub none : es ≡ []
   pub trail : tr ≡ hold_trail me a (own_word r0.own (Hold me.who))
 
-abbrev pub HomeLeaves : HomeOfState → Memo → Memo → Trail → List Event → Result ℕ NotHeld → Type 0
-HomeLeaves m r0 r tr es (Ok b) = Found m.me m.author r0 r tr es b
-HomeLeaves m r0 r tr es (Err e) = IsNotHeld m.me m.author r0 r tr es
+abbrev pub HomeOfLeaves : HomeOfState → Memo → Memo → Trail → List Event → Result ℕ NotHeld → Type 0
+HomeOfLeaves m r0 r tr es (Ok b) = Found m.me m.author r0 r tr es b
+HomeOfLeaves m r0 r tr es (Err e) = IsNotHeld m.me m.author r0 r tr es
 
 -- what holds after each word step, by the memo before, the word found and the memo
 abbrev pub HomeOfFound : HomeOfState → HomeOfPoint → Memo → ℕ → Memo → Type 0
@@ -111,5 +111,5 @@ home_of_plan =
       steered = home_of_steered;
       part = λ m. home_of_part m m.point;
       knows = λ m. HomeKnows m m.point;
-      leaves = HomeLeaves;
+      leaves = HomeOfLeaves;
     }

@@ -4,8 +4,8 @@ use Rattle.shm_words.specs.Layout.{address}
 use Rattle.shm_words.specs.declared.place.Place.TheVariants as place
 use Rattle.shm_graph.specs.declared.{ask.{Ask.TheVariants.Load, Me.Me}, memo.Memo.Memo, spot.Spot.TheVariants.Home}
 use Rattle.shm_graph.specs.MemoAfterRead.{home_read}
-use Rattle.shm_calls.specs.{declared.word.Word.Word, Parts.Part, Words.word_part}
-use Rattle.shm_steps.specs.WordParts.{Leaves, nothing_read, own_at}
+use Rattle.plans.specs.{declared.word.Word.Word, Parts.Part, Words.word_part}
+use Rattle.kind_parts.specs.WordParts.{Leaves, nothing_read, own_at}
 
 -- the address of the own home
 abbrev pub home_address : Me → ℕ

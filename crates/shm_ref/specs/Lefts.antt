@@ -4,8 +4,8 @@ use Rattle.shm_words.specs.Layout.{GeometryFits}
 use Rattle.shm_graph.specs.declared.{ask.Me.Me, spot.Spot.{Spot, TheVariants.{Era, Root}}, memo.Memo.Memo}
 use Rattle.shm_graph.specs.{declared.memo.Op.TheVariants.Nothing, Events.Event, Views.own_word}
 use Rattle.shm_graph.specs.Events as event
-use Rattle.shm_steps.specs.Conditions.{IsHere}
-use Rattle.shm_count.specs.{Lowering.StoppedAt, Roots.{rest, root_word}, Tear.{Events.{Visit, Walks}, Memos.is_lasting}}
+use Rattle.kind_parts.specs.Conditions.{IsHere}
+use Rattle.shm_count.specs.{Lowering.StoppedAt, Roots.{rest, root_word}, Tear.Events.{Visit, Walks}, Lasting.is_lasting}
 
 -- a root of c among those that may come to be empty
 abbrev pub is_root_of : ℕ → (ℕ → Bool) → Spot → Bool

@@ -5,8 +5,8 @@ use Rattle.shm_words.specs.declared.place.Place.TheVariants as place
 use Rattle.shm_graph.specs.declared.{ask.{Ask.{Ask, TheVariants.Load}, Me.Me}, spot.Spot.TheVariants.{Body, Hold, Tag}}
 use Rattle.shm_graph.specs.{declared.memo.Memo.Memo, Asks.{Trail, pair}, Core.core, Events.Event, Reach.is_reached}
 use Rattle.shm_graph.specs.{MemoAfterRead.reference_read, Views.own_word}
-use Rattle.shm_steps.specs.WordParts.{OwnLoaded, ReferenceLoaded, WordLoaded, as_known}
-use Rattle.shm_calls.specs.{declared.word.Word.Word, Parts.Part, Plans.Planned, Words.word_part, Steering.Steered}
+use Rattle.kind_parts.specs.WordParts.{OwnLoaded, ReferenceLoaded, WordLoaded, as_known}
+use Rattle.plans.specs.{declared.word.Word.Word, Parts.Part, Plans.Planned, Words.word_part, Steering.Steered}
 use Rattle.shm_count.specs.Tear.Control.{tag_read}
 use Rattle.shm_ref.specs.declared.answer.LookFault.{LookFault, TheVariants.{NoSuchRef, NotHeld}}
 use Rattle.shm_ref.specs.declared.look.LookPoint.{LookPoint, TheVariants.{Shape, Whose, Reference}}

@@ -3,8 +3,8 @@ use Rattle.std.specs.Prelude.{◌≡◌, ℕ, ◌+◌, ◌<◌, ◌≤◌, nat_l
 use Rattle.shm_words.specs.{Layout.{GeometryFits, address_limit}, Tags.{tag_plain, tag_refs}}
 use Rattle.shm_graph.specs.declared.{ask.{Ask.{Ask, TheVariants.Load}, Me.Me}, spot.Spot.TheVariants.{Body, Tag}}
 use Rattle.shm_graph.specs.{declared.memo.Memo.Memo, Asks.{Trail, pair}, Core.core, Events.Event, Reach.learnt}
-use Rattle.shm_steps.specs.WordParts.{WordLoaded, as_known}
-use Rattle.shm_calls.specs.{declared.word.Word.Word, Parts.Part, Plans.Planned, Words.word_part, Steering.Steered}
+use Rattle.kind_parts.specs.WordParts.{WordLoaded, as_known}
+use Rattle.plans.specs.{declared.word.Word.Word, Parts.Part, Plans.Planned, Words.word_part, Steering.Steered}
 use Rattle.shm_count.specs.Tear.Control.{tag_read}
 use Rattle.shm_ref.specs.declared.{answer.NoSuchWord.NoSuchWord, read.ReadPoint.{ReadPoint, TheVariants.{Shape, Plain}}}
 use Rattle.shm_ref.specs.{declared.read.ReadState.ReadState, AskedParts.asked_part, ReadParts.{IsTag, MayRead, tagged}}

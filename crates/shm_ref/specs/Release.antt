@@ -5,8 +5,8 @@ use Rattle.shm_words.specs.declared.place.Place.TheVariants as place
 use Rattle.shm_graph.specs.declared.{ask.{Ask.Ask, Me.Me}, memo.{Memo.Memo, Op.TheVariants.Nothing}}
 use Rattle.shm_graph.specs.{Asks.{Trail, pair}, Events.Event, Reach.unlatched, Core.core}
 use Rattle.shm_graph.specs.declared.ask.Ask.TheVariants as ask
-use Rattle.shm_steps.specs.Conditions.{IsHere}
-use Rattle.shm_calls.specs.{declared.word.Word.Word, Parts.Part, Plans.Planned, Words.word_part, Steering.Steered}
+use Rattle.kind_parts.specs.Conditions.{IsHere}
+use Rattle.plans.specs.{declared.word.Word.Word, Parts.Part, Plans.Planned, Words.word_part, Steering.Steered}
 use Rattle.shm_ref.specs.declared.release.ReleasePoint.{ReleasePoint, TheVariants.{Whose, Give, Back}}
 use Rattle.shm_ref.specs.{declared.release.ReleaseState.ReleaseState, AskedParts.asked_part, Hold.wants}
 

@@ -4,7 +4,7 @@ use Rattle.shm_words.specs.Layout.{GeometryFits, address, address_limit}
 use Rattle.shm_words.specs.declared.place.Place.TheVariants as place
 use Rattle.shm_graph.specs.{declared.{ask.{Ask.{Ask, TheVariants.Load}, Me.Me}, memo.Memo.Memo}, Asks.{Trail, pair}}
 use Rattle.shm_graph.specs.{Events.Event, Core.core}
-use Rattle.shm_calls.specs.{declared.word.Word.Word, Plans.Planned, Steering.Steered}
+use Rattle.plans.specs.{declared.word.Word.Word, Plans.Planned, Steering.Steered}
 use Rattle.shm_count.specs.Roots.{root_word}
 use Rattle.shm_ref.specs.{declared.root_of.NamingState.NamingState, AskedParts.asked_part, Lefts.MayDrop}
 use Rattle.shm_ref.specs.RootParts.{load_part}

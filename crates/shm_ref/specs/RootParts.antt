@@ -4,8 +4,8 @@ use Rattle.shm_words.specs.Layout.{address}
 use Rattle.shm_words.specs.declared.place.Place.TheVariants as place
 use Rattle.shm_graph.specs.declared.{ask.Me.Me, spot.Spot.TheVariants.Root}
 use Rattle.shm_graph.specs.declared.ask.Ask.TheVariants as ask
-use Rattle.shm_calls.specs.{declared.word.Word.Word, Parts.Part, Words.word_part}
-use Rattle.shm_steps.specs.WordParts.{OwnLoaded}
+use Rattle.plans.specs.{declared.word.Word.Word, Parts.Part, Words.word_part}
+use Rattle.kind_parts.specs.WordParts.{OwnLoaded}
 
 -- ---- the load
 

@@ -4,7 +4,7 @@ use Rattle.shm_words.specs.Layout.{GeometryFits, address, address_limit}
 use Rattle.shm_words.specs.declared.place.Place.TheVariants as place
 use Rattle.shm_graph.specs.{declared.{ask.Me.Me, memo.Memo.Memo, spot.Spot.TheVariants.Root}, Agents.recovers}
 use Rattle.shm_graph.specs.{Asks.Trail, Events.Event, Reach.is_reached}
-use Rattle.shm_calls.specs.{Parts.Part, Plans.Planned, Steering.Steered}
+use Rattle.plans.specs.{Parts.Part, Plans.Planned, Steering.Steered}
 use Rattle.shm_count.specs.declared.{answer.{EraSpent.EraSpent, UpFault.UpFault}, point.Aim.Aim}
 use Rattle.shm_count.specs.declared.point.{Aim.TheVariants.{Up, Down, Change}, StepPoint.TheVariants.Era}
 use Rattle.shm_count.specs.{declared.point.StepState.StepState, Roots.root_word}

@@ -7,9 +7,9 @@ use Rattle.shm_graph.specs.{Bounds.up_steps, Core.core, Events.Event, Laws.Contr
 use Rattle.shm_graph.specs.{MemoAfterRead.home_read, Views.own_word}
 use Rattle.shm_graph.specs.declared.ask.Ask.TheVariants as ask
 use Rattle.shm_graph.specs.Events as event
-use Rattle.shm_calls.specs.declared.{or.Or.{Or, TheVariants.{First, Second}}, word.Word.Word}
-use Rattle.shm_calls.specs.{Either.{or_control, or_part}, Plans.Planned, Words.word_control, Steering.Steered}
-use Rattle.shm_steps.specs.Conditions.{IsHere}
+use Rattle.plans.specs.declared.{or.Or.{Or, TheVariants.{First, Second}}, word.Word.Word}
+use Rattle.plans.specs.{Either.{or_control, or_part}, Plans.Planned, Words.word_control, Steering.Steered}
+use Rattle.kind_parts.specs.Conditions.{IsHere}
 use Rattle.shm_count.specs.declared.answer.UpFault.{UpFault, TheVariants.{EraSpent, CountFull}}
 use Rattle.shm_count.specs.declared.point.{Aim.TheVariants.Up, StepState.StepState}
 use Rattle.shm_count.specs.{Slots.{Filled, StepCause, Untouched, Parts.up_slot_part}, Step.Control.IsInside}

@@ -10,9 +10,8 @@ use Rattle.shm_graph.specs.{Agents.recovers, Asks.{Trail, IsWithin}, Bounds.{cha
 use Rattle.shm_graph.specs.{Events.Event, Held.is_loose, Reach.is_reached, Views.own_word}
 use Rattle.shm_graph.specs.declared.spot.Spot.TheVariants as spot
 use Rattle.shm_graph.specs.Events as event
-use Rattle.shm_calls.specs.{declared.word.Word.Word, Either.or_part, Parts.{IsHeld, Part}, Plans.Planned}
-use Rattle.shm_calls.specs.Words.{word_part}
-use Rattle.shm_steps.specs.{Conditions.IsHere, WordParts.{OwnLoaded, ReferenceLoaded, WordLoaded, as_known}}
+use Rattle.plans.specs.{declared.word.Word.Word, Either.or_part, Parts.{IsHeld, Part}, Plans.Planned, Words.word_part}
+use Rattle.kind_parts.specs.{Conditions.IsHere, WordParts.{OwnLoaded, ReferenceLoaded, WordLoaded, as_known}}
 use Rattle.shm_count.specs.{declared.{answer.UpFault.TheVariants.EraSpent, point.Aim.Aim}, CountParts.tear_part}
 use Rattle.shm_count.specs.{Lowering.StoppedAt, Slots.{Filled, Lost, StepCause, Took, Untouched}}
 use Rattle.shm_count.specs.{Slots.Parts.{change_slot_part, down_slot_part, up_slot_part}, Step.Control.IsInside}

@@ -3,7 +3,7 @@ use Rattle.std.proofs.Common.{◌≡◌, true, false, List, [], ◌++◌, refl, 
 use Rattle.std.specs.Prelude.{Some}
 use Rattle.shm_graph.specs.{declared.{ask.Me.Me, memo.Memo.Memo}, Asks.Trail, Events.Event, Idle.IsIdle, Laws.Control}
 use Rattle.shm_graph.specs.Operations.{IsReady}
-use Rattle.shm_calls.specs.{Parts.{Part, PartLaws}, Plans.{PlanLaws, Planned}, Tasks.TaskLaws, Steering.Steered}
+use Rattle.plans.specs.{Parts.{Part, PartLaws}, Plans.{PlanLaws, Planned}, Tasks.TaskLaws, Steering.Steered}
 
 module _ {P C A : Type 0} (me : P → Me) (call : P → C) where
   -- what it does

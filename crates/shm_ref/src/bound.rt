@@ -12,7 +12,7 @@ ghost use Rattle.shm_ref.specs.declared.answer.{HomeFault.HomeFault as AHomeFaul
 ghost use Rattle.shm_ref.specs.{Lefts.Stopped, SetHome.{HomeLeaves, homing}, SetRef.Control.setting};
 ghost use Rattle.shm_ref.specs.{SetRef.{SetLeaves, SetStays}, DropRoot.{DropLeaves, Control.dropping}};
 ghost use Rattle.shm_ref.specs.{DropRoots.{RootsLeaves, Control.dropping_roots}, Hold.{HoldLeaves, Control.holding}};
-ghost use Rattle.shm_ref.specs.{Release.Released, RootOf.Named, HomeOf.{HomeLeaves as HomeOfLeaves, finding}};
+ghost use Rattle.shm_ref.specs.{Release.Released, RootOf.Named, HomeOf.{HomeOfLeaves, finding}};
 ghost use Rattle.shm_ref.specs.{Look.{LookLeaves, looking}, Read.{ReadLeaves, reading}};
 
 /// A drop of a root took at most 9 word steps and 164 for each block that it freed or left on the way, in format 2 10 and 180, and three

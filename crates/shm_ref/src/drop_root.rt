@@ -5,7 +5,7 @@ ghost use Rattle.shm_words.specs.Layout.{GeometryFits};
 ghost use Rattle.shm_ref.specs.{DropRoot.{Control.dropping, drop_plan}, Proved.DropRoot.Laws.drop_laws};
 ghost use Rattle.shm_ref.specs.Proved.RootTasks.{DropMay, drop_task};
 
-use shm_calls::{Or, Plan, Task, Word};
+use plans::{Or, Plan, Task, Word};
 use shm_count::{EraSpent, StepDown, TearDown};
 use shm_graph::{Machine, Me};
 use shm_words::ADDRESS_LIMIT;

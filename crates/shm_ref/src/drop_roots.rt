@@ -6,7 +6,7 @@ ghost use Rattle.shm_ref.specs.{DropRoots.{Control.dropping_roots, roots_plan}, 
 ghost use Rattle.shm_ref.specs.Proved.RootTasks.{RootsMay, roots_task};
 
 use crate::drop_root::DropRoot;
-use shm_calls::{Calls, Plan, Task};
+use plans::{Calls, Plan, Task};
 use shm_count::EraSpent;
 use shm_graph::{Machine, Me};
 use std::marker::Model;

@@ -6,7 +6,7 @@ ghost use Rattle.shm_ref.specs.{Hold.{Control.holding, hold_plan}, Proved.Hold.L
 ghost use Rattle.shm_ref.specs.Proved.LatchTasks.{HoldMay, hold_task};
 
 use crate::answer::Busy;
-use shm_calls::{Plan, Task, Word};
+use plans::{Plan, Task, Word};
 use shm_graph::{Machine, Me};
 use std::marker::Model;
 

@@ -6,7 +6,7 @@ ghost use Rattle.shm_ref.specs.{HomeOf.{finding, home_of_plan}, Proved.HomeOf.La
 ghost use Rattle.shm_ref.specs.Proved.LatchTasks.{HomeOfMay, home_of_task};
 
 use crate::answer::NotHeld;
-use shm_calls::{Plan, Task, Word};
+use plans::{Plan, Task, Word};
 use shm_graph::{Machine, Me};
 use shm_words::ADDRESS_LIMIT;
 use std::marker::Model;

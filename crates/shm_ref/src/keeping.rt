@@ -14,8 +14,8 @@ ghost use Rattle.shm_ref.specs.declared.answer.LookFault.{LookFault as ALookFaul
 ghost use Rattle.shm_ref.specs.declared.answer.{NoSuchWord.NoSuchWord as ANoSuchWord, NotHeld.NotHeld as ANotHeld};
 ghost use Rattle.shm_ref.specs.{declared.answer.SetFault.SetFault as ASetFault, DropRoot.Control.dropping};
 ghost use Rattle.shm_ref.specs.{DropRoot.DropLeaves, Hold.{Control.holding, HoldLeaves}};
-ghost use Rattle.shm_ref.specs.{HomeOf.{HomeLeaves as HomeOfLeaves, finding}, Look.{LookLeaves, looking}};
-ghost use Rattle.shm_ref.specs.{OnlyRead.OnlyRead, Read.{ReadLeaves, reading}, Release.Released, RootOf.Named};
+ghost use Rattle.shm_ref.specs.{HomeOf.{HomeOfLeaves, finding}, Look.{LookLeaves, looking}, OnlyRead.OnlyRead};
+ghost use Rattle.shm_ref.specs.{Read.{ReadLeaves, reading}, Release.Released, RootOf.Named};
 ghost use Rattle.shm_ref.specs.RootSteps.{ChangeLeaves, LowerLeaves, RaiseLeaves, changing, lowering, raising};
 ghost use Rattle.shm_ref.specs.{SetHome.{HomeLeaves, homing}, SetRef.{Control.setting, Told.SetTold, SetLeaves}};
 

@@ -2,7 +2,7 @@
 //! or a plain word holds, giving a block in reach another root, setting the own home and the references of own blocks, and making a root
 //! empty with all that only it names.
 //!
-//! Each machine is a plan of calls (`shm_calls`), which says which call comes next. The type with the operation's name is the plan: a pool
+//! Each machine is a plan of calls (`plans`), which says which call comes next. The type with the operation's name is the plan: a pool
 //! runs it as it is, and machines above call `Calls` of it.
 #![tactic(auto)]
 

@@ -7,7 +7,7 @@ ghost use Rattle.shm_ref.specs.Proved.LatchTasks.{LookMay, look_task};
 
 use crate::answer::LookFault;
 use crate::tagged::tag_in;
-use shm_calls::{Plan, Task, Word};
+use plans::{Plan, Task, Word};
 use shm_graph::{Machine, Me};
 use shm_words::ADDRESS_LIMIT;
 use std::marker::Model;

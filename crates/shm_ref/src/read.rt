@@ -7,7 +7,7 @@ ghost use Rattle.shm_ref.specs.Proved.LatchTasks.{ReadMay, read_task};
 
 use crate::answer::NoSuchWord;
 use crate::tagged::tag_in;
-use shm_calls::{Plan, Task, Word};
+use plans::{Plan, Task, Word};
 use shm_graph::{Machine, Me};
 use std::marker::Model;
 

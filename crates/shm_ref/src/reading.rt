@@ -4,11 +4,11 @@ ghost use Rattle.std.specs.Prelude.{◌≡◌, ℕ, ◌+◌, ◌<◌, ◌≤◌,
 ghost use Rattle.shm_words.specs.Layout.{total_of};
 ghost use Rattle.shm_graph.specs.{declared.{ask.Me.Me as AMe, memo.Memo.Memo as AMemo}, Reach.is_reached, Asks.Trail};
 ghost use Rattle.shm_graph.specs.Events.{Event as AnEvent};
-ghost use Rattle.shm_calls.specs.Parts.{IsHeld};
+ghost use Rattle.plans.specs.Parts.{IsHeld};
 ghost use Rattle.shm_ref.specs.declared.answer.LookFault.{LookFault as ALookFault};
 ghost use Rattle.shm_ref.specs.declared.answer.{NoSuchWord.NoSuchWord as ANoSuchWord, NotHeld.NotHeld as ANotHeld};
-ghost use Rattle.shm_ref.specs.{HomeOf.{finding, HomeLeaves as HomeOfLeaves}, Look.{LookLeaves, looking}};
-ghost use Rattle.shm_ref.specs.{OnlyRead.OnlyRead, Read.{ReadLeaves, reading}, ReadParts.{MayAsk, MayRead}};
+ghost use Rattle.shm_ref.specs.{HomeOf.{finding, HomeOfLeaves}, Look.{LookLeaves, looking}, OnlyRead.OnlyRead};
+ghost use Rattle.shm_ref.specs.{Read.{ReadLeaves, reading}, ReadParts.{MayAsk, MayRead}};
 
 /// In a state that holds a block in reach lies in the pool, so that its words may be read.
 pub fn reach_lies()

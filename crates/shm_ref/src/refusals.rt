@@ -10,8 +10,8 @@ ghost use Rattle.shm_graph.specs.{Events.Event as AnEvent, MemoAfterRead.home_re
 ghost use Rattle.shm_graph.specs.declared.ask.Ask.TheVariants as ask;
 ghost use Rattle.shm_graph.specs.declared.spot.Spot.TheVariants as spots;
 ghost use Rattle.shm_graph.specs.Events as event;
-ghost use Rattle.shm_steps.specs.WordParts.{as_known};
-ghost use Rattle.shm_calls.specs.Plans.{plan_trail};
+ghost use Rattle.kind_parts.specs.WordParts.{as_known};
+ghost use Rattle.plans.specs.Plans.{plan_trail};
 ghost use Rattle.shm_count.specs.{declared.answer.EraSpent.EraSpent as ASpent, Lowering.StoppedAt, Refusing.ReadsCount};
 ghost use Rattle.shm_count.specs.{Roots.root_word, Slots.{Took, Untouched}, Step.Control.last_era};
 ghost use Rattle.shm_count.specs.{Tear.Events.{Visit as AVisit, Walks, frees}, UpRoot.UpRootLeaves};
@@ -19,9 +19,9 @@ ghost use Rattle.shm_count.specs.declared.answer.ShareFault.TheVariants as share
 ghost use Rattle.shm_ref.specs.declared.answer.{Busy.Busy as ABusy, NoSuchWord.NoSuchWord as ANoSuchWord};
 ghost use Rattle.shm_ref.specs.{declared.answer.NotHeld.NotHeld as ANotHeld, DropRoot.{Control.dropping, DropLeaves}};
 ghost use Rattle.shm_ref.specs.{DropRoots.{Control.dropping_roots, RootsLeaves}, Hold.{Control.holding, HoldLeaves}};
-ghost use Rattle.shm_ref.specs.{HomeOf.{HomeLeaves as HomeOfLeaves, finding}, Lefts.RootsEvents};
-ghost use Rattle.shm_ref.specs.{Look.{LookLeaves, looking}, Read.{ReadLeaves, reading}, ReadParts.tagged};
-ghost use Rattle.shm_ref.specs.{Release.Released, SetHome.{HomeLeaves, home_plan, homing}, SetRef.Control.setting};
+ghost use Rattle.shm_ref.specs.{HomeOf.{HomeOfLeaves, finding}, Lefts.RootsEvents, Look.{LookLeaves, looking}};
+ghost use Rattle.shm_ref.specs.{Read.{ReadLeaves, reading}, ReadParts.tagged, Release.Released};
+ghost use Rattle.shm_ref.specs.{SetHome.{HomeLeaves, home_plan, homing}, SetRef.Control.setting};
 ghost use Rattle.shm_ref.specs.SetRef.{Memos.{tag_seen, word_seen}, IsRead, SetLeaves, aim_of, set_plan, taken_events};
 ghost use Rattle.shm_ref.specs.declared.answer.HomeFault.TheVariants as home;
 ghost use Rattle.shm_ref.specs.declared.answer.LookFault.TheVariants as look;

@@ -5,7 +5,7 @@ ghost use Rattle.shm_words.specs.Layout.{GeometryFits};
 ghost use Rattle.shm_ref.specs.{Release.{releasing, release_plan}, Proved.Release.Laws.release_laws};
 ghost use Rattle.shm_ref.specs.Proved.LatchTasks.{ReleaseMay, release_task};
 
-use shm_calls::{Plan, Task, Word};
+use plans::{Plan, Task, Word};
 use shm_graph::{Machine, Me};
 use std::marker::Model;
 

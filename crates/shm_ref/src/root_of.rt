@@ -5,7 +5,7 @@ ghost use Rattle.shm_words.specs.Layout.{GeometryFits};
 ghost use Rattle.shm_ref.specs.{RootOf.{naming, naming_plan}, Proved.RootOf.Laws.naming_laws};
 ghost use Rattle.shm_ref.specs.Proved.LatchTasks.{NamingMay, naming_task};
 
-use shm_calls::{Plan, Task, Word};
+use plans::{Plan, Task, Word};
 use shm_graph::{Machine, Me};
 use shm_words::ADDRESS_LIMIT;
 use std::marker::Model;

@@ -7,7 +7,7 @@ ghost use Rattle.shm_words.specs.Layout.{GeometryFits, address_limit};
 ghost use Rattle.shm_ref.specs.RootSteps.{ChangingMay, LoweringMay, RaisingMay, changing, changing_plan, lowering, lowering_plan, raising, raising_plan};
 ghost use Rattle.shm_ref.specs.Proved.RootSteps.Laws.{changing_laws, changing_task, lowering_laws, lowering_task, raising_laws, raising_task};
 
-use shm_calls::{Plan, Task};
+use plans::{Plan, Task};
 use shm_count::{EraSpent, StepChange, StepDown, StepUp, UpFault};
 use shm_graph::{Machine, Me};
 use std::marker::Model;

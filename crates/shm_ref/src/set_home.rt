@@ -6,7 +6,7 @@ ghost use Rattle.shm_ref.specs.{SetHome.{homing, home_plan}, Proved.SetHome.Laws
 ghost use Rattle.shm_ref.specs.Proved.RootTasks.{HomeMay, home_task};
 
 use crate::answer::HomeFault;
-use shm_calls::{Or, Plan, Task, Word};
+use plans::{Or, Plan, Task, Word};
 use shm_count::{StepUp, UpFault};
 use shm_graph::{Machine, Me};
 use shm_words::ADDRESS_LIMIT;

@@ -8,7 +8,7 @@ ghost use Rattle.shm_ref.specs.SetRef.Control as control;
 
 use crate::answer::SetFault;
 use crate::tagged::{author_in, refs_in};
-use shm_calls::{Or, Plan, Task, Word};
+use plans::{Or, Plan, Task, Word};
 use shm_count::{EraSpent, StepChange, StepDown, StepUp, TearDown, UpFault};
 use shm_graph::{Machine, Me};
 use shm_words::ADDRESS_LIMIT;

@@ -1,7 +1,7 @@
 //! What a drop of roots leaves of the map of its identity's table, at each point on its way.
 
 ghost use Rattle.shm_count.specs.Steady.{IsSteady};
-ghost use Rattle.shm_calls.specs.{CallsControl.calls_control, CallsPart.calls_part};
+ghost use Rattle.plans.specs.{CallsControl.calls_control, CallsPart.calls_part};
 ghost use Rattle.shm_ref.specs.{DropRoot.{Control.drop_parts, drop_plan}, DropRoots.Control.{drop_root, roots_steered}};
 ghost use Rattle.shm_ref.specs.DropRoots.{roots_plan};
 

@@ -2,8 +2,8 @@
 use Rattle.std.proofs.Common.{◌≡◌, ℕ, ◌+◌, ◌<◌, ◌≤◌, ◌^◌, Bool, true, length, refl, arith}
 use Rattle.shm_words.specs.Layout.{GeometryFits}
 use Rattle.shm_graph.specs.{declared.{ask.Me.Me, memo.Memo.Memo}, Asks.Trail, Laws.Control, Whole.fits_now}
-use Rattle.shm_calls.specs.{CallsControl.{calls_control, calls_of}, CallsFit.CallsFits}
-use Rattle.shm_plain.specs.{Calls.{Ran, Took}, Pools.{IsOf, IsRun, MayStep, Pool, memo_of, readied}}
+use Rattle.plans.specs.{CallsControl.{calls_control, calls_of}, CallsFit.CallsFits}
+use Rattle.shm_plain.specs.{Calls.{Ran, TookSteps}, Pools.{IsOf, IsRun, MayStep, Pool, memo_of, readied}}
 use Rattle.shm_queue.specs.Drain.{Control.{drain_parts, draining, drain_steered}, drain_plan}
 use Rattle.shm_queue.specs.Proved.{Drain.Laws.drain_laws, Take.Laws.take_laws}
 use Rattle.shm_recover.specs.Join.{JoinFits, JoinGives, join_control, join_fresh, AsPart.join_does}
@@ -39,7 +39,7 @@ recover_lasts me = calls_last recover_parts recover_plan recoveries recover_alon
 
 -- a call that nobody else steps beside has answered, and at most 2^38 word steps of its life went
 pub answers_in_time : {S A : Type 0} (k : Control S A) (fits : S → Memo → Memo → Trail → Type 0) (m : S) → Lasts k fits m → (c : ℕ) (p q : Pool) (r0 : Memo) (answered : Bool) (x y : ℕ) → IsRun p → MayStep p c → IsOf p c k m → fits_now k fits m r0 (memo_of (readied p c) c) → k.fresh m ≡ true
-    → Ran c (k.fresh m) answered p q x y → (0 < x → Took k c p m q) → (0 < x → k.fresh m ≡ true → y + length (memo_of q c).call ≡ x) → 2 ^ 38 < x
+    → Ran c (k.fresh m) answered p q x y → (0 < x → TookSteps k c p m q) → (0 < x → k.fresh m ≡ true → y + length (memo_of q c).call ≡ x) → 2 ^ 38 < x
     → (answered ≡ true) × (x ≤ y + 2 ^ 38)
 answers_in_time k fits m enough c p q r0 answered x y before may of fit fresh ran took spent long =
     let few = alone_few p.start.geometry.wide in

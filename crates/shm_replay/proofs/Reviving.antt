@@ -5,8 +5,8 @@ use Rattle.shm_graph.specs.declared.{ask.Me.Me, memo.{Kind.{Kind, TheVariants.{C
 use Rattle.shm_graph.specs.{declared.memo.Status.TheVariants.Gone, Agents.{acts, entered, last_agent, steps_made}}
 use Rattle.shm_graph.specs.{Asks.Trail, Events.Event, Runs.{MayBegin, fell_by}, Whole.fits_now}
 use Rattle.shm_graph.proofs.Memos.MemoSteps.{recovers-entered}
-use Rattle.shm_calls.specs.{CallsControl.{calls_control, calls_of}, CallsFit.CallsFits, Proved.CallsKeep.calls_begin}
-use Rattle.shm_calls.specs.Plans.{PlanLaws}
+use Rattle.plans.specs.{CallsControl.{calls_control, calls_of}, CallsFit.CallsFits, Proved.CallsKeep.calls_begin}
+use Rattle.plans.specs.Plans.{PlanLaws}
 use Rattle.shm_count.specs.{declared.answer.EraSpent.EraSpent, Roots.member}
 use Rattle.shm_ref.specs.Proved.DropRoots.Laws.{roots_laws}
 use Rattle.shm_recover.specs.Proved.{FinishTakes.Laws.finish_laws, GiveUp.Laws.give_laws, Mend.Laws.mend_laws}

@@ -8,7 +8,7 @@ use Rattle.shm_graph.specs.Laws.{Control, Steady, is_some, step_of}
 use Rattle.shm_graph.specs.Runs.{Leads, State, account_after, account_at, accounts_after, fell_by, first_state, memos_of, moved}
 use Rattle.shm_graph.specs.Tells.{GoesOn, machine_steps}
 use Rattle.shm_graph.proofs.{Memos.MemoSteps.memo_over, Runs.{Going.acts_within, Running.Leads-split}}
-use Rattle.shm_calls.specs.{CallsControl.calls_control, Proved.CallsKeep.calls_laws}
+use Rattle.plans.specs.{CallsControl.calls_control, Proved.CallsKeep.calls_laws}
 use Rattle.shm_queue.specs.{Drain.{Control.{drain_parts, drain_steered}, drain_plan}, Proved.Drain.Laws.drain_laws}
 use Rattle.shm_queue.specs.Proved.Take.Laws.{take_laws}
 use Rattle.shm_recover.specs.{Join.join_control, Proved.{Join.Keeps.join_laws, Leave.Laws.leave_laws}}

@@ -10,7 +10,7 @@ use Rattle.shm_count.specs.Roots.{member}
 use Rattle.shm_plain.specs.{Pools.{Pool, IsOf}, Working.IsWorkOf}
 use Rattle.shm_script.specs.{declared.line.Item.Item, Values.{Scripted, Traced}}
 use Rattle.shm_agents.specs.declared.agents.Standing.{Standing, TheVariants.{AtWork, Gone, Dead}}
-use Rattle.shm_agents.specs.Agents.{Playing, Stands, is_at_work, is_client}
+use Rattle.shm_agents.specs.Agents.{Playing, AgentsStand, is_at_work, is_client}
 use Rattle.shm_agents.specs.{Turns.{agent_of, answered_of, next_by, script_in}, Work.work_control}
 use Rattle.shm_agents.proofs.{Standing.{IsNow, stands_answered, stands_now, stands_still}, Turning.is_of}
 use Rattle.shm_replay.specs.{Orders.{IsGiven, IsUntilAnswered}, Seats.{AreSeated, IsSeat, Seat, turns_in, turns_left}}
@@ -95,11 +95,11 @@ script_read ss k j s r at e is = ap (slice_get ss) (sym e) ∙ slice_get_read ss
 same_script : (a b : Scripted) → ◌≡◌ {A = Option Scripted} (Some a) (Some b) → a ≡ b
 same_script a b e = cc
 
-pub seat_stands : (t : Traced) (p : Pool) (c : ℕ) (x : Playing) (r : Scripted) → IsSeat t p c x → slice_get t.scripts x.script ≡ Some r → Stands p.start r x (account_at p.accounts c)
-seat_stands t p c x r h at = subst (λ (s : Scripted). Stands p.start s x (account_at p.accounts c)) (same_script h.script r (sym h.at ∙ at)) h.stands
+pub seat_stands : (t : Traced) (p : Pool) (c : ℕ) (x : Playing) (r : Scripted) → IsSeat t p c x → slice_get t.scripts x.script ≡ Some r → AgentsStand p.start r x (account_at p.accounts c)
+seat_stands t p c x r h at = subst (λ (s : Scripted). AgentsStand p.start s x (account_at p.accounts c)) (same_script h.script r (sym h.at ∙ at)) h.stands
 
 -- and they keep their place where they stand in another pool
-pub seat_after : (t : Traced) (p q : Pool) (c : ℕ) (x y : Playing) (r : Scripted) → IsSeat t p c x → slice_get t.scripts x.script ≡ Some r → q.start ≡ p.start → y.me ≡ x.me → y.script ≡ x.script → Stands q.start r y (account_at q.accounts c) → IsSeat t q c y
+pub seat_after : (t : Traced) (p q : Pool) (c : ℕ) (x y : Playing) (r : Scripted) → IsSeat t p c x → slice_get t.scripts x.script ≡ Some r → q.start ≡ p.start → y.me ≡ x.me → y.script ≡ x.script → AgentsStand q.start r y (account_at q.accounts c) → IsSeat t q c y
 seat_after t p q c x y r h at start me script stands =
     record {
       me = me ∙ (h.me ∙ ap (λ (s : Start). member s.geometry c) (sym start));
@@ -124,7 +124,7 @@ seat_other t p q c (Some x) start same h =
       script = h.script;
       is = h.is;
       at = h.at;
-      stands = subst (λ (s : Start). Stands s h.script x (account_at q.accounts c)) (sym start) (subst (Stands p.start h.script x) (sym same) h.stands);
+      stands = subst (λ (s : Start). AgentsStand s h.script x (account_at q.accounts c)) (sym start) (subst (AgentsStand p.start h.script x) (sym same) h.stands);
     }
 
 -- ---- all

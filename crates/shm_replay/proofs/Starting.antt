@@ -7,7 +7,7 @@ use Rattle.shm_graph.proofs.States.FirstHeld.{at-accounts_from}
 use Rattle.shm_count.specs.Roots.{member}
 use Rattle.shm_plain.specs.Pools.{first_pool}
 use Rattle.shm_script.specs.{Ranges.{IsTrace, ScriptFits}, Values.{Scripted, Traced}}
-use Rattle.shm_agents.specs.{Agents.{Playing, Stands}, Turns.script_in}
+use Rattle.shm_agents.specs.{Agents.{Playing, AgentsStand}, Turns.script_in}
 use Rattle.shm_replay.specs.{Replays.start_of, Seats.{IsSeat, Seat}}
 use Rattle.shm_replay.proofs.{Gathering.same_some, WholeRun.all_at}
 
@@ -24,7 +24,7 @@ script_client (r ∷ ss) c s e = go (eqb r.client c) refl (script_client ss c s)
 
 -- what is said of agents that have been made for a script
 abbrev pub NewStands : Me → Scripted → Playing → Type 0
-NewStands me s x = (start : Start) → start.geometry ≡ me.geometry → start.first_era < 2 ^ 46 → start.tables ≡ true → s.client ≡ me.who → ScriptFits me.geometry.clients s → Stands start s x (first_account start me.who)
+NewStands me s x = (start : Start) → start.geometry ≡ me.geometry → start.first_era < 2 ^ 46 → start.tables ≡ true → s.client ≡ me.who → ScriptFits me.geometry.clients s → AgentsStand start s x (first_account start me.who)
 
 module _ (t : Traced) (trace : IsTrace t) (who : ℕ) (l : who < t.clients) where
   pub none_seat : script_in t.scripts who ≡ None → Seat t (first_pool (start_of t)) who None
@@ -39,5 +39,5 @@ module _ (t : Traced) (trace : IsTrace t) (who : ℕ) (l : who < t.clients) wher
         script = s;
         is = is;
         at = ap (slice_get t.scripts) xs ∙ has;
-        stands = subst (Stands (start_of t) s x) (sym (account_first (start_of t) who l)) stands;
+        stands = subst (AgentsStand (start_of t) s x) (sym (account_first (start_of t) who l)) stands;
       }

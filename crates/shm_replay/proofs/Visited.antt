@@ -2,11 +2,11 @@
 use Rattle.std.proofs.Common.{◌≡◌, ℕ, Bool, true, false, sym, ap, ◌∙◌, subst}
 use Rattle.shm_graph.specs.{declared.{memo.Memo.Memo, run.Start.Start}, Agents.last_agent, Held.is_loose}
 use Rattle.shm_graph.specs.Runs.{account_at, fell_by, told_left}
-use Rattle.shm_calls.specs.CallsControl.{calls_control, calls_of}
+use Rattle.plans.specs.CallsControl.{calls_control, calls_of}
 use Rattle.shm_count.specs.Roots.{member}
 use Rattle.shm_queue.specs.Drain.Control.{drain_parts, draining, drain_steered}
 use Rattle.shm_recover.specs.{Join.{join_control, join_fresh}, Leave.Control.{leave_parts, leaving, leave_steered}}
-use Rattle.shm_steps.specs.Reparting.{map_in}
+use Rattle.kind_parts.specs.Reparting.{map_in}
 use Rattle.shm_plain.specs.Pools.{IsRun, Pool, memo_of}
 use Rattle.shm_replay.specs.Closings.{HasTold, IsRecovery, IsVisit, IsWhole, MayVisit, SameTable}
 use Rattle.shm_replay.proofs.Telling.{grows_then, whole_grows}

@@ -4,7 +4,7 @@ use Rattle.std.specs.{Prelude.{Ok, Err, None, slice_index}, Result.IsOk}
 use Rattle.shm_graph.specs.declared.{ask.Me.Me, memo.{Kind.Kind, Memo.Memo}, spot.Spot.TheVariants.{Era, Hold}}
 use Rattle.shm_graph.specs.{Agents.{acts, entered, steps_made}, Asks.Trail, Events.Event, Idle.hold_word}
 use Rattle.shm_graph.specs.Views.{own_word}
-use Rattle.shm_calls.specs.{CallsControl.calls_of, CallsFit.CallsFits, Proved.CallsKeep.calls_begin}
+use Rattle.plans.specs.{CallsControl.calls_of, CallsFit.CallsFits, Proved.CallsKeep.calls_begin}
 use Rattle.shm_count.specs.{declared.answer.EraSpent.EraSpent, Roots.member}
 use Rattle.shm_count.proofs.RootSpots.{is_here}
 use Rattle.shm_queue.specs.Drain.{Control.{drain_parts, draining, drain_steered}, DrainLeaves, drain_plan}

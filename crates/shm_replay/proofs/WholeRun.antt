@@ -9,7 +9,7 @@ use Rattle.shm_graph.specs.{declared.table.Part.TheVariants.{Loose, Table}, Held
 use Rattle.shm_graph.specs.{Runs.{account_at, first_account, told_left}, Tables.{Contents, IsPartition, find}}
 use Rattle.shm_graph.proofs.States.FirstHeld.{same_everywhere}
 use Rattle.shm_count.specs.Roots.{member}
-use Rattle.shm_steps.specs.Reparting.{chain_in, map_in}
+use Rattle.kind_parts.specs.Reparting.{chain_in, map_in}
 use Rattle.shm_plain.specs.{Closings.IsClosedRun, Pools.{IsRun, Pool, first_pool, memo_of}}
 use Rattle.shm_plain.proofs.StillTable.{still_part}
 use Rattle.shm_script.specs.{Logged.Logged, Ranges.{AreApart, IsTrace, ScriptFits}, Values.{Scripted, Traced}}

@@ -3,13 +3,13 @@ use Rattle.std.specs.Prelude.{◌≡◌, ◌≢◌, ℕ, zero, suc, ◌^◌, ◌
 use Rattle.shm_graph.specs.declared.{memo.{Memo.Memo, Status.TheVariants.{Gone, New}}, run.Account.Account}
 use Rattle.shm_graph.specs.{declared.run.LoggedLine.LoggedLine, Agents.{acts, last_agent, steps_made}, Held.is_loose}
 use Rattle.shm_graph.specs.{Idle.IsIdle, Laws.Control, Runs.{fell_by, told_left}}
-use Rattle.shm_calls.specs.CallsControl.{calls_control, calls_of}
+use Rattle.plans.specs.CallsControl.{calls_control, calls_of}
 use Rattle.shm_count.specs.Roots.{member}
-use Rattle.shm_plain.specs.{Calls.Took, Pools.{IsRun, Pool, memo_of}}
+use Rattle.shm_plain.specs.{Calls.TookSteps, Pools.{IsRun, Pool, memo_of}}
 use Rattle.shm_queue.specs.Drain.Control.{drain_parts, draining, drain_steered}
 use Rattle.shm_recover.specs.{Join.{join_control, join_fresh}, Leave.Control.{leave_parts, leaving, leave_steered}}
 use Rattle.shm_recover.specs.Recover.Control.{recover_parts, recovering, recover_steered}
-use Rattle.shm_steps.specs.Reparting.{map_in}
+use Rattle.kind_parts.specs.Reparting.{map_in}
 pub use Rattle.shm_agents.specs.Agents.{is_standing_dead}
 use Rattle.shm_agents.specs.Agents.{Playing}
 
@@ -18,7 +18,7 @@ use Rattle.shm_agents.specs.Agents.{Playing}
 -- c ran the machine m from p to q until it had answered, by one word step or more, as a client that began where none acted; no other identity made a step meanwhile
 pub record IsWhole {M A : Type 0} (k : Control M A) (c : ℕ) (p : Pool) (m : M) (q : Pool) : Type 0 where
   pub start : q.start ≡ p.start
-  pub took : Took k c p m q
+  pub took : TookSteps k c p m q
   pub some : took.trail ≢ []
   pub over : (memo_of q c).over ≡ true
   pub run : IsRun q

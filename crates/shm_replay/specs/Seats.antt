@@ -4,7 +4,7 @@ use Rattle.shm_graph.specs.Runs.{account_at, first_account}
 use Rattle.shm_count.specs.Roots.{member}
 use Rattle.shm_plain.specs.Pools.{Pool}
 use Rattle.shm_script.specs.Values.{Scripted, Traced}
-use Rattle.shm_agents.specs.{Agents.{Playing, Stands}, Turns.script_in, TurnsLeft.turns_by}
+use Rattle.shm_agents.specs.{Agents.{Playing, AgentsStand}, Turns.script_in, TurnsLeft.turns_by}
 
 -- x are the agents of c, which has a script, and stand in the pool
 pub record IsSeat (t : Traced) (p : Pool) (c : ℕ) (x : Playing) : Type 0 where
@@ -12,7 +12,7 @@ pub record IsSeat (t : Traced) (p : Pool) (c : ℕ) (x : Playing) : Type 0 where
   pub script : Scripted
   pub is : script_in t.scripts c ≡ Some script
   pub at : slice_get t.scripts x.script ≡ Some script
-  pub stands : Stands p.start script x (account_at p.accounts c)
+  pub stands : AgentsStand p.start script x (account_at p.accounts c)
 
 -- none where c has no script: then it has made no step
 abbrev pub Seat : Traced → Pool → ℕ → Option Playing → Type 0

@@ -2,7 +2,7 @@
 
 ghost use Rattle.std.specs.Prelude.{◌≡◌, ◌≢◌, ◌+◌, ◌^◌, ◌<◌, ◌≤◌, ℕ, true, None, length, slice_index_or};
 ghost use Rattle.shm_graph.specs.{declared.memo.Status.TheVariants.Gone, Agents.steps_made, Runs.account_at};
-ghost use Rattle.shm_calls.specs.CallsControl.{calls_control, calls_of};
+ghost use Rattle.plans.specs.CallsControl.{calls_control, calls_of};
 ghost use Rattle.shm_count.specs.Roots.{member};
 ghost use Rattle.shm_plain.specs.{Calls.Ran, Pools.{IsRun, memo_of}};
 ghost use Rattle.shm_queue.specs.Drain.Control.{drain_parts, draining, drain_steered};
@@ -10,8 +10,8 @@ ghost use Rattle.shm_recover.specs.Join.{join_control, join_fresh};
 ghost use Rattle.shm_recover.specs.Leave.Control.{leave_parts, leaving, leave_steered};
 ghost use Rattle.shm_replay.specs.Closings.{AreVisits, HasTold, IsDead, IsIn, IsOut, IsRecovery, IsVisit, IsWhole, MayVisit, SameTable, is_dead};
 
+use plans::Calls;
 use shm_agents::agents::Standing;
-use shm_calls::Calls;
 use shm_graph::{Life, Me};
 use shm_plain::PlainPool;
 use shm_play::play::Play;

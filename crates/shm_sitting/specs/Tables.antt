@@ -2,12 +2,12 @@
 use Rattle.std.specs.Prelude.{ℕ, ◌==◌, nat_lt, not, if◌then◌else◌, Bool, true, false, Option, Some, None, Result, Ok, Err}
 use Rattle.std.specs.Option.{option_map}
 use Rattle.shm_graph.specs.declared.ask.Me.{Me}
-use Rattle.shm_calls.specs.declared.or.Or.TheVariants.{First, Second}
+use Rattle.plans.specs.declared.or.Or.TheVariants.{First, Second}
 use Rattle.shm_count.specs.declared.answer.EraSpent.{EraSpent}
 use Rattle.shm_script.specs.declared.line.Line.{Line}
 use Rattle.shm_script.specs.declared.line.Line.TheVariants as line
 use Rattle.shm_table.specs.Command.{command_effect}
-use Rattle.shm_agents.specs.Work.{Work, WorkAnswer, commanding, joining, leaving, recovering, work_control}
+use Rattle.shm_agents.specs.Work.{Work, WorkAnswer, commanding, join_work, leave_work, recover_work, work_control}
 use Rattle.shm_session.specs.declared.said.{Call.Call, Misuse.Misuse, Reply.Reply, Said.Said, Stage.Stage}
 use Rattle.shm_session.specs.Sessions.{Operations, code_said}
 use Rattle.shm_session.specs.declared.said.Misuse.TheVariants as misuse
@@ -33,19 +33,19 @@ command_by me c = where_may me (line_of c)
 
 -- a join is for an identity that is new or gone, a leaving for one that has joined, a recovery for one that is dead
 abbrev pub joins : Me → Stage → Result Work Misuse
-joins me stage.Vacant = Ok (joining me)
+joins me stage.Vacant = Ok (join_work me)
 joins me stage.Live = Err misuse.Stage
 joins me stage.Dead = Err misuse.Stage
 
 abbrev pub leaves : Me → Stage → Result Work Misuse
 leaves me stage.Vacant = Err misuse.Stage
-leaves me stage.Live = Ok (leaving me)
+leaves me stage.Live = Ok (leave_work me)
 leaves me stage.Dead = Err misuse.Stage
 
 abbrev pub recovers : Me → Stage → Result Work Misuse
 recovers me stage.Vacant = Err misuse.Stage
 recovers me stage.Live = Err misuse.Stage
-recovers me stage.Dead = Ok (recovering me)
+recovers me stage.Dead = Ok (recover_work me)
 
 -- a command is for one that has joined; numbers out of range are refused first
 abbrev pub runs : Me → Stage → Option Line → Result Work Misuse

@@ -2,11 +2,11 @@
 
 ghost use Rattle.std.specs.Prelude.{◌≡◌, ◌<◌, IfSome, true};
 ghost use Rattle.shm_words.specs.Layout.{GeometryFits};
-ghost use Rattle.shm_table.specs.Command.{MayStand};
+ghost use Rattle.shm_table.specs.Command.{LineMayStand};
 ghost use Rattle.shm_sitting.specs.Tables.{command_by, may_be, settled as outcome_reply, tables};
 
 use crate::numbers::{answered, line_of};
-use shm_calls::{Calls, Or};
+use plans::{Calls, Or};
 use shm_count::EraSpent;
 use shm_graph::{Ask, Machine, Me, Turn};
 use shm_recover::{Join, Leave, Recover};
@@ -24,7 +24,7 @@ pub struct Tables;
 /// Whether this identity may be given the command.
 fn may_stand(me: Me, line: Line) -> bool
     ensures is { result ≡ may_be me line }
-    ensures may { result ≡ true → MayStand me line }
+    ensures may { result ≡ true → LineMayStand me line }
 {
     let clients = me.geometry.clients();
     match line {
@@ -38,7 +38,7 @@ fn may_stand(me: Me, line: Line) -> bool
 /// The line of a command that this identity may be given; none where a number is out of its range.
 fn command_of(me: Me, call: Call) -> Option<Line>
     ensures is { result ≡ command_by me call }
-    ensures may { IfSome result (λ l. MayStand me l) }
+    ensures may { IfSome result (λ l. LineMayStand me l) }
 {
     let line = line_of(call)?;
     if may_stand(me, line) {

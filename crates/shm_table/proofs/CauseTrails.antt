@@ -10,7 +10,7 @@ use Rattle.shm_words.specs.Layout.{address}
 use Rattle.shm_words.specs.declared.place.Place.TheVariants as place
 use Rattle.shm_graph.specs.{declared.{ask.{Ask.TheVariants.Load, Me.Me}, memo.Seen.Seen}, Asks.{Trail, pair}}
 use Rattle.shm_graph.specs.Laws.{Outcome}
-use Rattle.shm_calls.specs.Plans.{Planned, calls_asked, go_on, plan_trail}
+use Rattle.plans.specs.Plans.{Planned, calls_asked, go_on, plan_trail}
 use Rattle.shm_alloc.specs.{declared.{alloc.AllocFault.AllocFault, request.Request.Request}, Alloc.Asks.alloc_trail}
 use Rattle.shm_alloc.specs.declared.alloc.AllocFault.TheVariants as alloc
 use Rattle.shm_count.specs.{declared.{answer.UpFault.UpFault, point.Aim.Aim}, Refusing.ReadsCount, Step.Asks.step_trail}

@@ -1,12 +1,11 @@
 -- the event of the deciding step is the one by which the map changes
-use Rattle.std.proofs.Common.{◌≡◌, ℕ, ◌%◌, Bool, true, false, refl, sym, ap, ◌∙◌, subst, [], ◌∷◌, inl, inr}
-use Rattle.std.specs.Prelude.{if◌then◌else◌, Option, Some, None, Ok, Err}
+use Rattle.std.proofs.Common.{◌≡◌, ℕ, ◌%◌, Bool, true, false, refl, sym, ap, ◌∙◌, subst, ◌∷◌, inl, inr}
+use Rattle.std.specs.Prelude.{if◌then◌else◌, None, Ok, Err}
 use Rattle.shm_graph.specs.{declared.{ask.Me.Me, memo.Memo.Memo, spot.Spot.{Spot, TheVariants.Body}}, Asks.Trail}
-use Rattle.shm_graph.specs.{Events.Event, Laws.Control, Tells.after_all}
+use Rattle.shm_graph.specs.{Events.Event, Tells.after_all}
 use Rattle.shm_graph.specs.Events as event
-use Rattle.shm_calls.specs.declared.{calls.Calls.Calls, or.Or.TheVariants.{First, Second}}
-use Rattle.shm_calls.specs.{CallsControl.{called_on, calls_control, calls_does, planned}, CallsFit.CallsFits}
-use Rattle.shm_calls.specs.{Deciding.where_decided, Plans.Planned}
+use Rattle.plans.specs.{declared.or.Or.TheVariants.{First, Second}, CallsControl.calls_does, CallsFit.CallsFits}
+use Rattle.plans.specs.{Deciding.where_decided, Proved.PlanKept.{kept_along, plan_kept}}
 use Rattle.shm_count.specs.declared.point.{Aim.Aim, Half.Half, StepPoint.StepPoint}
 use Rattle.shm_count.specs.Step.Events.{event_of_half, step_event_at}
 use Rattle.shm_count.specs.Step.ExchangeMade.{exchanged_at, exchanging_at, is_second}
@@ -30,7 +29,7 @@ use Rattle.shm_table.specs.Enter.Control.{EnterAnswer, EnterCall, enter_call_at,
 use Rattle.shm_table.specs.{Enter.{enter_part, enter_plan}, Put.Control.{PutCall, PutCalls, put_call_at, put_parts}}
 use Rattle.shm_table.specs.Put.{put_part, put_plan}
 use Rattle.shm_table.specs.PutRoot.Control.{EnterCalls, PutRootAnswer, PutRootCall, PutRootCalls, ReplaceCalls, put_root_call, put_root_parts, put_root_steered}
-use Rattle.shm_table.specs.PutRoot.{Decides, Begins, Leads, Replaces, put_root_part, put_root_plan}
+use Rattle.shm_table.specs.PutRoot.{DecidesMap, Begins, Leads, Replaces, put_root_part, put_root_plan}
 use Rattle.shm_table.specs.RecvKey.{Control.{RecvCall, RecvCalls, recv_call_at, recv_parts}, recv_part, recv_plan}
 use Rattle.shm_table.specs.Replace.Control.{ReplaceAnswer, ReplaceCall, replace_call_at, replace_parts, replace_steered}
 use Rattle.shm_table.specs.Replace.{replace_plan}
@@ -44,25 +43,6 @@ use Rattle.shm_table.specs.declared.put_root.PutRootPoint.TheVariants as rooting
 use Rattle.shm_table.specs.declared.recv.RecvPoint.TheVariants as receiving
 use Rattle.shm_table.specs.declared.replace.ReplacePoint.TheVariants as replacing
 use Rattle.shm_table.specs.declared.unlink.UnlinkPoint.TheVariants as unlinking
-
--- ---- what stays
-
--- what a step keeps, all that is asked keeps
-pub kept_along : {S A : Type 0} (k : Control S A) (Q : S → Type 0) → ((m : S) (n : ℕ) → Q m → Q (k.after m n)) → (m : S) (tr : Trail) → Q m → Q (after_all k m tr)
-kept_along k Q h m [] q = q
-kept_along k Q h m (x ∷ tr) q = kept_along k Q h (k.after m x.word) tr (h m x.word q)
-
--- what a plan keeps from call to call, the machine that makes its calls keeps
-pub plan_kept : {P C B A : Type 0} (k : Control C B) (q : Planned P C B A) (R : P → Type 0) → ((p : P) (b : B) → R p → R (q.steered.after p b)) → (m : Calls P C A B) (n : ℕ) → R m.plan → R ((calls_control k q.steered).after m n).plan
-plan_kept {P} {C} {B} {A} k q R h m n r = go (k.turns m.call n)
-  where
-    last : (b : B) (o : Option A) → R (planned k q.steered (k.after m.call n) (q.steered.after m.plan b) o).plan
-    last b None = h m.plan b r
-    last b (Some a) = h m.plan b r
-
-    go : (o : Option B) → R (called_on k q.steered m.plan (k.after m.call n) o).plan
-    go None = r
-    go (Some b) = last b (q.steered.turns m.plan b)
 
 -- ---- the exchange of a count step
 
@@ -128,16 +108,16 @@ enter_start m entering.Change = (refl, refl, refl)
 pub enter_aims : (c : EnterCalls) (t : Trail) → after_all enter_parts (enter_call_at c.plan c.plan.point) t ≡ c.call → EnterAims c.plan c.plan.point c.call
 enter_aims c t there = subst (EnterAims c.plan c.plan.point) there (kept_along enter_parts (EnterAims c.plan c.plan.point) (enter_kept c.plan c.plan.point) (enter_call_at c.plan c.plan.point) t (enter_start c.plan c.plan.point))
 
-enter_event : (c : EnterCalls) (t : Trail) (n v : ℕ) → after_all enter_parts (enter_call_at c.plan c.plan.point) t ≡ c.call → enter_decided c ≡ false → enter_by c.plan c.call n ≡ true → Decides c.plan.me.who c.plan.key c.plan.home v (calls_does enter_parts enter_plan c n)
+enter_event : (c : EnterCalls) (t : Trail) (n v : ℕ) → after_all enter_parts (enter_call_at c.plan c.plan.point) t ≡ c.call → enter_decided c ≡ false → enter_by c.plan c.call n ≡ true → DecidesMap c.plan.me.who c.plan.key c.plan.home v (calls_does enter_parts enter_plan c n)
 enter_event c t n v there d b = go c.plan c.plan.point c.call (enter_aims c t there) d b
   where
-    up : (m : EnterState) (e : Event) → e ≡ event.Up m.me.who (Body m.home (m.key % 16)) m.entry → Decides m.me.who m.key m.home v e
-    up m e i = subst (Decides m.me.who m.key m.home v) (sym i) (Begins m.entry)
+    up : (m : EnterState) (e : Event) → e ≡ event.Up m.me.who (Body m.home (m.key % 16)) m.entry → DecidesMap m.me.who m.key m.home v e
+    up m e i = subst (DecidesMap m.me.who m.key m.home v) (sym i) (Begins m.entry)
 
-    change : (m : EnterState) (e : Event) → e ≡ event.ChangeUp m.me.who (Body m.home (m.key % 16)) m.first m.entry → Decides m.me.who m.key m.home v e
-    change m e i = subst (Decides m.me.who m.key m.home v) (sym i) (Leads m.first m.entry)
+    change : (m : EnterState) (e : Event) → e ≡ event.ChangeUp m.me.who (Body m.home (m.key % 16)) m.first m.entry → DecidesMap m.me.who m.key m.home v e
+    change m e i = subst (DecidesMap m.me.who m.key m.home v) (sym i) (Leads m.first m.entry)
 
-    go : (m : EnterState) (y : EnterPoint) (x : EnterCall) → EnterAims m y x → enter_at (record m { point = y }) x ≡ false → enter_by (record m { point = y }) x n ≡ true → Decides m.me.who m.key m.home v ((enter_part m y).does x n)
+    go : (m : EnterState) (y : EnterPoint) (x : EnterCall) → EnterAims m y x → enter_at (record m { point = y }) x ≡ false → enter_by (record m { point = y }) x n ≡ true → DecidesMap m.me.who m.key m.home v ((enter_part m y).does x n)
     go m y (First w) q d b = cc
     go m entering.Value (Second (First s)) q d b = cc
     go m entering.Next (Second (First s)) q d b = cc
@@ -192,18 +172,18 @@ pub root_aims : (m : PutRootCalls) (t : Trail) → after_all put_root_parts (put
 root_aims m t there = subst (RootAims m.plan) there (kept_along put_root_parts (RootAims m.plan) (root_kept m.plan) (put_root_call m.plan m.plan.point) t (root_start m.plan m.plan.point))
 
 -- with the directory that the search found, where it found no entry
-pub put_root_event : (m : PutRootCalls) (r0 r : Memo) (tr : Trail) (n : ℕ) → CallsFits put_root_parts put_root_plan m r0 r tr → put_root_decided m ≡ false → put_root_by m.plan m.call n ≡ true → Decides m.plan.me.who m.plan.key m.plan.home m.plan.value (calls_does put_root_parts put_root_plan m n)
+pub put_root_event : (m : PutRootCalls) (r0 r : Memo) (tr : Trail) (n : ℕ) → CallsFits put_root_parts put_root_plan m r0 r tr → put_root_decided m ≡ false → put_root_by m.plan m.call n ≡ true → DecidesMap m.plan.me.who m.plan.key m.plan.home m.plan.value (calls_does put_root_parts put_root_plan m n)
 put_root_event m r0 r tr n fit d b = go m.plan m.call fit.rs r fit.t (root_aims m fit.t fit.there) fit.fits d b
   where
-    go : (p : PutRootState) (x : PutRootCall) (rs r : Memo) (t : Trail) → RootAims p x → put_root_part.fits x rs r t → put_root_at p x ≡ false → put_root_by p x n ≡ true → Decides p.me.who p.key p.home p.value (put_root_part.does x n)
+    go : (p : PutRootState) (x : PutRootCall) (rs r : Memo) (t : Trail) → RootAims p x → put_root_part.fits x rs r t → put_root_at p x ≡ false → put_root_by p x n ≡ true → DecidesMap p.me.who p.key p.home p.value (put_root_part.does x n)
     go p (First w) rs r t q f d b = cc
     go p (Second (First (First c))) rs r t (i, j) f d b =
         let e : calls_does replace_parts replace_plan c n ≡ event.ChangeUp p.me.who (Body c.plan.entry 1) c.plan.before p.value = replace_event c f.t n f.there d b ∙ (ap (λ (z : Me). event.ChangeUp z.who (Body c.plan.entry 1) c.plan.before c.plan.to) i ∙ ap (λ z. event.ChangeUp p.me.who (Body c.plan.entry 1) c.plan.before z) j) in
-        subst (Decides p.me.who p.key p.home p.value) (sym e) (Replaces c.plan.entry c.plan.before)
+        subst (DecidesMap p.me.who p.key p.home p.value) (sym e) (Replaces c.plan.entry c.plan.before)
     go p (Second (First (Second c))) rs r t (i, j, k) f d b =
-        subst (λ (z : Me). Decides z.who p.key p.home p.value (calls_does enter_parts enter_plan c n)) i
-        (subst (λ z. Decides c.plan.me.who z p.home p.value (calls_does enter_parts enter_plan c n)) j
-        (subst (λ z. Decides c.plan.me.who c.plan.key z p.value (calls_does enter_parts enter_plan c n)) k (enter_event c f.t n p.value f.there d b)))
+        subst (λ (z : Me). DecidesMap z.who p.key p.home p.value (calls_does enter_parts enter_plan c n)) i
+        (subst (λ z. DecidesMap c.plan.me.who z p.home p.value (calls_does enter_parts enter_plan c n)) j
+        (subst (λ z. DecidesMap c.plan.me.who c.plan.key z p.value (calls_does enter_parts enter_plan c n)) k (enter_event c f.t n p.value f.there d b)))
     go p (Second (Second w)) rs r t q f d b = cc
 
 -- ---- puts, copies and receives
@@ -224,11 +204,11 @@ root_of_kept me key v p (Second (First (Second (Unmade f)))) r = r
 root_of_kept me key v p (Second (Second (First done))) r = r
 root_of_kept me key v p (Second (Second (Second a))) r = r
 
-rooted : (me : Me) (key v : ℕ) (c : PutRootCalls) (rs r : Memo) (t : Trail) (n : ℕ) → RootOf me key v c.plan → CallsFits put_root_parts put_root_plan c rs r t → put_root_decided c ≡ false → put_root_by c.plan c.call n ≡ true → Decides me.who key c.plan.home v (calls_does put_root_parts put_root_plan c n)
+rooted : (me : Me) (key v : ℕ) (c : PutRootCalls) (rs r : Memo) (t : Trail) (n : ℕ) → RootOf me key v c.plan → CallsFits put_root_parts put_root_plan c rs r t → put_root_decided c ≡ false → put_root_by c.plan c.call n ≡ true → DecidesMap me.who key c.plan.home v (calls_does put_root_parts put_root_plan c n)
 rooted me key v c rs r t n (i, j, k) f d b =
-    subst (λ (z : Me). Decides z.who key c.plan.home v (calls_does put_root_parts put_root_plan c n)) i
-    (subst (λ z. Decides c.plan.me.who z c.plan.home v (calls_does put_root_parts put_root_plan c n)) j
-    (subst (λ z. Decides c.plan.me.who c.plan.key c.plan.home z (calls_does put_root_parts put_root_plan c n)) k (put_root_event c rs r t n f d b)))
+    subst (λ (z : Me). DecidesMap z.who key c.plan.home v (calls_does put_root_parts put_root_plan c n)) i
+    (subst (λ z. DecidesMap c.plan.me.who z c.plan.home v (calls_does put_root_parts put_root_plan c n)) j
+    (subst (λ z. DecidesMap c.plan.me.who c.plan.key c.plan.home z (calls_does put_root_parts put_root_plan c n)) k (put_root_event c rs r t n f d b)))
 
 -- nothing is shown where the step wasn't made
 pub not_shown : (z : Bool) (a : Answer) → where_decided z a ≡ None → z ≡ false
@@ -253,10 +233,10 @@ put_start p putting.Drop = tt
 pub put_aims : (m : PutCalls) (t : Trail) → after_all put_parts (put_call_at m.plan m.plan.point) t ≡ m.call → PutAims m.plan m.call
 put_aims m t there = subst (PutAims m.plan) there (kept_along put_parts (PutAims m.plan) (put_kept m.plan) (put_call_at m.plan m.plan.point) t (put_start m.plan m.plan.point))
 
-pub put_event : (m : PutCalls) (r0 r : Memo) (tr : Trail) (n : ℕ) → CallsFits put_parts put_plan m r0 r tr → put_effect m ≡ None → put_by m.plan m.call n ≡ true → Decides m.plan.me.who m.plan.key (put_home m.call) m.plan.block (calls_does put_parts put_plan m n)
+pub put_event : (m : PutCalls) (r0 r : Memo) (tr : Trail) (n : ℕ) → CallsFits put_parts put_plan m r0 r tr → put_effect m ≡ None → put_by m.plan m.call n ≡ true → DecidesMap m.plan.me.who m.plan.key (put_home m.call) m.plan.block (calls_does put_parts put_plan m n)
 put_event m r0 r tr n fit d b = go m.plan m.call fit.rs r fit.t (put_aims m fit.t fit.there) fit.fits (not_shown (put_at m.plan m.call) (answer.Stored m.plan.block) d) b
   where
-    go : (p : PutState) (x : PutCall) (rs r : Memo) (t : Trail) → PutAims p x → put_part.fits x rs r t → put_at p x ≡ false → put_by p x n ≡ true → Decides p.me.who p.key (put_home x) p.block (put_part.does x n)
+    go : (p : PutState) (x : PutCall) (rs r : Memo) (t : Trail) → PutAims p x → put_part.fits x rs r t → put_at p x ≡ false → put_by p x n ≡ true → DecidesMap p.me.who p.key (put_home x) p.block (put_part.does x n)
     go p (First w) rs r t q f d b = cc
     go p (Second (First c)) rs r t q f d b = rooted p.me p.key p.block c rs r t n q f d b
     go p (Second (Second w)) rs r t q f d b = cc
@@ -279,10 +259,10 @@ copy_start p copying.Drop = tt
 pub copy_aims : (m : CopyCalls) (t : Trail) → after_all copy_parts (copy_call_at m.plan m.plan.point) t ≡ m.call → CopyAims m.plan m.call
 copy_aims m t there = subst (CopyAims m.plan) there (kept_along copy_parts (CopyAims m.plan) (copy_kept m.plan) (copy_call_at m.plan m.plan.point) t (copy_start m.plan m.plan.point))
 
-pub copy_event : (m : CopyCalls) (r0 r : Memo) (tr : Trail) (n : ℕ) → CallsFits copy_parts copy_plan m r0 r tr → copy_effect m ≡ None → copy_by m.plan m.call n ≡ true → Decides m.plan.me.who m.plan.key (copy_home m.call) m.plan.block (calls_does copy_parts copy_plan m n)
+pub copy_event : (m : CopyCalls) (r0 r : Memo) (tr : Trail) (n : ℕ) → CallsFits copy_parts copy_plan m r0 r tr → copy_effect m ≡ None → copy_by m.plan m.call n ≡ true → DecidesMap m.plan.me.who m.plan.key (copy_home m.call) m.plan.block (calls_does copy_parts copy_plan m n)
 copy_event m r0 r tr n fit d b = go m.plan m.call fit.rs r fit.t (copy_aims m fit.t fit.there) fit.fits (not_shown (copy_at m.plan m.call) (answer.Value m.plan.number m.plan.block) d) b
   where
-    go : (p : CopyState) (x : CopyCall) (rs r : Memo) (t : Trail) → CopyAims p x → copy_part.fits x rs r t → copy_at p x ≡ false → copy_by p x n ≡ true → Decides p.me.who p.key (copy_home x) p.block (copy_part.does x n)
+    go : (p : CopyState) (x : CopyCall) (rs r : Memo) (t : Trail) → CopyAims p x → copy_part.fits x rs r t → copy_at p x ≡ false → copy_by p x n ≡ true → DecidesMap p.me.who p.key (copy_home x) p.block (copy_part.does x n)
     go p (First w) rs r t q f d b = cc
     go p (Second (First c)) rs r t q f d b = rooted p.me p.key p.block c rs r t n q f d b
     go p (Second (Second w)) rs r t q f d b = cc
@@ -307,10 +287,10 @@ recv_start p receiving.Drop = tt
 pub recv_aims : (m : RecvCalls) (t : Trail) → after_all recv_parts (recv_call_at m.plan m.plan.point) t ≡ m.call → RecvAims m.plan m.call
 recv_aims m t there = subst (RecvAims m.plan) there (kept_along recv_parts (RecvAims m.plan) (recv_kept m.plan) (recv_call_at m.plan m.plan.point) t (recv_start m.plan m.plan.point))
 
-pub recv_event : (m : RecvCalls) (r0 r : Memo) (tr : Trail) (n : ℕ) → CallsFits recv_parts recv_plan m r0 r tr → recv_effect m ≡ None → recv_by m.plan m.call n ≡ true → Decides m.plan.me.who m.plan.key (recv_home m.call) m.plan.block (calls_does recv_parts recv_plan m n)
+pub recv_event : (m : RecvCalls) (r0 r : Memo) (tr : Trail) (n : ℕ) → CallsFits recv_parts recv_plan m r0 r tr → recv_effect m ≡ None → recv_by m.plan m.call n ≡ true → DecidesMap m.plan.me.who m.plan.key (recv_home m.call) m.plan.block (calls_does recv_parts recv_plan m n)
 recv_event m r0 r tr n fit d b = go m.plan m.call fit.rs r fit.t (recv_aims m fit.t fit.there) fit.fits (not_shown (recv_at m.plan m.call) (answer.Value m.plan.number m.plan.block) d) b
   where
-    go : (p : RecvState) (x : RecvCall) (rs r : Memo) (t : Trail) → RecvAims p x → recv_part.fits x rs r t → recv_at p x ≡ false → recv_by p x n ≡ true → Decides p.me.who p.key (recv_home x) p.block (recv_part.does x n)
+    go : (p : RecvState) (x : RecvCall) (rs r : Memo) (t : Trail) → RecvAims p x → recv_part.fits x rs r t → recv_at p x ≡ false → recv_by p x n ≡ true → DecidesMap p.me.who p.key (recv_home x) p.block (recv_part.does x n)
     go p (First (First w)) rs r t q f d b = cc
     go p (First (Second w)) rs r t q f d b = cc
     go p (Second (First c)) rs r t q f d b = rooted p.me p.key p.block c rs r t n q f d b

@@ -9,8 +9,8 @@ use Rattle.shm_graph.specs.{Held.{HeldAt, PartTie, is_loose}, Ops.cover_of, Tabl
 use Rattle.shm_graph.specs.Views.{own_word, targets, view}
 use Rattle.shm_graph.specs.Events as event
 use Rattle.shm_words.specs.Tags.{tag_refs}
-use Rattle.shm_calls.specs.{declared.or.Or.TheVariants.{First, Second}, CallsControl.calls_does, CallsFit.CallsFits}
-use Rattle.shm_calls.specs.Parts.{IsHeld}
+use Rattle.plans.specs.{declared.or.Or.TheVariants.{First, Second}, CallsControl.calls_does, CallsFit.CallsFits}
+use Rattle.plans.specs.Parts.{IsHeld}
 use Rattle.shm_alloc.specs.{declared.point.AllocPoint.AllocPoint, Alloc.Events.alloc_event_at}
 use Rattle.shm_alloc.specs.declared.point.AllocPoint.TheVariants as alloc
 use Rattle.shm_count.specs.declared.{point.{Aim.Aim, Half.Half, StepPoint.StepPoint}, tear_point.TearPoint.TearPoint}
@@ -25,8 +25,8 @@ use Rattle.shm_count.specs.declared.tear_point.TearPoint.TheVariants as tear
 use Rattle.shm_count.specs.declared.up_root.RootingPoint.TheVariants as rooting_at
 use Rattle.shm_ref.specs.{DropRoot.{Control.drop_parts, drop_plan}, DropRoots.Control.RootsCall}
 use Rattle.shm_script.specs.declared.log.Answer.TheVariants as answer
-use Rattle.shm_steps.specs.{Walking.IsVacant, Reparting.{IsTagged, chain_in, sight}}
-use Rattle.shm_steps.proofs.Partitions.Reparted.{home_so, tagged_own}
+use Rattle.kind_parts.specs.{Walking.IsVacant, Reparting.{IsTagged, chain_in, sight}}
+use Rattle.kind_parts.proofs.Partitions.Reparted.{home_so, tagged_own}
 use Rattle.shm_table.specs.declared.{copy.CopyState.CopyState, enter.{EnterPoint.EnterPoint, EnterState.EnterState}}
 use Rattle.shm_table.specs.declared.{open_table.{OpenPoint.OpenPoint, OpenState.OpenState}, put.PutState.PutState}
 use Rattle.shm_table.specs.declared.{put_root.PutRootState.PutRootState, recv.RecvState.RecvState}
@@ -43,7 +43,7 @@ use Rattle.shm_table.specs.Locate.{Control.{LocateCall, locate_parts, LocateCall
 use Rattle.shm_table.specs.OpenTable.{Control.{OpenCall, open_parts}, open_plan}
 use Rattle.shm_table.specs.Put.{Control.{PutCall, PutCalls, put_parts}, put_part, put_plan}
 use Rattle.shm_table.specs.PutRoot.Control.{EnterCalls, OpenCalls, PutRootCall, PutRootCalls, ReplaceCalls, put_root_parts}
-use Rattle.shm_table.specs.PutRoot.{Decides, Begins, Leads, Replaces, put_root_part, put_root_plan}
+use Rattle.shm_table.specs.PutRoot.{DecidesMap, Begins, Leads, Replaces, put_root_part, put_root_plan}
 use Rattle.shm_table.specs.RecvKey.Control.{FetchHeadCalls, RecvCall, RecvCalls, TakeHeadCalls, recv_parts}
 use Rattle.shm_table.specs.{RecvKey.{recv_part, recv_plan}, Replace.Control.{ReplaceCall, replace_parts}}
 use Rattle.shm_table.specs.{Replace.replace_plan, TakeHead.{Control.{TakeHeadCall, take_head_parts}, take_head_plan}}
@@ -75,7 +75,7 @@ Told key home (event.Up c p x) = p ≡ Body home (key % 16)
 Told key home (event.ChangeUp c p x y) = (b : ℕ) × (i : ℕ) × (p ≡ Body b i)
 Told key home e = ⊥
 
-told : {c key home v : ℕ} {e : Event} → Decides c key home v e → Told key home e
+told : {c key home v : ℕ} {e : Event} → DecidesMap c key home v e → Told key home e
 told {c} {key} {home} {v} (Begins x) = refl
 told {c} {key} {home} {v} (Leads f x) = (home, key % 16, refl)
 told {c} {key} {home} {v} (Replaces x old) = (x, 1, refl)
@@ -248,7 +248,7 @@ entry_apart me key v n home first k b next value r0 r h same = go h.holds
 at_entry : (m : EnterState) (next value i : ℕ) (r0 r : Memo) → IsOnTheWay m next value r0 r → Body m.entry i ≡ Body m.home (m.key % 16) → ⊥
 at_entry m next value i r0 r (n, h) e = entry_apart m.me m.key m.value n m.home m.first m.root m.entry next value r0 r h (ap block_in e)
 
-enter_earlier : (c : EnterCalls) (rs r : Memo) (t : Trail) (n v : ℕ) → CallsFits enter_parts enter_plan c rs r t → enter_decided c ≡ false → enter_by c.plan c.call n ≡ false → Decides c.plan.me.who c.plan.key c.plan.home v (calls_does enter_parts enter_plan c n) → ⊥
+enter_earlier : (c : EnterCalls) (rs r : Memo) (t : Trail) (n v : ℕ) → CallsFits enter_parts enter_plan c rs r t → enter_decided c ≡ false → enter_by c.plan c.call n ≡ false → DecidesMap c.plan.me.who c.plan.key c.plan.home v (calls_does enter_parts enter_plan c n) → ⊥
 enter_earlier c rs r t n v f d b x = go c.plan c.plan.point c.call (enter_aims c f.t f.there) rs f.rs f.before f.es f.knows d b (told x)
   where
     go : (m : EnterState) (y : EnterPoint) (x : EnterCall) → EnterAims m y x → (r0 r : Memo) (tr : Trail) (es : List Event) → EnterKnows (record m { point = y }) y r0 r tr es → enter_at (record m { point = y }) x ≡ false → enter_by (record m { point = y }) x n ≡ false
@@ -263,49 +263,49 @@ enter_earlier c rs r t n v f d b x = go c.plan c.plan.point c.call (enter_aims c
 
 -- ---- a value block comes into the own table
 
-pub put_root_earlier : (m : PutRootCalls) (r0 r : Memo) (tr : Trail) (n v : ℕ) → CallsFits put_root_parts put_root_plan m r0 r tr → put_root_decided m ≡ false → put_root_by m.plan m.call n ≡ false → Decides m.plan.me.who m.plan.key m.plan.home v (calls_does put_root_parts put_root_plan m n) → ⊥
+pub put_root_earlier : (m : PutRootCalls) (r0 r : Memo) (tr : Trail) (n v : ℕ) → CallsFits put_root_parts put_root_plan m r0 r tr → put_root_decided m ≡ false → put_root_by m.plan m.call n ≡ false → DecidesMap m.plan.me.who m.plan.key m.plan.home v (calls_does put_root_parts put_root_plan m n) → ⊥
 put_root_earlier m r0 r tr n v fit d b x = go m.plan m.call fit.rs r fit.t (root_aims m fit.t fit.there) fit.fits d b x
   where
-    go : (p : PutRootState) (x : PutRootCall) (rs r : Memo) (t : Trail) → RootAims p x → put_root_part.fits x rs r t → put_root_at p x ≡ false → put_root_by p x n ≡ false → Decides p.me.who p.key p.home v (put_root_part.does x n) → ⊥
+    go : (p : PutRootState) (x : PutRootCall) (rs r : Memo) (t : Trail) → RootAims p x → put_root_part.fits x rs r t → put_root_at p x ≡ false → put_root_by p x n ≡ false → DecidesMap p.me.who p.key p.home v (put_root_part.does x n) → ⊥
     go p (First (First w)) rs r t q f d b z = calm_told p.key p.home _ (calm_open w n) (told z)
     go p (First (Second w)) rs r t q f d b z = calm_told p.key p.home _ (calm_locate w n) (told z)
     go p (Second (First (First c))) rs r t q f d b z = subst (Told p.key p.home) (replace_quiet c n d b) (told z)
     go p (Second (First (Second c))) rs r t (i, j, k) f d b z =
         enter_earlier c rs r t n v f d b
-        (subst (λ (y : Me). Decides y.who c.plan.key c.plan.home v (calls_does enter_parts enter_plan c n)) (sym i)
-        (subst (λ y. Decides p.me.who y c.plan.home v (calls_does enter_parts enter_plan c n)) (sym j)
-        (subst (λ y. Decides p.me.who p.key y v (calls_does enter_parts enter_plan c n)) (sym k) z)))
+        (subst (λ (y : Me). DecidesMap y.who c.plan.key c.plan.home v (calls_does enter_parts enter_plan c n)) (sym i)
+        (subst (λ y. DecidesMap p.me.who y c.plan.home v (calls_does enter_parts enter_plan c n)) (sym j)
+        (subst (λ y. DecidesMap p.me.who p.key y v (calls_does enter_parts enter_plan c n)) (sym k) z)))
     go p (Second (Second (First w))) rs r t q f d b z = calm_told p.key p.home event.Nothing tt (told z)
     go p (Second (Second (Second w))) rs r t q f d b z = calm_told p.key p.home _ (calm_drop w n) (told z)
 
 -- of one that has this key
-root_earlier : (me : Me) (key u : ℕ) (c : PutRootCalls) (rs r : Memo) (t : Trail) (n v : ℕ) → RootOf me key u c.plan → CallsFits put_root_parts put_root_plan c rs r t → put_root_decided c ≡ false → put_root_by c.plan c.call n ≡ false → Decides me.who key c.plan.home v (calls_does put_root_parts put_root_plan c n) → ⊥
+root_earlier : (me : Me) (key u : ℕ) (c : PutRootCalls) (rs r : Memo) (t : Trail) (n v : ℕ) → RootOf me key u c.plan → CallsFits put_root_parts put_root_plan c rs r t → put_root_decided c ≡ false → put_root_by c.plan c.call n ≡ false → DecidesMap me.who key c.plan.home v (calls_does put_root_parts put_root_plan c n) → ⊥
 root_earlier me key u c rs r t n v (i, j, k) f d b z =
     put_root_earlier c rs r t n v f d b
-    (subst (λ (y : Me). Decides y.who c.plan.key c.plan.home v (calls_does put_root_parts put_root_plan c n)) (sym i) (subst (λ y. Decides me.who y c.plan.home v (calls_does put_root_parts put_root_plan c n)) (sym j) z))
+    (subst (λ (y : Me). DecidesMap y.who c.plan.key c.plan.home v (calls_does put_root_parts put_root_plan c n)) (sym i) (subst (λ y. DecidesMap me.who y c.plan.home v (calls_does put_root_parts put_root_plan c n)) (sym j) z))
 
 -- ---- puts, copies and receives
 
-pub put_earlier : (m : PutCalls) (r0 r : Memo) (tr : Trail) (n v : ℕ) → CallsFits put_parts put_plan m r0 r tr → put_effect m ≡ None → put_by m.plan m.call n ≡ false → Decides m.plan.me.who m.plan.key (put_home m.call) v (calls_does put_parts put_plan m n) → ⊥
+pub put_earlier : (m : PutCalls) (r0 r : Memo) (tr : Trail) (n v : ℕ) → CallsFits put_parts put_plan m r0 r tr → put_effect m ≡ None → put_by m.plan m.call n ≡ false → DecidesMap m.plan.me.who m.plan.key (put_home m.call) v (calls_does put_parts put_plan m n) → ⊥
 put_earlier m r0 r tr n v fit d b z = go m.plan m.call fit.rs r fit.t (put_aims m fit.t fit.there) fit.fits (not_shown (put_at m.plan m.call) (answer.Stored m.plan.block) d) b z
   where
-    go : (p : PutState) (x : PutCall) (rs r : Memo) (t : Trail) → PutAims p x → put_part.fits x rs r t → put_at p x ≡ false → put_by p x n ≡ false → Decides p.me.who p.key (put_home x) v (put_part.does x n) → ⊥
+    go : (p : PutState) (x : PutCall) (rs r : Memo) (t : Trail) → PutAims p x → put_part.fits x rs r t → put_at p x ≡ false → put_by p x n ≡ false → DecidesMap p.me.who p.key (put_home x) v (put_part.does x n) → ⊥
     go p (First a) rs r t q f d b z = calm_told p.key 0 _ (calm_alloc a.me a.point n) (told z)
     go p (Second (First c)) rs r t q f d b z = root_earlier p.me p.key p.block c rs r t n v q f d b z
     go p (Second (Second w)) rs r t q f d b z = calm_told p.key 0 _ (calm_drop w n) (told z)
 
-pub copy_earlier : (m : CopyCalls) (r0 r : Memo) (tr : Trail) (n v : ℕ) → CallsFits copy_parts copy_plan m r0 r tr → copy_effect m ≡ None → copy_by m.plan m.call n ≡ false → Decides m.plan.me.who m.plan.key (copy_home m.call) v (calls_does copy_parts copy_plan m n) → ⊥
+pub copy_earlier : (m : CopyCalls) (r0 r : Memo) (tr : Trail) (n v : ℕ) → CallsFits copy_parts copy_plan m r0 r tr → copy_effect m ≡ None → copy_by m.plan m.call n ≡ false → DecidesMap m.plan.me.who m.plan.key (copy_home m.call) v (calls_does copy_parts copy_plan m n) → ⊥
 copy_earlier m r0 r tr n v fit d b z = go m.plan m.call fit.rs r fit.t (copy_aims m fit.t fit.there) fit.fits (not_shown (copy_at m.plan m.call) (answer.Value m.plan.number m.plan.block) d) b z
   where
-    go : (p : CopyState) (x : CopyCall) (rs r : Memo) (t : Trail) → CopyAims p x → copy_part.fits x rs r t → copy_at p x ≡ false → copy_by p x n ≡ false → Decides p.me.who p.key (copy_home x) v (copy_part.does x n) → ⊥
+    go : (p : CopyState) (x : CopyCall) (rs r : Memo) (t : Trail) → CopyAims p x → copy_part.fits x rs r t → copy_at p x ≡ false → copy_by p x n ≡ false → DecidesMap p.me.who p.key (copy_home x) v (copy_part.does x n) → ⊥
     go p (First w) rs r t q f d b z = calm_told p.key 0 _ (calm_fetch w n) (told z)
     go p (Second (First c)) rs r t q f d b z = root_earlier p.me p.key p.block c rs r t n v q f d b z
     go p (Second (Second w)) rs r t q f d b z = calm_told p.key 0 _ (calm_drop w n) (told z)
 
-pub recv_earlier : (m : RecvCalls) (r0 r : Memo) (tr : Trail) (n v : ℕ) → CallsFits recv_parts recv_plan m r0 r tr → recv_effect m ≡ None → recv_by m.plan m.call n ≡ false → Decides m.plan.me.who m.plan.key (recv_home m.call) v (calls_does recv_parts recv_plan m n) → ⊥
+pub recv_earlier : (m : RecvCalls) (r0 r : Memo) (tr : Trail) (n v : ℕ) → CallsFits recv_parts recv_plan m r0 r tr → recv_effect m ≡ None → recv_by m.plan m.call n ≡ false → DecidesMap m.plan.me.who m.plan.key (recv_home m.call) v (calls_does recv_parts recv_plan m n) → ⊥
 recv_earlier m r0 r tr n v fit d b z = go m.plan m.call fit.rs r fit.t (recv_aims m fit.t fit.there) fit.fits (not_shown (recv_at m.plan m.call) (answer.Value m.plan.number m.plan.block) d) b z
   where
-    go : (p : RecvState) (x : RecvCall) (rs r : Memo) (t : Trail) → RecvAims p x → recv_part.fits x rs r t → recv_at p x ≡ false → recv_by p x n ≡ false → Decides p.me.who p.key (recv_home x) v (recv_part.does x n) → ⊥
+    go : (p : RecvState) (x : RecvCall) (rs r : Memo) (t : Trail) → RecvAims p x → recv_part.fits x rs r t → recv_at p x ≡ false → recv_by p x n ≡ false → DecidesMap p.me.who p.key (recv_home x) v (recv_part.does x n) → ⊥
     go p (First (First w)) rs r t q f d b z = calm_told p.key 0 _ (calm_fetch_head w n) (told z)
     go p (First (Second w)) rs r t q f d b z = calm_told p.key 0 _ (calm_take w n) (told z)
     go p (Second (First c)) rs r t q f d b z = root_earlier p.me p.key p.block c rs r t n v q f d b z

@@ -2,10 +2,10 @@
 use Rattle.std.proofs.Common.{◌≡◌, ℕ, ◌%◌, Bool, true, false, refl, sym, ap, ◌∙◌}
 use Rattle.std.specs.Prelude.{◌&&◌, ◌==◌, if◌then◌else◌, is_ok, Option, Some, None, Result, Ok, Err}
 use Rattle.shm_words.specs.Layout.{address_limit}
-use Rattle.shm_calls.specs.{declared.or.Or.{Or, TheVariants.{First, Second}}, CallsControl.calls_control}
-use Rattle.shm_calls.specs.Deciding.{Decides, Foretells, calls_decides, calls_foretell, either}
-use Rattle.shm_calls.specs.Proved.Deciding.{decides_where, keeps_decided, mapped_foretells, or_decides, or_foretells}
-use Rattle.shm_calls.specs.{Either.or_control, Words.word_control}
+use Rattle.plans.specs.{declared.or.Or.{Or, TheVariants.{First, Second}}, CallsControl.calls_control}
+use Rattle.plans.specs.Deciding.{Decides, Foretells, calls_decides, calls_foretell, either}
+use Rattle.plans.specs.Proved.Deciding.{decides_where, keeps_decided, mapped_foretells, or_decides, or_foretells}
+use Rattle.plans.specs.{Either.or_control, Words.word_control}
 use Rattle.shm_graph.specs.Laws.{Control}
 use Rattle.shm_count.specs.declared.answer.{EraSpent.EraSpent as AnEraSpent, UpFault.UpFault}
 use Rattle.shm_count.specs.{declared.answer.UpFault.TheVariants.{CountFull, EraSpent}, Step.Control.step_control}

@@ -7,10 +7,11 @@ use Rattle.shm_graph.specs.{declared.{run.Move.TheVariants.Word, spot.Spot.TheVa
 use Rattle.shm_graph.specs.{Runs.{Held, IsMove, State, Turned, memos_of, moved}, Spots.see}
 use Rattle.shm_graph.specs.Tells.{GoesOn, after_all, machine_steps}
 use Rattle.shm_graph.proofs.Runs.Running.{Leads-append}
-use Rattle.shm_calls.specs.{declared.or.Or.TheVariants.{First, Second}, CallsControl.{answered, called_on, calls_of}}
-use Rattle.shm_calls.specs.{CallsFit.{CallsFits, CallsGives}, Proved.CallsKeep.{calls_begin, calls_laws}}
+use Rattle.plans.specs.{declared.or.Or.TheVariants.{First, Second}, CallsControl.{answered, called_on, calls_of}}
+use Rattle.plans.specs.{CallsFit.{CallsFits, CallsGives}, Proved.CallsKeep.{calls_begin, calls_laws}}
+use Rattle.plans.specs.Proved.PlanKept.{kept_along}
 use Rattle.shm_count.specs.Calling.{IsCall}
-use Rattle.shm_steps.specs.Reparting.{map_in}
+use Rattle.kind_parts.specs.Reparting.{map_in}
 use Rattle.shm_script.specs.declared.log.Answer.{Answer}
 use Rattle.shm_script.specs.declared.line.Line.TheVariants as line
 use Rattle.shm_script.specs.declared.log.Answer.TheVariants as answer
@@ -25,9 +26,8 @@ use Rattle.shm_table.specs.Get.{Finding.{FindsAt, IsAnswered}, get_plan, Tells.{
 use Rattle.shm_table.specs.Locate.{Control.{locating, locate_steered, LocateCalls, locate_control}, MayLocate}
 use Rattle.shm_table.specs.Machines.Get.{get}
 use Rattle.shm_table.specs.Unlatch.Control.{UnlatchCalls, unlatch_control, unlatching, unlatch_steered}
-use Rattle.shm_table.proofs.{CallStates.{IsCalled, IsNext, comes, next_step}, DecidingEvents.kept_along}
-use Rattle.shm_table.proofs.{Running.Roots.start_kept, ValueWords.word_stays}
-use Rattle.shm_table.proofs.Within.{answered_within, goes_within, steps_within}
+use Rattle.shm_table.proofs.{CallStates.{IsCalled, IsNext, comes, next_step}, Running.Roots.start_kept}
+use Rattle.shm_table.proofs.{ValueWords.word_stays, Within.{answered_within, goes_within, steps_within}}
 
 -- ---- by the control: which word steps it makes where it answers a number and a block
 

@@ -6,8 +6,8 @@ use Rattle.shm_graph.specs.{Core.core, Events.Event, Views.own_word}
 use Rattle.shm_script.specs.declared.{line.Line.Line, log.Answer.Answer}
 use Rattle.shm_script.specs.declared.line.Line.TheVariants as line
 use Rattle.shm_script.specs.declared.log.Answer.TheVariants as answer
-use Rattle.shm_steps.specs.Reparting.{map_in}
-use Rattle.shm_count.specs.{Roots.root_word, Tear.Memos.is_lasting}
+use Rattle.kind_parts.specs.Reparting.{map_in}
+use Rattle.shm_count.specs.{Roots.root_word, Lasting.is_lasting}
 use Rattle.shm_table.specs.{declared.answer.PutFault.PutFault, Answers.fault_answer, Get.Visited, OpenTable.HomeSo}
 use Rattle.shm_table.specs.{PutRoot.IsEraSpent, Proved.PutRoot.Undoing.still_same}
 use Rattle.shm_table.specs.Refusals.{CommandLeaves, is_refusal, is_spent, taken_by}
@@ -144,6 +144,4 @@ module _ (me : Me) (r0 r : Memo) (tr : Trail) (es : List Event) where
   kept (line.Send to key) answer.RootsFull is h = absurd h
   kept (line.Send to key) (answer.Full g b) is h = absurd h
   kept (line.Send to key) (answer.Empty x) is h = absurd h
-  kept l answer.Ok is h = absurd (false≢true is)
-  kept l (answer.Stored b) is h = absurd (false≢true is)
-  kept l (answer.Value n b) is h = absurd (false≢true is)
+  kept l _ is h = absurd (false≢true is)

@@ -72,11 +72,7 @@ module _ (c : ℕ) (p : Spot) (flat : (b i : ℕ) → same_spot (Body b i) p ≡
     where
       taken : (l : Line) → named_after p (taken_by c l k b ∷ (ps ++ gs)) x ≡ named_after p (ps ++ gs) (if same_spot (Root c k) p then b else x)
       taken (line.Put key n) = refl
-      taken (line.Copy key a other) = refl
-      taken (line.Del key) = refl
-      taken (line.Get a key) = refl
-      taken (line.Send to key) = refl
-      taken (line.Recv from key) = refl
+      taken _ = refl
 
 module _ (c : ℕ) (l : Line) (before after : ℕ) (es : List Event) (h : IsTakenBack c (taken_by c l) before after es) where
   -- a root that was empty is empty

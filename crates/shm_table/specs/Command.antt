@@ -6,9 +6,9 @@ pub mod Operates
 use Rattle.std.specs.Prelude.{◌≢◌, ℕ, ◌<◌, Bool, false, Option}
 use Rattle.shm_graph.specs.{declared.{ask.Me.Me, memo.Memo.Memo}, Asks.Trail, Events.Event, Laws.Control}
 use Rattle.shm_graph.specs.Mapped.{MappedGives, mapped}
-use Rattle.shm_calls.specs.declared.{calls.Calls.Calls, or.Or.{Or, TheVariants.{First, Second}}}
-use Rattle.shm_calls.specs.{CallsControl.{calls_does, calls_of}, CallsFit.{CallsFits, CallsGives}, Deciding.either}
-use Rattle.shm_calls.specs.Either.{OrFits, OrGives, or_control, or_does}
+use Rattle.plans.specs.declared.{calls.Calls.Calls, or.Or.{Or, TheVariants.{First, Second}}}
+use Rattle.plans.specs.{CallsControl.{calls_does, calls_of}, CallsFit.{CallsFits, CallsGives}, Deciding.either}
+use Rattle.plans.specs.Either.{OrFits, OrGives, or_control, or_does}
 use Rattle.shm_script.specs.declared.{line.Line.Line, log.Answer.Answer}
 use Rattle.shm_script.specs.declared.line.Line.TheVariants as line
 use Rattle.shm_table.specs.declared.{copy.CopyState.CopyState, del.DelState.DelState, get.GetState.GetState}
@@ -43,13 +43,13 @@ abbrev pub command_control : Control CommandCall Answer
 command_control = mapped given command_parts
 
 -- the numbers of identities of a line are of the pool, and what is sent goes to another one, what is received comes from another one
-abbrev pub MayStand : Me → Line → Type 0
-MayStand me (line.Put key n) = Unit {0}
-MayStand me (line.Del key) = Unit {0}
-MayStand me (line.Get a key) = a < me.geometry.clients
-MayStand me (line.Copy key a other) = a < me.geometry.clients
-MayStand me (line.Send to key) = (to < me.geometry.clients) × (me.who ≢ to)
-MayStand me (line.Recv from key) = (from < me.geometry.clients) × (from ≢ me.who)
+abbrev pub LineMayStand : Me → Line → Type 0
+LineMayStand me (line.Put key n) = Unit {0}
+LineMayStand me (line.Del key) = Unit {0}
+LineMayStand me (line.Get a key) = a < me.geometry.clients
+LineMayStand me (line.Copy key a other) = a < me.geometry.clients
+LineMayStand me (line.Send to key) = (to < me.geometry.clients) × (me.who ≢ to)
+LineMayStand me (line.Recv from key) = (from < me.geometry.clients) × (from ≢ me.who)
 
 -- the machine of a line, before its first word step
 abbrev pub command_of : Me → Line → CommandCall

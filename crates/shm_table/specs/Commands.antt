@@ -3,7 +3,7 @@ use Rattle.std.proofs.Common.{◌≡◌, ◌≢◌, ℕ, ◌^◌, ◌<◌, ◌�
 use Rattle.shm_words.specs.Layout.{GeometryFits}
 use Rattle.shm_graph.specs.{declared.{ask.Me.Me, memo.Memo.Memo, spot.Spot.TheVariants.Home}, Agents.recovers}
 use Rattle.shm_graph.specs.{Events.Event, Held.is_loose, Idle.IsIdle, Views.own_word}
-use Rattle.shm_steps.specs.Reparting.{map_in}
+use Rattle.kind_parts.specs.Reparting.{map_in}
 use Rattle.shm_count.specs.Roots.{root_word}
 use Rattle.shm_table.specs.declared.answer.PutFault.{PutFault, TheVariants.{EraSpent, RootsFull, Full, CountFull}}
 use Rattle.shm_table.specs.{PutRoot.{IsDecided, IsEraSpent}, Staying.{IsSpent, MapSet, SameMap}}

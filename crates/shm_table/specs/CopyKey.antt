@@ -6,8 +6,8 @@ use Rattle.std.specs.List.{All, Contains}
 use Rattle.shm_graph.specs.declared.{ask.Me.Me, memo.Memo.Memo, spot.Spot.TheVariants.{Home, Root}}
 use Rattle.shm_graph.specs.{Asks.{Trail, IsWithin}, Bounds.{tear_steps, redo_steps}, Events.Event, Views.own_word}
 use Rattle.shm_graph.specs.Events as event
-use Rattle.shm_calls.specs.{CallsPart.calls_part, Either.or_part, Parts.Part, Plans.Planned}
-use Rattle.shm_steps.specs.Reparting.{map_in}
+use Rattle.plans.specs.{CallsPart.calls_part, Either.or_part, Parts.Part, Plans.Planned}
+use Rattle.kind_parts.specs.Reparting.{map_in}
 use Rattle.shm_count.specs.{Roots.root_word, Tear.Events.{Visit, frees}}
 use Rattle.shm_ref.specs.DropRoot.{Control.drop_parts, drop_plan}
 use Rattle.shm_script.specs.declared.log.Answer.{Answer}

@@ -6,9 +6,8 @@ use Rattle.shm_words.specs.Layout.{GeometryFits}
 use Rattle.shm_graph.specs.{declared.{ask.Me.Me, memo.Memo.Memo, spot.Spot.TheVariants.Home}, Agents.recovers}
 use Rattle.shm_graph.specs.{Asks.{Trail, IsWithin}, Bounds.{tear_steps, redo_steps}, Events.Event, Held.is_loose}
 use Rattle.shm_graph.specs.{Idle.IsIdle, Views.own_word}
-use Rattle.shm_calls.specs.{CallsPart.calls_part, Either.or_part, Parts.{IsHeld, Part}, Plans.Planned}
-use Rattle.shm_calls.specs.Words.{word_control}
-use Rattle.shm_steps.specs.Reparting.{map_in}
+use Rattle.plans.specs.{CallsPart.calls_part, Either.or_part, Parts.{IsHeld, Part}, Plans.Planned, Words.word_control}
+use Rattle.kind_parts.specs.Reparting.{map_in}
 use Rattle.shm_count.specs.{declared.answer.UpFault.{UpFault, TheVariants.{CountFull, EraSpent}}, Roots.root_word}
 use Rattle.shm_count.specs.Tear.Events.{Visit, frees}
 use Rattle.shm_script.specs.declared.log.Answer.{Answer}

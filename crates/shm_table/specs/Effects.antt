@@ -1,6 +1,6 @@
 -- whether the deciding step of a machine over tables was made, and what a command will answer from then on: by their controls alone
 use Rattle.std.specs.Prelude.{ℕ, Bool, true, false, ◌&&◌, is_ok, Option, Some, None}
-use Rattle.shm_calls.specs.Deciding.{either, where_decided}
+use Rattle.plans.specs.Deciding.{either, where_decided}
 use Rattle.shm_count.specs.Step.ExchangeMade.{step_exchanged, step_exchanging}
 use Rattle.shm_queue.specs.Machines.{send}
 use Rattle.shm_script.specs.declared.log.Answer.{Answer}

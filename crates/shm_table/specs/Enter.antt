@@ -6,8 +6,8 @@ use Rattle.shm_graph.specs.{declared.{ask.Me.Me, memo.Memo.Memo}, Agents.recover
 use Rattle.shm_graph.specs.{Bounds.{alloc_steps, change_steps, up_steps}, Events.Event, Idle.IsIdle, Views.own_word}
 use Rattle.shm_graph.specs.declared.spot.Spot.TheVariants as spot
 use Rattle.shm_graph.specs.Events as event
-use Rattle.shm_calls.specs.{Either.or_part, Parts.{IsHeld, Part}, Plans.Planned}
-use Rattle.shm_steps.specs.{Reparting.{sight, IsValue}, Walking.{IsComing, IsVacant}}
+use Rattle.plans.specs.{Either.or_part, Parts.{IsHeld, Part}, Plans.Planned}
+use Rattle.kind_parts.specs.{Reparting.{sight, IsValue}, Walking.{IsComing, IsVacant}}
 use Rattle.shm_count.specs.{Roots.root_word, Slots.Parts.{change_slot_part, up_slot_part}}
 use Rattle.shm_alloc.specs.Alloc.AsPart.{alloc_part}
 use Rattle.shm_table.specs.declared.{answer.PutFault.PutFault, enter.Entered.Entered}

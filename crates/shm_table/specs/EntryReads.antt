@@ -1,7 +1,7 @@
 -- loads of the words of an entry at which a walk along the own partition is, as parts: the walk stays there, or goes on
 use Rattle.std.proofs.Common.{◌≡◌, ◌≢◌, ℕ, List, [], ◌∷◌, ◌++◌}
 use Rattle.shm_graph.specs.declared.{ask.Me.Me, spot.Spot.{Spot, TheVariants.Body}, memo.Memo.Memo, table.Entry.Entry}
-use Rattle.shm_steps.specs.{Reparting.{sight, IsKnown}, Walking.IsSeeking, WordParts.ReferenceLoaded}
+use Rattle.kind_parts.specs.{Reparting.{sight, IsKnown}, Walking.IsSeeking, WordParts.ReferenceLoaded}
 
 -- ---- what is so of a walk after a load
 

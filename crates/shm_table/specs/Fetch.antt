@@ -7,9 +7,9 @@ use Rattle.shm_graph.specs.declared.{ask.Me.Me, memo.Memo.Memo, spot.Spot.TheVar
 use Rattle.shm_graph.specs.{Agents.recovers, Asks.{Trail, IsWithin}, Bounds.up_steps, Events.Event, Idle.IsIdle}
 use Rattle.shm_graph.specs.{Reach.is_reached, Views.own_word}
 use Rattle.shm_graph.specs.Events as event
-use Rattle.shm_calls.specs.{declared.word.Word.Word, CallsPart.calls_part, Either.or_part, Parts.{IsHeld, Part}}
-use Rattle.shm_calls.specs.{Plans.Planned, Words.{word_control, word_part}}
-use Rattle.shm_steps.specs.{Reparting.{sight, map_in, IsValue}, WordParts.{ReferenceLoaded, WordLoaded}}
+use Rattle.plans.specs.{declared.word.Word.Word, CallsPart.calls_part, Either.or_part, Parts.{IsHeld, Part}}
+use Rattle.plans.specs.{Plans.Planned, Words.{word_control, word_part}}
+use Rattle.kind_parts.specs.{Reparting.{sight, map_in, IsValue}, WordParts.{ReferenceLoaded, WordLoaded}}
 use Rattle.shm_count.specs.{Roots.root_word, UpRoot.AsPart.up_root_part}
 use Rattle.shm_ref.specs.AskedParts.{asked_part}
 use Rattle.shm_table.specs.declared.{answer.PutFault.PutFault, fetch.FetchPoint.FetchPoint}

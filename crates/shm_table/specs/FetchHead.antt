@@ -7,8 +7,9 @@ use Rattle.shm_graph.specs.{Asks.{Trail, IsWithin}, Bounds.up_steps, Events.Even
 use Rattle.shm_graph.specs.Views.{own_word}
 use Rattle.shm_graph.specs.declared.spot.Spot.TheVariants as spot
 use Rattle.shm_graph.specs.Events as event
-use Rattle.shm_calls.specs.{Either.or_part, Grown.grown, Parts.{IsHeld, Part}, Plans.Planned, Words.word_part}
-use Rattle.shm_steps.specs.{Reparting.{sight, IsValue}, WordParts.{CountLoaded, HeadSlotLoaded, IsHeadSlot, WordLoaded}}
+use Rattle.plans.specs.{Either.or_part, Grown.grown, Parts.{IsHeld, Part}, Plans.Planned, Words.word_part}
+use Rattle.kind_parts.specs.Reparting.{sight, IsValue}
+use Rattle.kind_parts.specs.WordParts.{CountLoaded, HeadSlotLoaded, IsHeadSlot, WordLoaded}
 use Rattle.shm_count.specs.{Roots.root_word, Tear.Memos.Knows, UpRoot.AsPart.up_root_part}
 use Rattle.shm_queue.specs.{QueueWords.TailSeen, Take.{IsHeadRead, IsItemRead, MayTakeFrom, TakeEmpty}}
 use Rattle.shm_table.specs.declared.{answer.PutFault.PutFault, fetch_head.FetchHeadPoint.FetchHeadPoint}

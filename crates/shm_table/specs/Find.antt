@@ -9,9 +9,9 @@ use Rattle.shm_graph.specs.declared.{ask.Me.Me, spot.Spot.{Spot, TheVariants.{Ho
 use Rattle.shm_graph.specs.declared.{memo.{Op.TheVariants.Nothing, Stored.Stored}, table.Entry.Entry}
 use Rattle.shm_graph.specs.{Asks.{Trail, pair}, Core.core, Events.Event, Held.is_loose}
 use Rattle.shm_graph.specs.{Telling.{Directory, Entry as AnEntry}, Views.own_word}
-use Rattle.shm_steps.specs.{Conditions.IsHere, Reparting.{sight, map_in, IsKnown}, Walking.{IsIn, IsSeeking, IsVacant}}
-use Rattle.shm_steps.specs.WordParts.{HomeLooked, ReferenceLoaded, WordLoaded}
-use Rattle.shm_calls.specs.{declared.word.Word.Word, Parts.Part, Plans.Planned, Words.word_part}
+use Rattle.kind_parts.specs.{Conditions.IsHere, Reparting.{sight, map_in, IsKnown}, Walking.{IsIn, IsSeeking, IsVacant}}
+use Rattle.kind_parts.specs.WordParts.{HomeLooked, ReferenceLoaded, WordLoaded}
+use Rattle.plans.specs.{declared.word.Word.Word, Parts.Part, Plans.Planned, Words.word_part}
 use Rattle.shm_ref.specs.AskedParts.{asked_part}
 use Rattle.shm_table.specs.declared.find.{FindPoint.FindPoint, FindState.FindState, Found.Found}
 use Rattle.shm_table.specs.{declared.find.Found.TheVariants.{Absent, At}, EntryReads.EntryRead}

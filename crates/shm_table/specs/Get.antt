@@ -9,9 +9,9 @@ use Rattle.shm_words.specs.Layout.{total_of}
 use Rattle.shm_graph.specs.declared.{ask.Me.Me, memo.{Memo.Memo, Stored.Stored}, spot.Spot.Spot}
 use Rattle.shm_graph.specs.{declared.spot.Spot.TheVariants.{Hold, Body}, Asks.{Trail, pair, IsWithin}, Core.core}
 use Rattle.shm_graph.specs.{Events.Event, Spots.same_spot, Telling.{Entry as AnEntry, Value as AValue}, Views.own_word}
-use Rattle.shm_calls.specs.{declared.word.Word.Word, CallsPart.calls_part, Either.or_part, Parts.{IsHeld, Part}}
-use Rattle.shm_calls.specs.{Plans.Planned, Words.{word_control, word_part}}
-use Rattle.shm_steps.specs.{Reparting.map_in, Walking.IsIn, WordParts.{ReferenceLoaded, WordLoaded}}
+use Rattle.plans.specs.{declared.word.Word.Word, CallsPart.calls_part, Either.or_part, Parts.{IsHeld, Part}}
+use Rattle.plans.specs.{Plans.Planned, Words.{word_control, word_part}}
+use Rattle.kind_parts.specs.{Reparting.map_in, Walking.IsIn, WordParts.{ReferenceLoaded, WordLoaded}}
 use Rattle.shm_ref.specs.AskedParts.{asked_part}
 use Rattle.shm_script.specs.declared.log.Answer.{Answer}
 use Rattle.shm_script.specs.declared.line.Line.TheVariants as line

@@ -4,7 +4,7 @@ use Rattle.std.specs.Prelude.{◌≡◌, ℕ, ◌<◌, false, None, List, [], �
 use Rattle.shm_words.specs.Layout.{GeometryFits}
 use Rattle.shm_graph.specs.{declared.{ask.Me.Me, memo.Memo.Memo, spot.Spot.Spot}, Asks.{Trail, IsWithin}, Core.core}
 use Rattle.shm_graph.specs.{Events.Event, Held.is_loose, Idle.IsIdle, Views.own_word}
-use Rattle.shm_calls.specs.{CallsPart.calls_part, Either.or_part, Parts.Part, Plans.Planned, Words.word_control}
+use Rattle.plans.specs.{CallsPart.calls_part, Either.or_part, Parts.Part, Plans.Planned, Words.word_control}
 use Rattle.shm_ref.specs.Hold.{hold_plan}
 use Rattle.shm_table.specs.declared.{find.Found.Found, locate.LocatePoint.{LocatePoint, TheVariants.Search}}
 use Rattle.shm_table.specs.{declared.locate.LocateState.LocateState, Find.{Control.finding, FindLeaves, find_plan}}

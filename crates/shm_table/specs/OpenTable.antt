@@ -7,8 +7,8 @@ use Rattle.shm_graph.specs.{declared.{ask.Me.Me, memo.Memo.Memo, spot.Spot.TheVa
 use Rattle.shm_graph.specs.{Asks.{Trail, IsWithin}, Bounds.{alloc_steps, tear_steps, up_steps, redo_steps}, Core.core}
 use Rattle.shm_graph.specs.{Events.Event, Held.is_loose, Idle.IsIdle, Views.own_word}
 use Rattle.shm_graph.specs.Events as event
-use Rattle.shm_steps.specs.Reparting.{sight, IsBare}
-use Rattle.shm_calls.specs.{CallsPart.calls_part, Either.or_part, Parts.{IsHeld, Part}, Plans.Planned}
+use Rattle.kind_parts.specs.Reparting.{sight, IsBare}
+use Rattle.plans.specs.{CallsPart.calls_part, Either.or_part, Parts.{IsHeld, Part}, Plans.Planned}
 use Rattle.shm_count.specs.{declared.{answer.UpFault.UpFault, point.StepState.StepState}, MadeSteps.made_up_part}
 use Rattle.shm_count.specs.{Roots.root_word, Slots.Parts.up_slot_part, Step.Control.IsInside}
 use Rattle.shm_count.specs.Tear.Events.{Visit, frees}

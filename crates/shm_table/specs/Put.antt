@@ -6,8 +6,8 @@ use Rattle.shm_graph.specs.{declared.{ask.Me.Me, memo.Memo.Memo, spot.Spot.TheVa
 use Rattle.shm_graph.specs.{Asks.{Trail, IsWithin}, Bounds.{alloc_steps, tear_steps, redo_steps}, Events.Event}
 use Rattle.shm_graph.specs.Views.{own_word}
 use Rattle.shm_graph.specs.Events as event
-use Rattle.shm_calls.specs.{CallsPart.calls_part, Either.or_part, Parts.Part, Plans.Planned}
-use Rattle.shm_steps.specs.Reparting.{sight, map_in, IsValue}
+use Rattle.plans.specs.{CallsPart.calls_part, Either.or_part, Parts.Part, Plans.Planned}
+use Rattle.kind_parts.specs.Reparting.{sight, map_in, IsValue}
 use Rattle.shm_alloc.specs.Alloc.AsPart.{alloc_part}
 use Rattle.shm_count.specs.{Roots.root_word, Tear.Events.{Visit, frees}}
 use Rattle.shm_ref.specs.DropRoot.{Control.drop_parts, drop_plan}

@@ -9,9 +9,8 @@ use Rattle.shm_graph.specs.Asks.{Trail, IsWithin}
 use Rattle.shm_graph.specs.{Bounds.{alloc_steps, change_steps, tear_steps, up_steps, redo_steps}, Events.Event}
 use Rattle.shm_graph.specs.{Held.is_loose, Idle.IsIdle, Views.own_word}
 use Rattle.shm_graph.specs.Events as event
-use Rattle.shm_calls.specs.{CallsPart.calls_part, Either.or_part, Parts.{IsHeld, Part}, Plans.Planned}
-use Rattle.shm_calls.specs.Words.{word_control}
-use Rattle.shm_steps.specs.Reparting.{sight, map_in, IsValue}
+use Rattle.plans.specs.{CallsPart.calls_part, Either.or_part, Parts.{IsHeld, Part}, Plans.Planned, Words.word_control}
+use Rattle.kind_parts.specs.Reparting.{sight, map_in, IsValue}
 use Rattle.shm_count.specs.{Roots.root_word, Tear.Events.{Visit, frees}}
 use Rattle.shm_ref.specs.{DropRoot.{Control.drop_parts, drop_plan}, Lefts.RootEvents}
 use Rattle.shm_table.specs.declared.answer.PutFault.{PutFault, TheVariants.EraSpent}
@@ -48,14 +47,14 @@ MayPut me key v r = (n : ℕ) × (k : ℕ) × MayPutRoot me key v n k r
 -- ---- its events, and its word steps
 
 -- the event by which a key comes to have a value block: a new entry begins the chain of its bucket, or an entry has another value
-pub data Decides (c key home v : ℕ) : Event → Type 0 where
-  Begins : (e : ℕ) → Decides c key home v (event.Up c (Body home (key % 16)) e)
-  Leads : (first e : ℕ) → Decides c key home v (event.ChangeUp c (Body home (key % 16)) first e)
-  Replaces : (e old : ℕ) → Decides c key home v (event.ChangeUp c (Body e 1) old v)
+pub data DecidesMap (c key home v : ℕ) : Event → Type 0 where
+  Begins : (e : ℕ) → DecidesMap c key home v (event.Up c (Body home (key % 16)) e)
+  Leads : (first e : ℕ) → DecidesMap c key home v (event.ChangeUp c (Body home (key % 16)) first e)
+  Replaces : (e old : ℕ) → DecidesMap c key home v (event.ChangeUp c (Body e 1) old v)
 
 -- one of the events is such a one
 abbrev pub IsDecided : ℕ → ℕ → ℕ → ℕ → List Event → Type 0
-IsDecided c key home v es = (before : List Event) × (d : Event) × (after : List Event) × (es ≡ before ++ d ∷ after) × Decides c key home v d
+IsDecided c key home v es = (before : List Event) × (d : Event) × (after : List Event) × (es ≡ before ++ d ∷ after) × DecidesMap c key home v d
 
 -- an entry of v was made in a root, it was not linked, and it lost that root
 abbrev pub IsUnlinking : ℕ → ℕ → List Event → Type 0

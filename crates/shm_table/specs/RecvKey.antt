@@ -6,8 +6,8 @@ use Rattle.shm_graph.specs.{declared.{ask.Me.Me, memo.Memo.Memo}, Asks.{Trail, I
 use Rattle.shm_graph.specs.{Bounds.{tear_steps, redo_steps}, Events.Event, MemoAfterStore.lane_with, Views.own_word}
 use Rattle.shm_graph.specs.declared.spot.Spot.TheVariants as spot
 use Rattle.shm_graph.specs.Events as event
-use Rattle.shm_calls.specs.{CallsPart.calls_part, Either.or_part, Parts.{IsHeld, Part}, Plans.Planned}
-use Rattle.shm_steps.specs.Reparting.{map_in}
+use Rattle.plans.specs.{CallsPart.calls_part, Either.or_part, Parts.{IsHeld, Part}, Plans.Planned}
+use Rattle.kind_parts.specs.Reparting.{map_in}
 use Rattle.shm_count.specs.{Roots.root_word, Tear.{Events.{Visit, frees}, Memos.Knows}}
 use Rattle.shm_queue.specs.Take.{TakeEmpty}
 use Rattle.shm_ref.specs.DropRoot.{Control.drop_parts, drop_plan}

@@ -7,9 +7,9 @@ use Rattle.shm_graph.specs.declared.{ask.Me.Me, memo.Memo.Memo, spot.Spot.TheVar
 use Rattle.shm_graph.specs.{Agents.recovers, Asks.{Trail, IsWithin}, Events.Event, MemoAfterStore.{lane_with, with_own}}
 use Rattle.shm_graph.specs.{Views.own_word, Bounds.redo_steps}
 use Rattle.shm_graph.specs.Events as event
-use Rattle.shm_calls.specs.{declared.word.Word.Word, CallsPart.calls_part, Either.or_part, Parts.{IsHeld, Part}}
-use Rattle.shm_calls.specs.{Plans.Planned, Words.{word_control, word_part}}
-use Rattle.shm_steps.specs.{Reparting.map_in, WordParts.ReferenceLoaded}
+use Rattle.plans.specs.{declared.word.Word.Word, CallsPart.calls_part, Either.or_part, Parts.{IsHeld, Part}}
+use Rattle.plans.specs.{Plans.Planned, Words.{word_control, word_part}}
+use Rattle.kind_parts.specs.{Reparting.map_in, WordParts.ReferenceLoaded}
 use Rattle.shm_ref.specs.AskedParts.{asked_part}
 use Rattle.shm_queue.specs.declared.answer.SendFault.{SendFault, TheVariants.{QueueFull, EraSpent, CountFull}}
 use Rattle.shm_queue.specs.Send.{Control.send_parts, send_plan}

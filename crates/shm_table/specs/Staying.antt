@@ -4,8 +4,8 @@ use Rattle.std.specs.Prelude.{◌≡◌, ◌≢◌, ℕ, ◌+◌, ◌^◌, ◌-�
 use Rattle.std.specs.List.{Contains}
 use Rattle.shm_graph.specs.declared.{ask.Me.Me, memo.Memo.Memo, spot.Spot.{Spot, TheVariants.{Era, Hold, Home, Root}}}
 use Rattle.shm_graph.specs.{Core.core, Held.{is_loose, is_slot}, Idle.IsIdle, Spots.same_spot, Views.own_word}
-use Rattle.shm_steps.specs.Reparting.{sight, map_in, IsValue}
-use Rattle.shm_count.specs.{Roots.root_word, Tear.Memos.{is_lasting, Knows}}
+use Rattle.kind_parts.specs.Reparting.{sight, map_in, IsValue}
+use Rattle.shm_count.specs.{Roots.root_word, Lasting.is_lasting, Tear.Memos.Knows}
 use Rattle.shm_table.specs.declared.answer.PutFault.{PutFault, TheVariants.{EraSpent, RootsFull, Full, CountFull}}
 
 -- ---- what stays

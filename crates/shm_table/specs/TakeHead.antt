@@ -6,12 +6,12 @@ use Rattle.shm_graph.specs.{declared.{ask.Me.Me, memo.Memo.Memo}, Asks.{Trail, I
 use Rattle.shm_graph.specs.{MemoAfterStore.head_stored, Views.own_word, Bounds.redo_steps}
 use Rattle.shm_graph.specs.declared.spot.Spot.TheVariants as spot
 use Rattle.shm_graph.specs.Events as event
-use Rattle.shm_steps.specs.{Conditions.IsHere, WordParts.HeadStored}
-use Rattle.shm_calls.specs.{Either.or_part, Parts.{IsHeld, Part}, Plans.Planned, Words.word_part}
+use Rattle.kind_parts.specs.{Conditions.IsHere, WordParts.HeadStored}
+use Rattle.plans.specs.{Either.or_part, Parts.{IsHeld, Part}, Plans.Planned, Words.word_part}
 use Rattle.shm_count.specs.{declared.answer.EraSpent.EraSpent, Roots.root_word, Slots.{Lost, Untouched, emptied}}
 use Rattle.shm_count.specs.{Slots.Parts.down_slot_part, Tear.Memos.Knows}
 use Rattle.shm_table.specs.declared.take_head.TakeHeadPoint.{TakeHeadPoint, TheVariants.{Lower, Store}}
-use Rattle.shm_table.specs.{declared.take_head.TakeHeadState.TakeHeadState, Staying.{IsSpent, Keeps, Laws.Rests}}
+use Rattle.shm_table.specs.{declared.take_head.TakeHeadState.TakeHeadState, Staying.{IsSpent, Keeps, Laws.KeepsRest}}
 use Rattle.shm_table.specs.TakeHead.Control.{TakeHeadAnswer, TakeHeadCall, is_lower, take_head_ask, take_head_steered}
 
 -- ---- memos
@@ -60,7 +60,7 @@ take_head_steps wide = 8 + redo_steps wide
 -- the item is received, and all else is kept; the latch, the own home, the partition, the roots and the zero-count blocks are as before
 pub record HeadTaken (me : Me) (s n b : ℕ) (r0 r : Memo) (tr : Trail) (es : List Event) : Type 0 where
   pub keeps : Keeps me.who (passed_memo me.who s n b r0) r
-  pub rests : Rests me.who r0 r
+  pub rests : KeepsRest me.who r0 r
   pub told : es ≡ event.Down me.who (spot.Slot s me.who (n % 8)) b ∷ []
   pub bound : IsWithin (take_head_steps me.geometry.wide) tr
 

@@ -3,8 +3,8 @@ use Rattle.std.specs.Prelude.{◌≡◌, ℕ, ◌<◌, None, Some, List, [], ◌
 use Rattle.shm_words.specs.Layout.{GeometryFits}
 use Rattle.shm_graph.specs.{declared.{ask.Me.Me, memo.{Memo.Memo, Op.TheVariants.Nothing}}, Asks.{Trail, pair}}
 use Rattle.shm_graph.specs.{Core.core, Events.Event, Reach.unlatched}
-use Rattle.shm_steps.specs.Conditions.{IsHere}
-use Rattle.shm_calls.specs.{declared.word.Word.Word, Parts.Part, Plans.Planned, Words.word_part}
+use Rattle.kind_parts.specs.Conditions.{IsHere}
+use Rattle.plans.specs.{declared.word.Word.Word, Parts.Part, Plans.Planned, Words.word_part}
 use Rattle.shm_ref.specs.{AskedParts.asked_part, Hold.wants}
 use Rattle.shm_table.specs.declared.unlatch.UnlatchPoint.{UnlatchPoint, TheVariants.{Give, Back}}
 use Rattle.shm_table.specs.declared.unlatch.UnlatchState.{UnlatchState}

@@ -7,9 +7,8 @@ use Rattle.shm_graph.specs.declared.{ask.Me.Me, memo.Memo.Memo, spot.Spot.TheVar
 use Rattle.shm_graph.specs.{Agents.recovers, Asks.{Trail, IsWithin}, Bounds.{change_steps, tear_steps}, Events.Event}
 use Rattle.shm_graph.specs.{Idle.IsIdle, Telling.Entry as AnEntry, Views.own_word}
 use Rattle.shm_graph.specs.Events as event
-use Rattle.shm_calls.specs.{declared.word.Word.Word, Either.or_part, Parts.{IsHeld, Part}, Plans.Planned}
-use Rattle.shm_calls.specs.Words.{word_part}
-use Rattle.shm_steps.specs.{Beginning.IsOwnWord, Reparting.{sight, map_in}, Walking.{IsIn, IsSeeking}}
+use Rattle.plans.specs.{declared.word.Word.Word, Either.or_part, Parts.{IsHeld, Part}, Plans.Planned, Words.word_part}
+use Rattle.kind_parts.specs.{Beginning.IsOwnWord, Reparting.{sight, map_in}, Walking.{IsIn, IsSeeking}}
 use Rattle.shm_count.specs.declared.{answer.UpFault.{UpFault, TheVariants.{EraSpent, CountFull}}, point.Aim.Aim}
 use Rattle.shm_count.specs.{declared.point.StepPoint.TheVariants.Era, CountParts.tear_part, Roots.root_word}
 use Rattle.shm_count.specs.Slots.{Lost, MayStepAt, StepCause, Parts.{change_slot_part, down_slot_part}}

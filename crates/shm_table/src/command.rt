@@ -2,9 +2,9 @@
 
 ghost use Rattle.std.specs.Prelude.{◌≡◌, ◌<◌};
 ghost use Rattle.shm_words.specs.Layout.{GeometryFits};
-ghost use Rattle.shm_calls.specs.Deciding.{either};
+ghost use Rattle.plans.specs.Deciding.{either};
 ghost use Rattle.shm_script.specs.Text.{line_spelled};
-ghost use Rattle.shm_table.specs.Command.{CommandFits, CommandGives, MayStand, command_control, command_does, command_effect, command_of};
+ghost use Rattle.shm_table.specs.Command.{CommandFits, CommandGives, LineMayStand, command_control, command_does, command_effect, command_of};
 ghost use Rattle.shm_table.specs.{Command.Operates.{CommandLeaves, CommandMay}, Proved.Command.Laws.command_laws};
 ghost use Rattle.shm_table.specs.Proved.{Command.Operates.command_operation, CopyKey.Laws.copy_laws, Del.Laws.del_laws};
 ghost use Rattle.shm_table.specs.Proved.{Enter.Laws.enter_laws, FetchHead.Laws.fetch_head_laws, Fetch.Laws.fetch_laws};
@@ -20,7 +20,7 @@ use crate::get::Get;
 use crate::put::Put;
 use crate::recv::RecvKey;
 use crate::send_key::SendKey;
-use shm_calls::{Begin, Or};
+use plans::{Begin, Or};
 use shm_graph::{Ask, Machine, Me, Operation, Site, Turn};
 use shm_script::{Answer, Line};
 use std::marker::Model;
@@ -29,9 +29,16 @@ use std::marker::Model;
 type One = Or<Or<Put, CopyKey>, Or<Or<Del, Get>, Or<SendKey, RecvKey>>>;
 
 /// A command: it answers what a script is told of it.
-#[derive(Drop)]
 pub struct Command {
     one: One,
+}
+
+// by hand, so that who lets a command go needn't know what it is made of
+impl Drop for Command {
+    #[inline(always)]
+    fn drop(self) {
+        let Command { one: _one } = self;
+    }
 }
 
 impl Model for Command {
@@ -71,7 +78,7 @@ impl Command {
     pub fn new(me: Me, line: &Line) -> Command
         requires geometry { GeometryFits me.geometry }
         requires who { me.who < me.geometry.clients }
-        requires line { MayStand me line.now }
+        requires line { LineMayStand me line.now }
         ensures command { result ≡ command_of me line.now }
         ensures line { command_control.line result ≡ line_spelled line.now }
     {

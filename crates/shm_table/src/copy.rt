@@ -2,8 +2,8 @@
 
 ghost use Rattle.std.specs.Prelude.{◌≡◌, ◌<◌};
 ghost use Rattle.shm_words.specs.Layout.{GeometryFits};
-ghost use Rattle.shm_calls.specs.{CallsControl.{calls_control, calls_of}, CallsFit.{CallsFits, CallsGives}};
-ghost use Rattle.shm_calls.specs.Proved.CallsKeep.{calls_laws};
+ghost use Rattle.plans.specs.{CallsControl.{calls_control, calls_of}, CallsFit.{CallsFits, CallsGives}};
+ghost use Rattle.plans.specs.Proved.CallsKeep.{calls_laws};
 ghost use Rattle.shm_table.specs.{Effects.copy_effect, CopyKey.Control.{copy_parts, copy_steered, copying}};
 ghost use Rattle.shm_table.specs.{CopyKey.copy_plan, Proved.{CopyKey.Laws.copy_laws, Enter.Laws.enter_laws}};
 ghost use Rattle.shm_table.specs.Proved.{Fetch.Laws.fetch_laws, Locate.Laws.locate_laws, OpenTable.Laws.open_laws};
@@ -15,7 +15,7 @@ use crate::answer::PutFault;
 use crate::effect::Deciding;
 use crate::fetch::{Fetch, Fetched};
 use crate::put_root::{PutRoot, settled};
-use shm_calls::{Calls, Or, Plan, Task};
+use plans::{Calls, Or, Plan, Task};
 use shm_count::EraSpent;
 use shm_graph::{Ask, Machine, Me, Site, Turn};
 use shm_ref::DropRoot;

@@ -2,8 +2,8 @@
 
 ghost use Rattle.std.specs.Prelude.{◌≡◌, ◌%◌, ◌<◌};
 ghost use Rattle.shm_words.specs.Layout.{GeometryFits};
-ghost use Rattle.shm_calls.specs.{CallsControl.{calls_control, calls_of}, CallsFit.{CallsFits, CallsGives}};
-ghost use Rattle.shm_calls.specs.Proved.CallsKeep.{calls_laws};
+ghost use Rattle.plans.specs.{CallsControl.{calls_control, calls_of}, CallsFit.{CallsFits, CallsGives}};
+ghost use Rattle.plans.specs.Proved.CallsKeep.{calls_laws};
 ghost use Rattle.shm_table.specs.{Effects.{del_effect, is_removed}, Del.Control.{del_parts, del_steered, deleting}};
 ghost use Rattle.shm_table.specs.{Del.del_plan, Proved.{Del.Laws.del_laws, TableTasks.del_task}, TableTasks.DelMay};
 ghost use Rattle.shm_table.specs.Del.Control as control;
@@ -14,7 +14,7 @@ use crate::find::Found;
 use crate::locate::Locate;
 use crate::unlatch::Unlatch;
 use crate::unlink::Unlink;
-use shm_calls::{Calls, Or, Plan, Task};
+use plans::{Calls, Or, Plan, Task};
 use shm_count::UpFault;
 use shm_graph::{Ask, Machine, Me, Site, Turn};
 use shm_script::Answer;

@@ -3,8 +3,8 @@
 ghost use Rattle.std.specs.Prelude.{◌≡◌, ◌+◌, ◌*◌, ℕ, true, false, is_ok, Option, None, List};
 ghost use Rattle.shm_graph.specs.{declared.{ask.Me.Me as AMe, memo.Memo.Memo as AMemo}, Agents.died, Asks.Trail};
 ghost use Rattle.shm_graph.specs.{Bounds.command_steps, Tells.after_all, Events.Event as AnEvent};
-ghost use Rattle.shm_calls.specs.{CallsControl.{calls_control, calls_does}, CallsFit.CallsFits};
-ghost use Rattle.shm_calls.specs.Deciding.{Decides, Foretells, StillRuns};
+ghost use Rattle.plans.specs.{CallsControl.{calls_control, calls_does}, CallsFit.CallsFits};
+ghost use Rattle.plans.specs.Deciding.{Decides, Foretells, StillRuns};
 ghost use Rattle.shm_script.specs.declared.{line.Line.Line as ALine, log.Answer.Answer as AnAnswer};
 ghost use Rattle.shm_script.specs.Text.{line_spelled};
 ghost use Rattle.shm_table.specs.Command.{Bound.IsCommandShort, Maps.MapSoFar, Sends.SentSoFar};
@@ -15,7 +15,7 @@ ghost use Rattle.shm_table.specs.Effects.{copy_by, copy_effect, copy_home, del_b
 ghost use Rattle.shm_table.specs.{Get.Control.{get_parts, get_steered}, Put.Control.{PutCalls, put_parts, put_steered}};
 ghost use Rattle.shm_table.specs.Put.{put_plan};
 ghost use Rattle.shm_table.specs.PutRoot.Control.{decided_of, enter_control, replace_control, put_root_control};
-ghost use Rattle.shm_table.specs.{PutRoot.Decides as DecidesMap, RecvKey.Control.{RecvCalls, recv_parts, recv_steered}};
+ghost use Rattle.shm_table.specs.{PutRoot.DecidesMap, RecvKey.Control.{RecvCalls, recv_parts, recv_steered}};
 ghost use Rattle.shm_table.specs.{RecvKey.recv_plan, SendKey.Control.{send_key_parts, send_key_steered}};
 ghost use Rattle.shm_table.specs.{Refusals.CommandLeaves, Unlink.Control.unlink_control};
 

@@ -8,8 +8,8 @@ ghost use Rattle.shm_table.specs.Enter.Control as control;
 
 use crate::answer::PutFault;
 use crate::effect::Deciding;
+use plans::{Calls, Or, Plan};
 use shm_alloc::{Alloc, AllocFault, Near, Request};
-use shm_calls::{Calls, Or, Plan};
 use shm_count::{Made, StepChange, StepUp, UpFault};
 use shm_graph::{Machine, Me};
 use shm_words::ADDRESS_LIMIT;

@@ -9,7 +9,7 @@ use crate::answer::PutFault;
 use crate::find::Found;
 use crate::locate::Locate;
 use crate::unlatch::Unlatch;
-use shm_calls::{Calls, Or, Plan, Word};
+use plans::{Calls, Or, Plan, Word};
 use shm_count::parts::{ShareFault, UpRoot};
 use shm_graph::{Machine, Me};
 use shm_words::ADDRESS_LIMIT;

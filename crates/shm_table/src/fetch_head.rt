@@ -8,7 +8,7 @@ ghost use Rattle.shm_table.specs.FetchHead.Control as control;
 
 use crate::answer::PutFault;
 use crate::fetch::shared;
-use shm_calls::{Calls, Or, Plan, Word};
+use plans::{Calls, Or, Plan, Word};
 use shm_count::parts::{ShareFault, UpRoot};
 use shm_graph::{Machine, Me};
 use shm_words::ADDRESS_LIMIT;

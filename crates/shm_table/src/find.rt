@@ -6,7 +6,7 @@ ghost use Rattle.shm_table.specs.declared.find.Found.TheVariants.{At};
 ghost use Rattle.shm_table.specs.Find.{Control.{finding, find_goes, find_answers, FindInRange}, find_plan};
 ghost use Rattle.shm_table.specs.Proved.Find.Laws.{find_laws};
 
-use shm_calls::{Plan, Word};
+use plans::{Plan, Word};
 use shm_graph::{Machine, Me};
 use shm_words::ADDRESS_LIMIT;
 use std::marker::Model;

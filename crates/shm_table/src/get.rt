@@ -2,8 +2,8 @@
 
 ghost use Rattle.std.specs.Prelude.{◌≡◌, ◌<◌, ◌+◌, ◌^◌};
 ghost use Rattle.shm_words.specs.Layout.{GeometryFits, address_limit};
-ghost use Rattle.shm_calls.specs.{CallsControl.{calls_control, calls_of}, CallsFit.{CallsFits, CallsGives}};
-ghost use Rattle.shm_calls.specs.Proved.CallsKeep.{calls_laws};
+ghost use Rattle.plans.specs.{CallsControl.{calls_control, calls_of}, CallsFit.{CallsFits, CallsGives}};
+ghost use Rattle.plans.specs.Proved.CallsKeep.{calls_laws};
 ghost use Rattle.shm_table.specs.{Effects.get_effect, Get.{Control.{get_parts, get_steered}, get_plan}};
 ghost use Rattle.shm_table.specs.{Proved.{Get.Laws.get_laws, TableTasks.get_task}, TableTasks.GetMay};
 ghost use Rattle.shm_table.specs.Get.Control as control;
@@ -11,7 +11,7 @@ ghost use Rattle.shm_table.specs.Get.Control as control;
 use crate::find::Found;
 use crate::locate::Locate;
 use crate::unlatch::Unlatch;
-use shm_calls::{Calls, Or, Plan, Task, Word};
+use plans::{Calls, Or, Plan, Task, Word};
 use shm_graph::{Ask, Machine, Me, Site, Turn};
 use shm_script::Answer;
 use shm_words::ADDRESS_LIMIT;

@@ -1,6 +1,6 @@
 //! Tables: looking for a key, reading what it has, removing it, and the parts of which commands that put are made.
 //!
-//! Each machine is a plan of calls (`shm_calls`), which says which call comes next. The type with a part's name is its plan, and machines
+//! Each machine is a plan of calls (`plans`), which says which call comes next. The type with a part's name is its plan, and machines
 //! above call `Calls` of it; commands are structs of their own around their calls.
 #![tactic(auto)]
 

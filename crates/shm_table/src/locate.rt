@@ -5,7 +5,7 @@ ghost use Rattle.shm_words.specs.Layout.{GeometryFits};
 ghost use Rattle.shm_table.specs.{Locate.{Control.locating, locate_plan}, Proved.Locate.Laws.locate_laws};
 
 use crate::find::{Find, Found};
-use shm_calls::{Calls, Or, Plan};
+use plans::{Calls, Or, Plan};
 use shm_graph::{Machine, Me};
 use shm_ref::{Busy, Hold};
 use std::marker::Model;

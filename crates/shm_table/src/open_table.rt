@@ -6,8 +6,8 @@ ghost use Rattle.shm_table.specs.OpenTable.{Control.{directory_request, opening}
 ghost use Rattle.shm_table.specs.Proved.OpenTable.Laws.{open_laws};
 
 use crate::answer::PutFault;
+use plans::{Calls, Or, Plan, Word};
 use shm_alloc::{Alloc, AllocFault, Near, Request};
-use shm_calls::{Calls, Or, Plan, Word};
 use shm_count::{EraSpent, Made, StepUp, UpFault};
 use shm_graph::{Machine, Me};
 use shm_ref::DropRoot;

@@ -2,8 +2,8 @@
 
 ghost use Rattle.std.specs.Prelude.{◌≡◌, ◌<◌};
 ghost use Rattle.shm_words.specs.Layout.{GeometryFits};
-ghost use Rattle.shm_calls.specs.{CallsControl.{calls_control, calls_of}, CallsFit.{CallsFits, CallsGives}};
-ghost use Rattle.shm_calls.specs.Proved.CallsKeep.{calls_laws};
+ghost use Rattle.plans.specs.{CallsControl.{calls_control, calls_of}, CallsFit.{CallsFits, CallsGives}};
+ghost use Rattle.plans.specs.Proved.CallsKeep.{calls_laws};
 ghost use Rattle.shm_table.specs.{Effects.put_effect, Put.{Control.{put_parts, put_steered, putting}, put_plan}};
 ghost use Rattle.shm_table.specs.Proved.{Put.Laws.put_laws, Enter.Laws.enter_laws, Locate.Laws.locate_laws};
 ghost use Rattle.shm_table.specs.Proved.{OpenTable.Laws.open_laws, PutRoot.Laws.put_root_laws};
@@ -13,8 +13,8 @@ ghost use Rattle.shm_table.specs.Put.Control as control;
 use crate::answer::PutFault;
 use crate::effect::Deciding;
 use crate::put_root::{PutRoot, settled};
+use plans::{Calls, Or, Plan, Task};
 use shm_alloc::{Alloc, AllocFault, Near, Request};
-use shm_calls::{Calls, Or, Plan, Task};
 use shm_count::{EraSpent, Made};
 use shm_graph::{Ask, Machine, Me, Site, Turn};
 use shm_ref::DropRoot;

@@ -7,7 +7,7 @@ ghost use Rattle.shm_table.specs.PutRoot.Control.{put_root_parts, putting_root, 
 ghost use Rattle.shm_table.specs.{PutRoot.put_root_plan, Proved.{PutRoot.Laws.put_root_laws, Enter.Laws.enter_laws}};
 ghost use Rattle.shm_table.specs.Proved.{Locate.Laws.locate_laws, OpenTable.Laws.open_laws, Replace.Laws.replace_laws};
 ghost use Rattle.shm_table.specs.PutRoot.Control as control;
-ghost use Rattle.shm_calls.specs.{CallsControl.calls_of, CallsFit.{CallsFits, CallsGives}, Proved.CallsKeep.calls_laws};
+ghost use Rattle.plans.specs.{CallsControl.calls_of, CallsFit.{CallsFits, CallsGives}, Proved.CallsKeep.calls_laws};
 
 use crate::answer::PutFault;
 use crate::effect::Deciding;
@@ -17,7 +17,7 @@ use crate::locate::Locate;
 use crate::open_table::OpenTable;
 use crate::replace::Replace;
 use crate::unlatch::Unlatch;
-use shm_calls::{Calls, Or, Plan};
+use plans::{Calls, Or, Plan};
 use shm_count::EraSpent;
 use shm_graph::{Ask, Machine, Me, Site, Turn};
 use shm_ref::DropRoot;

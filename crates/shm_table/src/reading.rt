@@ -5,19 +5,17 @@ ghost use Rattle.shm_graph.specs.declared.{ask.Me.Me as AMe, memo.{Memo.Memo as 
 ghost use Rattle.shm_graph.specs.declared.{memo.Stored.Stored as AStored, run.Move.Move as AMove};
 ghost use Rattle.shm_graph.specs.{declared.spot.Spot.{Spot as ASpot, TheVariants.Body}, Asks.Trail, Held.HeldAt};
 ghost use Rattle.shm_graph.specs.{Runs.{State, memos_of}, Views.view, Events.Event as AnEvent};
-ghost use Rattle.shm_calls.specs.{declared.calls.Calls.Calls as ACalls, CallsControl.calls_of, CallsFit.CallsFits};
-ghost use Rattle.shm_steps.specs.Reparting.{map_in};
+ghost use Rattle.plans.specs.{declared.calls.Calls.Calls as ACalls, CallsControl.calls_of, CallsFit.CallsFits};
+ghost use Rattle.kind_parts.specs.Reparting.{map_in};
 ghost use Rattle.shm_count.specs.Calling.{IsCall};
-ghost use Rattle.shm_script.specs.declared.log.Answer.{Answer as AnAnswer};
 ghost use Rattle.shm_script.specs.declared.line.Line.TheVariants as line;
 ghost use Rattle.shm_script.specs.declared.log.Answer.TheVariants as answer;
 ghost use Rattle.shm_table.specs.declared.{find.Found.TheVariants.{Absent, At}, get.GetState.GetState as AGetState};
 ghost use Rattle.shm_table.specs.{Command.{command_control, command_of}, Find.Control.finding};
 ghost use Rattle.shm_table.specs.Find.{Tells.{HasRead, HasKey}, FindLeaves, IsLook};
 ghost use Rattle.shm_table.specs.Get.Finding.{FindsAt, IsAnswered};
-ghost use Rattle.shm_table.specs.Get.Control.{GetAnswer, GetCall, get_parts, getting, get_steered};
-ghost use Rattle.shm_table.specs.Get.{GetLeaves, IsTold, get_plan, Tells.{HasNamed, IsReady}};
-ghost use Rattle.shm_table.specs.{Locate.{Located, MayLocate}, Machines.Get.get};
+ghost use Rattle.shm_table.specs.Get.{Control.{GetCall, get_parts, getting, get_steered}, GetLeaves, IsTold, get_plan};
+ghost use Rattle.shm_table.specs.{Get.Tells.{HasNamed, IsReady}, Locate.{Located, MayLocate}, Machines.Get.get};
 
 /// In the own table the answer says whether its map has the key; and in any table a chain was read up to the entry that was found.
 pub fn locate_tells()
@@ -33,9 +31,9 @@ pub fn locate_tells()
 pub fn get_tells()
     ensures missing { (me : AMe) (a key : ℕ) (r0 r : AMemo) (tr : Trail) (es : List AnEvent) → a ≡ me.who → GetLeaves (getting me a key) r0 r tr es answer.Missing → map_in r0.part key ≡ None }
     ensures found { (me : AMe) (a key : ℕ) (r0 r : AMemo) (tr : Trail) (es : List AnEvent) (n v : ℕ) → a ≡ me.who → GetLeaves (getting me a key) r0 r tr es (answer.Value n v) → map_in r0.part key ≡ Some (n, v) }
-    ensures named { (m : ACalls AGetState GetCall AnAnswer GetAnswer) (r0 r : AMemo) (tr : Trail) → CallsFits get_parts get_plan m r0 r tr → HasNamed m → (w : ASpot → ℕ) (rs : ℕ → AMemo) → HeldAt m.plan.me.geometry w (view rs) → rs m.plan.me.who ≡ r → map_in (rs m.plan.author).part m.plan.key ≡ Some (w (Body m.plan.block 0), m.plan.block) }
-    ensures told { (m : ACalls AGetState GetCall AnAnswer GetAnswer) (r0 r : AMemo) (tr : Trail) → CallsFits get_parts get_plan m r0 r tr → IsReady m → IsTold m.plan.author m.plan.key m.plan.entry m.plan.number m.plan.block r }
-    ensures map { (m : ACalls AGetState GetCall AnAnswer GetAnswer) (r0 r : AMemo) (tr : Trail) → CallsFits get_parts get_plan m r0 r tr → IsReady m → (w : ASpot → ℕ) (rs : ℕ → AMemo) → HeldAt m.plan.me.geometry w (view rs) → rs m.plan.me.who ≡ r → map_in (rs m.plan.author).part m.plan.key ≡ Some (m.plan.number, m.plan.block) }
+    ensures named { (m : ACalls AGetState GetCall) (r0 r : AMemo) (tr : Trail) → CallsFits get_parts get_plan m r0 r tr → HasNamed m → (w : ASpot → ℕ) (rs : ℕ → AMemo) → HeldAt m.plan.me.geometry w (view rs) → rs m.plan.me.who ≡ r → map_in (rs m.plan.author).part m.plan.key ≡ Some (w (Body m.plan.block 0), m.plan.block) }
+    ensures told { (m : ACalls AGetState GetCall) (r0 r : AMemo) (tr : Trail) → CallsFits get_parts get_plan m r0 r tr → IsReady m → IsTold m.plan.author m.plan.key m.plan.entry m.plan.number m.plan.block r }
+    ensures map { (m : ACalls AGetState GetCall) (r0 r : AMemo) (tr : Trail) → CallsFits get_parts get_plan m r0 r tr → IsReady m → (w : ASpot → ℕ) (rs : ℕ → AMemo) → HeldAt m.plan.me.geometry w (view rs) → rs m.plan.me.who ≡ r → map_in (rs m.plan.author).part m.plan.key ≡ Some (m.plan.number, m.plan.block) }
 {}
 
 /// In a run of a pool, whoever else steps, a get that answered a number and a block found what the author's map had: at the word step of it that

@@ -2,8 +2,8 @@
 
 ghost use Rattle.std.specs.Prelude.{◌≡◌, ◌<◌};
 ghost use Rattle.shm_words.specs.Layout.{GeometryFits};
-ghost use Rattle.shm_calls.specs.{CallsControl.{calls_control, calls_of}, CallsFit.{CallsFits, CallsGives}};
-ghost use Rattle.shm_calls.specs.Proved.CallsKeep.{calls_laws};
+ghost use Rattle.plans.specs.{CallsControl.{calls_control, calls_of}, CallsFit.{CallsFits, CallsGives}};
+ghost use Rattle.plans.specs.Proved.CallsKeep.{calls_laws};
 ghost use Rattle.shm_table.specs.{Effects.recv_effect, RecvKey.Control.{receiving_key, recv_parts, recv_steered}};
 ghost use Rattle.shm_table.specs.{RecvKey.recv_plan, Proved.{RecvKey.Laws.recv_laws, Enter.Laws.enter_laws}};
 ghost use Rattle.shm_table.specs.Proved.{FetchHead.Laws.fetch_head_laws, Locate.Laws.locate_laws};
@@ -18,7 +18,7 @@ use crate::effect::Deciding;
 use crate::fetch_head::{FetchHead, FetchedHead};
 use crate::put_root::{PutRoot, settled};
 use crate::take_head::TakeHead;
-use shm_calls::{Calls, Or, Plan, Task};
+use plans::{Calls, Or, Plan, Task};
 use shm_count::EraSpent;
 use shm_graph::{Ask, Machine, Me, Site, Turn};
 use shm_ref::DropRoot;

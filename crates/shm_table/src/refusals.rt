@@ -9,9 +9,9 @@ ghost use Rattle.shm_graph.specs.{declared.{memo.Memo.Memo as AMemo, spot.Spot.S
 ghost use Rattle.shm_graph.specs.{Events.Event, Views.own_word};
 ghost use Rattle.shm_graph.specs.declared.spot.Spot.TheVariants as spots;
 ghost use Rattle.shm_graph.specs.Events as event;
-ghost use Rattle.shm_steps.specs.Reparting.{map_in};
-ghost use Rattle.shm_calls.specs.Plans.{plan_trail};
-ghost use Rattle.shm_count.specs.{Refusing.ReadsCount, Roots.root_word, Tear.Memos.is_lasting};
+ghost use Rattle.kind_parts.specs.Reparting.{map_in};
+ghost use Rattle.plans.specs.Plans.{plan_trail};
+ghost use Rattle.shm_count.specs.{Refusing.ReadsCount, Roots.root_word, Lasting.is_lasting};
 ghost use Rattle.shm_alloc.specs.{declared.request.Request.Request as ARequest, Alloc.Asks.alloc_trail};
 ghost use Rattle.shm_alloc.specs.Alloc.Counts.{taken_in, used_in};
 ghost use Rattle.shm_alloc.specs.declared.alloc.AllocFault.TheVariants as alloc_fault;

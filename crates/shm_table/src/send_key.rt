@@ -2,8 +2,8 @@
 
 ghost use Rattle.std.specs.Prelude.{◌≡◌, ◌<◌, ◌+◌, ◌^◌};
 ghost use Rattle.shm_words.specs.Layout.{GeometryFits, address_limit};
-ghost use Rattle.shm_calls.specs.{CallsControl.{calls_control, calls_of}, CallsFit.{CallsFits, CallsGives}};
-ghost use Rattle.shm_calls.specs.Proved.CallsKeep.{calls_laws};
+ghost use Rattle.plans.specs.{CallsControl.{calls_control, calls_of}, CallsFit.{CallsFits, CallsGives}};
+ghost use Rattle.plans.specs.Proved.CallsKeep.{calls_laws};
 ghost use Rattle.shm_table.specs.Effects.{is_sent, send_key_effect};
 ghost use Rattle.shm_table.specs.SendKey.{Control.{send_key_parts, sending_key, send_key_steered}, send_key_plan};
 ghost use Rattle.shm_table.specs.{Proved.{SendKey.Laws.send_key_laws, TableTasks.send_key_task}, TableTasks.SendKeyMay};
@@ -12,7 +12,7 @@ ghost use Rattle.shm_table.specs.SendKey.Control as control;
 use crate::find::Found;
 use crate::locate::Locate;
 use crate::unlatch::Unlatch;
-use shm_calls::{Calls, Or, Plan, Task, Word};
+use plans::{Calls, Or, Plan, Task, Word};
 use shm_graph::{Ask, Machine, Me, Site, Turn};
 use shm_queue::{Send, SendFault};
 use shm_script::Answer;

@@ -3,7 +3,7 @@
 ghost use Rattle.std.specs.Prelude.{◌≡◌, ℕ, ◌+◌, Some, List};
 ghost use Rattle.shm_graph.specs.declared.{ask.Me.Me as AMe, memo.Memo.Memo as AMemo, spot.Spot.TheVariants.Tail};
 ghost use Rattle.shm_graph.specs.{Asks.Trail, MemoAfterStore.lane_with, Views.own_word, Events.Event as AnEvent};
-ghost use Rattle.shm_steps.specs.Reparting.{map_in};
+ghost use Rattle.kind_parts.specs.Reparting.{map_in};
 ghost use Rattle.shm_script.specs.declared.log.Answer.TheVariants as answer;
 ghost use Rattle.shm_table.specs.SendKey.{Control.sending_key, SendKeyLeaves};
 

@@ -4,8 +4,8 @@ ghost use Rattle.std.specs.Prelude.{◌≡◌, ◌≢◌, ℕ, ◌<◌, false};
 ghost use Rattle.shm_graph.specs.declared.{ask.Me.Me as AMe, memo.{Memo.Memo as AMemo, Op.TheVariants.Nothing}};
 ghost use Rattle.shm_graph.specs.{declared.spot.Spot.TheVariants.{Home, Body}, Held.is_loose, Idle.IsIdle};
 ghost use Rattle.shm_graph.specs.Views.{own_word};
-ghost use Rattle.shm_steps.specs.{Beginning.IsOwnWord, Reparting.{sight, map_in, map_after, TableStep}};
-ghost use Rattle.shm_calls.specs.Parts.{IsHeld};
+ghost use Rattle.kind_parts.specs.{Beginning.IsOwnWord, Reparting.{sight, map_in, map_after, TableStep}};
+ghost use Rattle.plans.specs.Parts.{IsHeld};
 ghost use Rattle.shm_count.specs.Step.Parts.{part_after};
 ghost use Rattle.shm_table.specs.Staying.{Keeps};
 

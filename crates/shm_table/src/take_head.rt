@@ -4,7 +4,7 @@ ghost use Rattle.std.specs.Prelude.{◌≡◌, ◌<◌, ◌^◌};
 ghost use Rattle.shm_words.specs.Layout.{GeometryFits, address_limit};
 ghost use Rattle.shm_table.specs.{TakeHead.{Control.taking_head, take_head_plan}, Proved.TakeHead.Laws.take_head_laws};
 
-use shm_calls::{Or, Plan, Word};
+use plans::{Or, Plan, Word};
 use shm_count::{EraSpent, StepDown};
 use shm_graph::{Machine, Me};
 use std::marker::Model;

@@ -4,7 +4,7 @@ ghost use Rattle.std.specs.Prelude.{◌≡◌, ◌<◌};
 ghost use Rattle.shm_words.specs.Layout.{GeometryFits};
 ghost use Rattle.shm_table.specs.{Unlatch.{unlatch_plan, Control.unlatching}, Proved.Unlatch.Laws.unlatch_laws};
 
-use shm_calls::{Plan, Word};
+use plans::{Plan, Word};
 use shm_graph::{Machine, Me};
 use std::marker::Model;
 

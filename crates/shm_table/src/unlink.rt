@@ -8,7 +8,7 @@ ghost use Rattle.shm_table.specs.Proved.Unlink.Laws.{unlink_laws};
 ghost use Rattle.shm_table.specs.Unlink.Control as control;
 
 use crate::effect::Deciding;
-use shm_calls::{Calls, Or, Plan, Word};
+use plans::{Calls, Or, Plan, Word};
 use shm_count::{EraSpent, StepChange, StepDown, TearDown, UpFault};
 use shm_graph::{Machine, Me};
 use shm_words::ADDRESS_LIMIT;

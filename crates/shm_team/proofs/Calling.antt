@@ -4,7 +4,7 @@ use Rattle.shm_graph.specs.declared.{memo.{Agent.Agent, Fate.TheVariants.Ended, 
 use Rattle.shm_graph.specs.{Agents.{ended, is_gone, stepped, with_last}, Changes.asked_spot, Runs.account_after}
 use Rattle.shm_graph.proofs.Memos.MemoSteps.{agents_after, memo_agents}
 use Rattle.shm_agents.proofs.Growing.{with_last-end}
-use Rattle.shm_pool.specs.Calls.{Calls, Ending, Going, Shown, accounts_by, fresh_after}
+use Rattle.shm_pool.specs.Calls.{CallSteps, Ending, Going, Shown, accounts_by, fresh_after}
 
 -- the agent a, which is the last one, has made so many word steps
 abbrev at : Agent → ℕ → Agent
@@ -50,7 +50,7 @@ accounts_more r [] t = refl
 accounts_more r (u ∷ us) t = accounts_more (account_after r u) us t
 
 -- a whole call of the agent a
-pub call_agents : (s : Shown) (e f : Account) (before left : ℕ) → Calls s e f true before left → (first : List Agent) (a : Agent) → e.memo.agents ≡ first ++ a ∷ [] → (n : ℕ) × (f.memo.agents ≡ first ++ done a n (is_gone f.memo.status) ∷ [])
+pub call_agents : (s : Shown) (e f : Account) (before left : ℕ) → CallSteps s e f true before left → (first : List Agent) (a : Agent) → e.memo.agents ≡ first ++ a ∷ [] → (n : ℕ) × (f.memo.agents ≡ first ++ done a n (is_gone f.memo.status) ∷ [])
 call_agents s e f before left c first a is = go c.last c.ends c.account
   where
     go : (last : List Step) → Ending s (fresh_after s.fresh c.steps) true last → f ≡ accounts_by e (c.steps ++ last) → (n : ℕ) × (f.memo.agents ≡ first ++ done a n (is_gone f.memo.status) ∷ [])

@@ -6,7 +6,7 @@ use Rattle.shm_graph.specs.Runs.{fell_by, told_left}
 use Rattle.shm_count.specs.Roots.{member}
 use Rattle.shm_script.specs.{Logged.Logged, declared.log.Entry.Entry, Values.Scripted}
 use Rattle.shm_agents.specs.declared.agents.Standing.{Standing, TheVariants.{AtWork, Dead, Gone}}
-use Rattle.shm_agents.specs.Agents.{IsFold, Playing, Stands, is_standing_dead, logged}
+use Rattle.shm_agents.specs.Agents.{IsFold, Playing, AgentsStand, is_standing_dead, logged}
 use Rattle.shm_agents.specs.{Courses.{AreCommandsTold, AreScriptAgents}, Logs.{AreUnspent, IsLogOf}, Turns.lives_of}
 use Rattle.shm_agents.proofs.Over.{IsOver, is_over, over_fell, over_fold, over_gone, over_log, over_table, over_unspent}
 use Rattle.shm_agents.proofs.Rested.{stands_agents, stands_told}
@@ -30,10 +30,10 @@ over_done : (s : Scripted) (x : Playing) (e : Account) → IsOver s x e → x.st
 over_done s x e h alive = elim h [ inl p ↦ p.done | inr r ↦ elim r [ inl m ↦ m.0.done | inr d ↦ absurd (alive d.0) ] ]
 
 -- whose agents they are
-pub is_me : (t : Token) (s : Scripted) (x : Playing) → Stands t.of.start s x t.account → x.me ≡ member t.of.start.geometry s.client
+pub is_me : (t : Token) (s : Scripted) (x : Playing) → AgentsStand t.of.start s x t.account → x.me ≡ member t.of.start.geometry s.client
 is_me t s x h = let a = h.may.me in let b = sym h.may.client in (λ i. record { geometry = a i; who = b i })
 
-module _ (s : Scripted) (x : Playing) (t : Token) (posted : IsPosted t x.me.who) (h : Stands t.of.start s x t.account) (rests : x.standing ≢ AtWork) where
+module _ (s : Scripted) (x : Playing) (t : Token) (posted : IsPosted t x.me.who) (h : AgentsStand t.of.start s x t.account) (rests : x.standing ≢ AtWork) where
   abbrev e : Account
   e = t.account
 

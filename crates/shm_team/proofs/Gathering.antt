@@ -4,7 +4,7 @@ use Rattle.std.specs.{List.AllByRecursion, Prelude.{Option, Some, None, slice_in
 use Rattle.shm_graph.specs.{declared.run.{Account.Account, Start.Start}, Runs.{account_at, first_account}}
 use Rattle.shm_graph.proofs.States.FirstHeld.{at-accounts_from}
 use Rattle.shm_plain.specs.Pools.{first_pool}
-use Rattle.shm_agents.specs.Agents.{Playing, Stands}
+use Rattle.shm_agents.specs.Agents.{Playing, AgentsStand}
 use Rattle.shm_pool.specs.Tokens.{Its, Token, first_tokens, token_first}
 use Rattle.shm_replay.specs.{Replays.start_of, Seats.Seat}
 use Rattle.shm_replay.proofs.Starting.{script_client}
@@ -49,7 +49,7 @@ seat_first t c (Some x) l h =
       script = h.script;
       is = h.is;
       at = h.at;
-      stands = subst (λ (e : Account). Stands (start_of t) h.script x e) (first_there (start_of t) c l) h.stands;
+      stands = subst (λ (e : Account). AgentsStand (start_of t) h.script x e) (first_there (start_of t) c l) h.stands;
     }
 
 pub jobs_first : {A : Type 0} (t : Traced) (p : Its) → p.start ≡ start_of t → (c n : ℕ) (js : List (Job A)) → c + n ≤ t.clients → JobsOf t (first_tokens p c n) js → AreJobs t p c js

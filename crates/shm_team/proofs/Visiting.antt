@@ -6,14 +6,14 @@ use Rattle.shm_graph.specs.declared.memo.{Kind.TheVariants.{Client, Recoverer}, 
 use Rattle.shm_graph.specs.declared.{memo.Status.TheVariants.Gone, run.{Account.Account, LoggedLine.LoggedLine}}
 use Rattle.shm_graph.specs.{declared.spot.Spot.TheVariants.Hold, Agents.is_gone, Asks.Trail, Events.Event}
 use Rattle.shm_graph.specs.{Held.is_loose, Runs.{account_entered, begun_by, told_by, told_left}}
-use Rattle.shm_calls.specs.CallsControl.{calls_control, calls_of}
+use Rattle.plans.specs.CallsControl.{calls_control, calls_of}
 use Rattle.shm_queue.specs.Drain.{Control.{drain_line, drain_parts, draining, drain_steered}, DrainLeaves, drain_plan}
 use Rattle.shm_recover.specs.{Join.join_line, Leave.{Control.leave_line, MayLeave}, Recover.Control.recover_line}
-use Rattle.shm_steps.specs.Reparting.{map_in}
+use Rattle.kind_parts.specs.Reparting.{map_in}
 use Rattle.shm_agents.specs.Courses.{IsAside}
 use Rattle.shm_agents.proofs.Growing.{begun_end}
 use Rattle.shm_pool.specs.{declared.reply.Reply.TheVariants.Done, Called.HasCalled}
-use Rattle.shm_pool.specs.{Calls.{Calls, IsBetween, Shown, Tells, shown}, Endings.ClientMayLeave}
+use Rattle.shm_pool.specs.{Calls.{CallSteps, IsBetween, Shown, TellsLine, shown}, Endings.ClientMayLeave}
 use Rattle.shm_pool.specs.Tokens.{Acting, me_of}
 use Rattle.shm_replay.specs.Closings.{SameTable}
 use Rattle.shm_replay.proofs.Visited.{table_then}
@@ -62,7 +62,7 @@ left_none e rests = ap (λ (l : List ℕ). told_by l e.memo.call false e.told) r
 -- ---- one agent
 
 -- its first call
-pub run_first : (k : Kind) (s : Shown) (e f : Account) (before left : ℕ) (fate : Fate) → IsAside s.line → Calls s (account_entered k e) f true before left → Tells s.line (account_entered k e) f → cond (is_gone f.memo.status) Ended Acts ≡ fate → SameTable e.memo f.memo → HasRun k (s.line ∷ []) fate e f
+pub run_first : (k : Kind) (s : Shown) (e f : Account) (before left : ℕ) (fate : Fate) → IsAside s.line → CallSteps s (account_entered k e) f true before left → TellsLine s.line (account_entered k e) f → cond (is_gone f.memo.status) Ended Acts ≡ fate → SameTable e.memo f.memo → HasRun k (s.line ∷ []) fate e f
 run_first k s e f before left fate aside c t is table =
     let a : Agent = record { kind = k; steps = 0; fate = Acts } in
     let (n, agents) = call_agents s (account_entered k e) f before left c e.memo.agents a refl in
@@ -83,7 +83,7 @@ then_more : {A : Type 0} (xs a b ys zs : List A) → ys ≡ xs ++ a → zs ≡ y
 then_more xs a b ys zs e f = f ∙ (ap (λ ws. ws ++ b) e ∙ append_assoc xs a b)
 
 -- and each further one
-pub run_more : (k : Kind) (lines : List (List ℕ)) (s : Shown) (e f g : Account) (before left : ℕ) (fate : Fate) → IsAside s.line → HasRun k lines Acts e f → Calls s f g true before left → Tells s.line f g → cond (is_gone g.memo.status) Ended Acts ≡ fate → SameTable f.memo g.memo → HasRun k (lines ++ s.line ∷ []) fate e g
+pub run_more : (k : Kind) (lines : List (List ℕ)) (s : Shown) (e f g : Account) (before left : ℕ) (fate : Fate) → IsAside s.line → HasRun k lines Acts e f → CallSteps s f g true before left → TellsLine s.line f g → cond (is_gone g.memo.status) Ended Acts ≡ fate → SameTable f.memo g.memo → HasRun k (lines ++ s.line ∷ []) fate e g
 run_more k lines s e f g before left fate aside h c t is table =
     let a : Agent = record { kind = k; steps = h.steps; fate = Acts } in
     let (n, agents) = call_agents s f g before left c e.memo.agents a h.agents in

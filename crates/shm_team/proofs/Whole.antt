@@ -7,7 +7,7 @@ use Rattle.shm_graph.specs.{declared.run.Start.Start, Held.is_loose, Runs.{accou
 use Rattle.shm_graph.specs.Tables.{find}
 use Rattle.shm_graph.proofs.States.FirstHeld.{same_everywhere}
 use Rattle.shm_count.specs.Roots.{member}
-use Rattle.shm_steps.specs.Reparting.{chain_in, map_in}
+use Rattle.kind_parts.specs.Reparting.{chain_in, map_in}
 use Rattle.shm_plain.specs.{Closings.IsClosedRun, Pools.{Pool, memo_of, pool}}
 use Rattle.shm_plain.proofs.StillTable.{still_part}
 use Rattle.shm_pool.specs.Tokens.{Its}

@@ -2,7 +2,7 @@
 use Rattle.std.specs.Prelude.{◌≡◌, ℕ, suc, ◌<◌, Option, Some, None, List, [], ◌∷◌, length, slice_get, slice_index_or}
 use Rattle.shm_graph.specs.{declared.run.{Account.Account, Start.Start}, Runs.first_account}
 use Rattle.shm_count.specs.Roots.{member}
-use Rattle.shm_agents.specs.{Agents.{Playing, Stands}, Turns.script_in}
+use Rattle.shm_agents.specs.{Agents.{Playing, AgentsStand}, Turns.script_in}
 use Rattle.shm_pool.specs.Tokens.{Its, Token}
 use Rattle.shm_script.specs.Values.{Scripted, Traced}
 use Rattle.shm_team.specs.{declared.{done.Done.Done, jobs.Job.Job}, Dones.IsDone}
@@ -13,7 +13,7 @@ pub record AreAgentsOf (t : Traced) (start : Start) (c : ℕ) (e : Account) (x :
   pub script : Scripted
   pub is : script_in t.scripts c ≡ Some script
   pub at : slice_get t.scripts x.script ≡ Some script
-  pub stands : Stands start script x e
+  pub stands : AgentsStand start script x e
 
 -- none where c has no script: then nobody has joined it
 abbrev pub MayHaveAgents : Traced → Start → ℕ → Account → Option Playing → Type 0

@@ -1,6 +1,6 @@
 -- the agents of a script that work at a post
 use Rattle.std.specs.Prelude.{◌≡◌}
-use Rattle.shm_agents.specs.Agents.{Playing, Stands}
+use Rattle.shm_agents.specs.Agents.{Playing, AgentsStand}
 use Rattle.shm_pool.specs.{Posts.IsPosted, Tokens.Token}
 use Rattle.shm_script.specs.Values.{Scripted}
 
@@ -10,4 +10,4 @@ pub record AreAtWork (s : Scripted) (t : Token) (x : Playing) (u : Token) (y : P
   pub posted : IsPosted u x.me.who
   pub me : y.me ≡ x.me
   pub script : y.script ≡ x.script
-  pub stands : Stands t.of.start s y u.account
+  pub stands : AgentsStand t.of.start s y u.account

@@ -1,7 +1,7 @@
 //! What is done of an identity, once none of its agents has anything left to do.
 
 ghost use Rattle.std.specs.Prelude.{◌≡◌, ◌≢◌};
-ghost use Rattle.shm_agents.specs.Agents.{Stands};
+ghost use Rattle.shm_agents.specs.Agents.{AgentsStand};
 ghost use Rattle.shm_pool.specs.Posts.{IsPosted};
 ghost use Rattle.shm_script.specs.Values.{Scripted as AScript};
 ghost use Rattle.shm_team.specs.{Dones.IsFinished, Lefts.account_in};
@@ -30,9 +30,9 @@ pub struct Finish {
 /// The log and the token, where none of the agents of a script has anything left to do.
 pub fn hand_back<A: Play>(agents: Players<A>, post: Post<'_>) -> Finish
     requires posted { IsPosted post agents.me.who }
-    requires stands { (s : AScript) × Stands post.of.start s agents post.account }
+    requires stands { (s : AScript) × AgentsStand post.of.start s agents post.account }
     requires rests { agents.standing ≢ Standing.AtWork }
-    ensures finished { (s : AScript) → Stands post.entry.of.start s agents post.entry.account → IsFinished post.entry.of s result.log result.token }
+    ensures finished { (s : AScript) → AgentsStand post.entry.of.start s agents post.entry.account → IsFinished post.entry.of s result.log result.token }
     ensures account { account_in result.token ≡ post.entry.account }
 {
     let token = if agents.standing() == Standing::Dead {

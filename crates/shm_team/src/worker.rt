@@ -2,7 +2,7 @@
 
 ghost use Rattle.std.specs.Prelude.{◌≡◌, ◌<◌, ℕ, IfOk, length, slice_index_or};
 ghost use Rattle.shm_graph.specs.Runs.{first_account};
-ghost use Rattle.shm_agents.specs.Agents.{Stands};
+ghost use Rattle.shm_agents.specs.Agents.{AgentsStand};
 ghost use Rattle.shm_team.specs.{declared.jobs.Job.Job as AJob, Dones.{IsDone, IsFinished}, Jobs.{AreDone, IsJob}};
 
 use crate::done::{Done, Finish, hand_back};
@@ -30,7 +30,7 @@ fn work<A: Play, G: Gate>(
     requires of { token.of ≡ pool.now }
     requires first { token.account ≡ first_account token.of.start token.account.who }
     requires me { agents.me.who ≡ token.account.who }
-    requires stands { Stands token.of.start script.now agents token.account }
+    requires stands { AgentsStand token.of.start script.now agents token.account }
     ensures { IsFinished token.of script.now result.log result.token }
 {
     let mut post = Post::new(pool, token);

@@ -8,7 +8,7 @@ use Rattle.shm_script.proofs.Again.{Free, below_if, between_if, free_both, free_
 use Rattle.shm_script.proofs.{LineTexts.blanks, NumberTexts.number_again}
 use Rattle.shm_tree.specs.declared.{line.TreeLine.TreeLine, shape.RawTree.RawTree, judge.TreePlace.TreePlace}
 use Rattle.shm_tree.specs.{declared.judge.FitTree.FitTree, Shapes.{heading_of, set_of, shape_by, shape_from, shape_of}}
-use Rattle.shm_tree.specs.Scripts.{Drafted, Scripted, draft_after, draft_none, drafted, drafted_line, fit_of, judged, may_stand, ranged, read_or, reading, script_of}
+use Rattle.shm_tree.specs.Scripts.{Drafted, TreeScripted, draft_after, draft_none, drafted, drafted_line, fit_of, judged, may_stand, ranged, read_or, reading, script_of}
 use Rattle.shm_tree.specs.ScriptTexts.{IsScript, LineFits, life_spelled, line_ended, text_of}
 use Rattle.shm_tree.specs.declared.line.TreeLine.TheVariants as lines
 use Rattle.shm_tree.specs.declared.shape.RawTree.TheVariants as raw
@@ -226,7 +226,7 @@ end_reads place.Start n life ls at h = absurd h
 end_reads place.Tree n life ls at h = reading_end (draft place.Tree n life ls) at []
 end_reads place.Body n life ls at h = reading_end (draft place.Body n life ls) at []
 
-reading_again : (s : Scripted) → IsScript s → reading draft_none 1 (cut (text_of s)) ≡ Ok s
+reading_again : (s : TreeScripted) → IsScript s → reading draft_none 1 (cut (text_of s)) ≡ Ok s
 reading_again s h =
     let first = line_reaches draft_none (fit.Tree s.segments) (h.some, h.few) refl in
     let life = life_reaches s.segments s.life h.life in
@@ -237,5 +237,5 @@ reading_again s h =
     ap (λ x. reading draft_none 1 (cut x)) (sym (append-nil (text_of s))) ∙ r.1 ∙ end_reads (behind (after_life s.life) s.lines) s.segments s.life s.lines r.0 (lines_on (after_life s.life) s.lines (life_on s.life))
 
 -- the spelling of a script is read as that script
-pub script_again : (s : Scripted) → IsScript s → length (text_of s) ≤ 1048576 → script_of (text_of s) ≡ Ok s
+pub script_again : (s : TreeScripted) → IsScript s → length (text_of s) ≤ 1048576 → script_of (text_of s) ≡ Ok s
 script_again s h short = short_script (text_of s) short ∙ reading_again s h

@@ -15,7 +15,7 @@ use Rattle.shm_count.specs.Tear.Memos.{Knows}
 use Rattle.shm_count.proofs.RootSpots.{roots_reached}
 use Rattle.shm_tree.specs.{Falling.{AreFalling, KeepsFalling}, Keeping.IsStill}
 use Rattle.shm_tree.specs.Working.{AreSameRoots, IsSpent, IsWorking, Went}
-use Rattle.shm_tree.proofs.Frames.{Untouched}
+use Rattle.shm_tree.proofs.Frames.{UntouchedBy}
 use Rattle.shm_tree.proofs.Nodes.{IsCalm, as_started, calm_first, calm_held, home_kept, still_kept, working_calm}
 use Rattle.shm_tree.proofs.Turns.{did_leads}
 
@@ -82,7 +82,7 @@ pub record IsQuiet (m r : Memo) : Type 0 where
 
 -- no event changes what the home names
 abbrev pub IsHomeless : List Event → Type 0
-IsHomeless es = AllByRecursion (Untouched (Home 0)) es
+IsHomeless es = AllByRecursion (UntouchedBy (Home 0)) es
 
 pub homeless_is : (es fs : List Event) → es ≡ fs → IsHomeless fs → IsHomeless es
 homeless_is es fs e h = subst IsHomeless (sym e) h

@@ -3,7 +3,7 @@ use Rattle.std.proofs.Common.{◌≡◌, ◌≢◌, ℕ, true, List, [], ◌++�
 use Rattle.std.specs.Prelude.{IfOk, Ok, Err, Result, Some}
 use Rattle.shm_graph.specs.declared.{ask.Me.Me, memo.Memo.Memo, run.Start.Start, spot.Spot.TheVariants.Body}
 use Rattle.shm_graph.specs.{Asks.Trail, Events.Event, Laws.Control}
-use Rattle.shm_calls.specs.{CallsControl.calls_of, Plans.Planned}
+use Rattle.plans.specs.{CallsControl.calls_of, Plans.Planned}
 use Rattle.shm_plain.specs.{Calls.{Did, IsAtWork, Ran}, Pools.{IsRun, Pool, memo_of}}
 use Rattle.shm_plain.proofs.OwnTurns.{did_none}
 use Rattle.shm_alloc.specs.{declared.alloc.AllocFault.AllocFault, Alloc.AllocGives}
@@ -18,7 +18,7 @@ use Rattle.shm_client.specs.Allocating.{IsAsked}
 use Rattle.shm_client.proofs.Running.{MachineLeft, PlanLeft, plan_done}
 use Rattle.shm_tree.specs.declared.{node.Side.{Side, TheVariants.{Left, Right}}, stop.Stop.Stop}
 use Rattle.shm_tree.specs.Causes.{AllocRefused, DropRefused, SetRefused, ShareRefused, StopCause, Within}
-use Rattle.shm_tree.specs.{Keeping.{HasNode, HasTree, IsStill, child_of}, Standing.{Stands, word_of}}
+use Rattle.shm_tree.specs.{Keeping.{HasNode, HasTree, IsStill, child_of}, Standing.{TreeStands, word_of}}
 use Rattle.shm_tree.specs.Trees.{Tree, Empty, Node, height}
 use Rattle.shm_tree.specs.Working.{HasRoom, IfAlive, IfRefused, IsEmptied, IsReached, IsWorking, Reaches}
 use Rattle.shm_tree.specs.declared.stop.Stop.TheVariants as stop
@@ -48,22 +48,22 @@ plan_answered k q plan p r a is planned same wp ran at left =
 pub node_of : (p : Pool) (b : ℕ) → b ≢ 0 → HasTree p b → HasNode p b
 node_of p b some (t, s) = by t s
   where
-    by : (u : Tree) → Stands p b u → HasNode p b
+    by : (u : Tree) → TreeStands p b u → HasNode p b
     by Empty y = absurd (some y)
     by (Node k n l r) y = (k, n, height (Node k n l r), y.0)
 
 -- no tree stands at 0 but the empty one
-pub height_none : (p : Pool) (b : ℕ) (t : Tree) → b ≡ 0 → Stands p b t → 0 ≡ height t
+pub height_none : (p : Pool) (b : ℕ) (t : Tree) → b ≡ 0 → TreeStands p b t → 0 ≡ height t
 height_none p b Empty none y = refl
 height_none p b (Node k n l r) none y = absurd (y.0.some none)
 
 -- a node tells the height of its tree
-pub height_told : (p : Pool) (b x : ℕ) (t : Tree) → b ≢ 0 → x ≡ word_of p (Body b 4) → Stands p b t → x ≡ height t
+pub height_told : (p : Pool) (b x : ℕ) (t : Tree) → b ≢ 0 → x ≡ word_of p (Body b 4) → TreeStands p b t → x ≡ height t
 height_told p b x Empty some e y = absurd (some y)
 height_told p b x (Node k n l r) some e y = e ∙ y.0.height
 
 -- also as it was read, or not
-pub height_read : (p : Pool) (b : ℕ) (r : Result ℕ Stop) → b ≢ 0 → IfOk r (λ x. x ≡ word_of p (Body b 4)) → IfOk r (λ h. (t : Tree) → Stands p b t → h ≡ height t)
+pub height_read : (p : Pool) (b : ℕ) (r : Result ℕ Stop) → b ≢ 0 → IfOk r (λ x. x ≡ word_of p (Body b 4)) → IfOk r (λ h. (t : Tree) → TreeStands p b t → h ≡ height t)
 height_read p b (Ok x) some e = λ t y. height_told p b x t some e y
 height_read p b (Err s) some e = tt
 

@@ -10,7 +10,7 @@ use Rattle.shm_count.specs.declared.{point.StepPoint.TheVariants.Exchange, tear_
 use Rattle.shm_count.specs.{Step.Events.{event_of_half, step_event_at}, Tear.Events.tear_event_at}
 use Rattle.shm_count.specs.declared.tear_point.TearPoint.TheVariants as tear
 use Rattle.shm_tree.specs.{Falling.AreFalling, Working.IsWorking}
-use Rattle.shm_tree.proofs.{Alive.quiet_did, Falls.{Keeps, Ups, falling_kept}}
+use Rattle.shm_tree.proofs.{Alive.quiet_did, Falls.{OnlyFalls, Ups, falling_kept}}
 
 -- ---- machines
 
@@ -57,11 +57,11 @@ module _ (P : Spot → ℕ → Type 0) where
 -- ---- calls
 
 -- What a call did to the graph is told, whether it was answered or not: where it makes only references that fall, references fall after it
-pub told_falls : (answered : Bool) (p q : Pool) (x y : ℕ) → IsWorking p → Ran 0 true answered p q x y → (h : AreFalling p) → (0 < x → (es : List Event) × Did 0 p q es × AllByRecursion (Keeps h.rank h.most) es) → AreFalling q
+pub told_falls : (answered : Bool) (p q : Pool) (x y : ℕ) → IsWorking p → Ran 0 true answered p q x y → (h : AreFalling p) → (0 < x → (es : List Event) × Did 0 p q es × AllByRecursion (OnlyFalls h.rank h.most) es) → AreFalling q
 told_falls answered p q zero y w ran h told = falling_kept p q [] w.run ran.run ran.start (quiet_did true answered p q y w ran) h tt
 told_falls answered p q (suc x) y w ran h told = let t = told (omega arith) in falling_kept p q t.0 w.run ran.run ran.start t.1 h t.2
 
 -- such as one none of whose states makes a reference in a block or a home
-pub always_falls : {S A : Type 0} (k : Control S A) (does : S → ℕ → Event) (m : S) (answered : Bool) (p q : Pool) (x y : ℕ) → ((r : ℕ → ℕ) (n : ℕ) (s : S) (i : ℕ) → Keeps r n (does s i)) → IsWorking p → Ran 0 true answered p q x y → (0 < x → Did 0 p q (happens_along k does m (memo_of q 0).call)) → AreFalling p → AreFalling q
+pub always_falls : {S A : Type 0} (k : Control S A) (does : S → ℕ → Event) (m : S) (answered : Bool) (p q : Pool) (x y : ℕ) → ((r : ℕ → ℕ) (n : ℕ) (s : S) (i : ℕ) → OnlyFalls r n (does s i)) → IsWorking p → Ran 0 true answered p q x y → (0 < x → Did 0 p q (happens_along k does m (memo_of q 0).call)) → AreFalling p → AreFalling q
 always_falls {S} k does m answered p q x y keeps w ran told h =
-    told_falls answered p q x y w ran h (λ l. (_, told l, only_along k does (λ (s : S). Unit {0}) (Keeps h.rank h.most) (λ s i u. tt) (λ s i u. keeps h.rank h.most s i) m (memo_of q 0).call tt))
+    told_falls answered p q x y w ran h (λ l. (_, told l, only_along k does (λ (s : S). Unit {0}) (OnlyFalls h.rank h.most) (λ s i u. tt) (λ s i u. keeps h.rank h.most s i) m (memo_of q 0).call tt))

@@ -9,10 +9,10 @@ use Rattle.shm_plain.proofs.OwnTurns.{did_none}
 use Rattle.shm_count.specs.declared.answer.Made.{Made}
 use Rattle.shm_tree.specs.declared.node.{Content.Content, Pair.Pair, Side.{Side, TheVariants.{Left, Right}}}
 use Rattle.shm_tree.specs.{declared.stop.Stop.Stop, Bounds.drop_steps}
-use Rattle.shm_tree.specs.Building.{Builds, IsAtHand, IsBuilt, IsCheap, IsCut, IsHeld, IsRebuilt, block_of, named_by, rooms}
+use Rattle.shm_tree.specs.Building.{Builds, IsAtHand, IsBuilt, IsCheap, IsCut, IsHeld, IsRebuilt, block_of, root_block, rooms}
 use Rattle.shm_tree.specs.{Causes.StopCause, Changing.Changes, Falling.KeepsFalling}
 use Rattle.shm_tree.specs.Keeping.{HasGrown, HasMade, HasTree, IsBorn, IsDropped, IsLinked, IsStill, KeepsNodes, KeepsTrees}
-use Rattle.shm_tree.specs.{Looking.Looks, Spending.HasSpent, Standing.Stands, Tearing.HasTorn}
+use Rattle.shm_tree.specs.{Looking.Looks, Spending.HasSpent, Standing.TreeStands, Tearing.HasTorn}
 use Rattle.shm_tree.specs.Trees.{Tree, Empty, Node}
 use Rattle.shm_tree.specs.Working.{AreSameRoots, DiedIn, HasRoom, IfAlive, IfRefused, IsEmptied, IsReached, IsRooted, IsSameLatch, IsWorking, Reaches, Went}
 use Rattle.shm_tree.specs.declared.stop.Stop.TheVariants as stop
@@ -24,7 +24,7 @@ use Rattle.shm_tree.proofs.Weights.{blocks_dropped, blocks_nodes, blocks_then, w
 -- ---- trees and nodes
 
 -- no tree stands at 0 but the empty one, which stands there anywhere
-pub none_stands : (p q : Pool) (b : ℕ) (t : Tree) → b ≡ 0 → Stands p b t → Stands q b t
+pub none_stands : (p q : Pool) (b : ℕ) (t : Tree) → b ≡ 0 → TreeStands p b t → TreeStands q b t
 none_stands p q b Empty e s = e
 none_stands p q b (Node k n l r) e s = absurd (s.0.some e)
 
@@ -117,10 +117,10 @@ looked_then hp a b =
 -- ---- what only grew
 
 pub still_cut : {p q : Pool} → IsStill p q → IsCut 0 p q
-still_cut {p = p} s = record { trees = λ j t low h. s.trees (named_by p j) t h; roots = λ k some. s.roots k; blocks = blocks_nodes s.nodes; made = s.made }
+still_cut {p = p} s = record { trees = λ j t low h. s.trees (root_block p j) t h; roots = λ k some. s.roots k; blocks = blocks_nodes s.nodes; made = s.made }
 
 grown_cut : {n : ℕ} {p q : Pool} → HasGrown n p q → IsCut n p q
-grown_cut {p = p} g = record { trees = λ j t low h. g.trees (named_by p j) t h; roots = g.roots; blocks = blocks_nodes g.nodes; made = g.made }
+grown_cut {p = p} g = record { trees = λ j t low h. g.trees (root_block p j) t h; roots = g.roots; blocks = blocks_nodes g.nodes; made = g.made }
 
 pub cut_more : {n : ℕ} {p q : Pool} (m : ℕ) → IsCut n p q → n ≤ m → IsCut m p q
 cut_more {n = n} {p = p} {q = q} m a h = record { trees = a.trees; roots = a.roots; blocks = a.blocks; made = made_more n m p q a.made h }
@@ -129,9 +129,9 @@ pub cut_then : {n m : ℕ} {p q r : Pool} → IsRun p → IsRun q → q.start �
 cut_then {n = n} {m = m} {p = p} {q = q} {r = r} hp hq start a b =
     record {
       trees =
-          λ j t low s. elim (cases_eq (named_by p j) 0) [
-            | inl e ↦ none_stands p r (named_by p j) t e s
-            | inr e ↦ subst (λ (d : ℕ). Stands r d t) (a.roots j e) (b.trees j t low (subst (λ (d : ℕ). Stands q d t) (sym (a.roots j e)) (a.trees j t low s)))
+          λ j t low s. elim (cases_eq (root_block p j) 0) [
+            | inl e ↦ none_stands p r (root_block p j) t e s
+            | inr e ↦ subst (λ (d : ℕ). TreeStands r d t) (a.roots j e) (b.trees j t low (subst (λ (d : ℕ). TreeStands q d t) (sym (a.roots j e)) (a.trees j t low s)))
           ];
       roots = λ k h. b.roots k (λ e. h (sym (a.roots k h) ∙ e)) ∙ a.roots k h;
       blocks = blocks_then r a b.blocks;
@@ -198,12 +198,12 @@ built_made k a h = record { rooted = a.rooted; some = a.some; trees = a.trees; b
 
 -- ---- roots
 
-pub rooted_some : {k b : ℕ} {p q : Pool} (j : ℕ) → IsRooted k b p q → named_by p j ≢ 0 → j ≢ k
-rooted_some {p = p} j h some = λ e. some (ap (named_by p) e ∙ h.empty)
+pub rooted_some : {k b : ℕ} {p q : Pool} (j : ℕ) → IsRooted k b p q → root_block p j ≢ 0 → j ≢ k
+rooted_some {p = p} j h some = λ e. some (ap (root_block p) e ∙ h.empty)
 
 -- a root that was taken is another than one that names a block
 pub apart : {k b j d : ℕ} {p q r : Pool} → d ≢ 0 → IsRooted j d p q → IsRooted k b q r → k ≢ j
-apart {q = q} some under over = λ e. some (sym under.names ∙ (ap (named_by q) (sym e) ∙ over.empty))
+apart {q = q} some under over = λ e. some (sym under.names ∙ (ap (root_block q) (sym e) ∙ over.empty))
 
 -- a root that named what was built below is empty again
 rooted_over : {k b j d : ℕ} {p q r s : Pool} → d ≢ 0 → IsRooted j d p q → IsRooted k b q r → IsEmptied j r s → IsRooted k b p s
@@ -214,20 +214,20 @@ rooted_over {k = k} {j = j} {p = p} {s = s} some under over gone =
       names = gone.others k (apart some under over) ∙ over.names;
       others =
           λ i h. elim (cases_eq i j) [
-            | inl e ↦ ap (named_by s) e ∙ (gone.root ∙ (sym under.empty ∙ ap (named_by p) (sym e)))
+            | inl e ↦ ap (root_block s) e ∙ (gone.root ∙ (sym under.empty ∙ ap (root_block p) (sym e)))
             | inr e ↦ gone.others i e ∙ (over.others i h ∙ under.others i e)
           ];
     }
 
 -- what was cut stays so where a root that was empty before is emptied
-cut_dropped : {n k : ℕ} {p q r : Pool} → IsRun p → IsRun q → q.start ≡ p.start → named_by p k ≡ 0 → IsCut n p q → IsEmptied k q r → IsDropped k q r → IsWorking r → IsCut n p r
+cut_dropped : {n k : ℕ} {p q r : Pool} → IsRun p → IsRun q → q.start ≡ p.start → root_block p k ≡ 0 → IsCut n p q → IsEmptied k q r → IsDropped k q r → IsWorking r → IsCut n p r
 cut_dropped {n = n} {k = k} {p = p} {q = q} {r = r} hp hq start none cut gone left work =
-    let ne : (j : ℕ) → named_by p j ≢ 0 → j ≢ k = λ j some e. some (ap (named_by p) e ∙ none) in
+    let ne : (j : ℕ) → root_block p j ≢ 0 → j ≢ k = λ j some e. some (ap (root_block p) e ∙ none) in
     record {
       trees =
-          λ j t low s. elim (cases_eq (named_by p j) 0) [
-            | inl e ↦ none_stands p r (named_by p j) t e s
-            | inr e ↦ left.trees j (named_by p j) t (ne j e) low (cut.roots j e) (cut.trees j t low s)
+          λ j t low s. elim (cases_eq (root_block p j) 0) [
+            | inl e ↦ none_stands p r (root_block p j) t e s
+            | inr e ↦ left.trees j (root_block p j) t (ne j e) low (cut.roots j e) (cut.trees j t low s)
           ];
       roots = λ j some. gone.others j (ne j some) ∙ cut.roots j some;
       blocks = blocks_dropped none cut gone left work;
@@ -240,7 +240,7 @@ pub built_cut : {n : ℕ} {m : Made} {p q : Pool} → IsBuilt n m p q → IsCut 
 built_cut b = record { trees = b.trees; roots = λ k some. b.rooted.others k (rooted_some k b.rooted some); blocks = b.blocks; made = b.made }
 
 pub born_built : {m : Made} {p q : Pool} → m.block ≢ 0 → IsBorn m p q → IsBuilt 1 m p q
-born_built {p = p} some b = record { rooted = b.rooted; some = some; trees = λ j t low s. b.trees (named_by p j) t s; blocks = blocks_nodes b.nodes; made = b.made }
+born_built {p = p} some b = record { rooted = b.rooted; some = some; trees = λ j t low s. b.trees (root_block p j) t s; blocks = blocks_nodes b.nodes; made = b.made }
 
 pub built_more : {m : Made} {p q : Pool} (n k : ℕ) → n ≤ k → IsBuilt n m p q → IsBuilt k m p q
 built_more {p = p} {q = q} n k h b = record { rooted = b.rooted; some = b.some; trees = b.trees; blocks = b.blocks; made = made_more n k p q b.made h }
@@ -269,7 +269,7 @@ built_over hp hq start hr onward a b gone left work =
     }
 
 -- what was built stands still once the root below is empty
-pub top_stands : {low m : Made} {p q r s : Pool} (t : Tree) → low.block ≢ 0 → IsRooted low.root low.block p q → IsRooted m.root m.block q r → IsDropped low.root r s → Stands r m.block t → Stands s m.block t
+pub top_stands : {low m : Made} {p q r s : Pool} (t : Tree) → low.block ≢ 0 → IsRooted low.root low.block p q → IsRooted m.root m.block q r → IsDropped low.root r s → TreeStands r m.block t → TreeStands s m.block t
 top_stands {m = m} t some under over left h = left.trees m.root m.block t (apart some under over) over.low over.names h
 
 -- a call that was done
@@ -345,7 +345,7 @@ pub at_hand_linked : {c : Content} {s : Side} {trees : Pair} {m : Made} {p q : P
 at_hand_linked {p = p} {q = q} b l h a = (tree_kept p q b l.born.trees a.0, λ some. h b (a.1 some))
 
 -- what a root names is in reach
-pub root_reached : (p : Pool) (k b : ℕ) → IsWorking p → k < 16 → named_by p k ≡ b → IsReached p b
+pub root_reached : (p : Pool) (k b : ℕ) → IsWorking p → k < 16 → root_block p k ≡ b → IsReached p b
 root_reached p k b w low e some = w.reached k b low some e
 
 -- what was linked is a node, and at hand
@@ -365,30 +365,30 @@ one_at_most : (c : Bool) → one_if c ≤ 1
 one_at_most true = lit≤ tt
 one_at_most false = lit≤ tt
 
-some_below : (p : Pool) (n : ℕ) → n ≤ 16 → 0 < sum_below n (λ k. one_if (named_by p k == 0)) → HasRoom p
+some_below : (p : Pool) (n : ℕ) → n ≤ 16 → 0 < sum_below n (λ k. one_if (root_block p k == 0)) → HasRoom p
 some_below p zero l h = absurd (omega arith)
 some_below p (suc n) l h =
-    elim (cases_eq (named_by p n) 0) [
+    elim (cases_eq (root_block p n) 0) [
       | inl e ↦ (n, omega arith, e)
-      | inr d ↦ (let z = none_counted (named_by p n) d in some_below p n (omega arith) (omega arith))
+      | inr d ↦ (let z = none_counted (root_block p n) d in some_below p n (omega arith) (omega arith))
     ]
 
 pub rooms_some : {p : Pool} → IsWorking p → 0 < rooms p → HasRoom p
 unfolding rooms
 rooms_some {p = p} w h = some_below p 16 (lit≤ tt) h
 
-same_at : (p q : Pool) (j : ℕ) → named_by q j ≡ named_by p j → one_if (named_by q j == 0) ≡ one_if (named_by p j == 0)
+same_at : (p q : Pool) (j : ℕ) → root_block q j ≡ root_block p j → one_if (root_block q j == 0) ≡ one_if (root_block p j == 0)
 same_at p q j e = ap (λ (x : ℕ). one_if (x == 0)) e
 
-before : (k : ℕ) (p q : Pool) (n : ℕ) → ((j : ℕ) → j ≢ k → named_by q j ≡ named_by p j) → n ≤ k → sum_below n (λ j. one_if (named_by q j == 0)) ≡ sum_below n (λ j. one_if (named_by p j == 0))
+before : (k : ℕ) (p q : Pool) (n : ℕ) → ((j : ℕ) → j ≢ k → root_block q j ≡ root_block p j) → n ≤ k → sum_below n (λ j. one_if (root_block q j == 0)) ≡ sum_below n (λ j. one_if (root_block p j == 0))
 before k p q zero h l = refl
 before k p q (suc n) h l = let a = before k p q n h (omega arith) in let e = same_at p q n (h n (omega arith)) in omega arith
 
-one_less : (k : ℕ) (p q : Pool) (n : ℕ) → ((j : ℕ) → j ≢ k → named_by q j ≡ named_by p j) → sum_below n (λ j. one_if (named_by p j == 0)) ≤ sum_below n (λ j. one_if (named_by q j == 0)) + 1
+one_less : (k : ℕ) (p q : Pool) (n : ℕ) → ((j : ℕ) → j ≢ k → root_block q j ≡ root_block p j) → sum_below n (λ j. one_if (root_block p j == 0)) ≤ sum_below n (λ j. one_if (root_block q j == 0)) + 1
 one_less k p q zero h = lit≤ tt
 one_less k p q (suc n) h =
     elim (cases_eq n k) [
-      | inl e ↦ (let a = before k p q n h (omega arith) in let o = one_at_most (named_by p n == 0) in omega arith)
+      | inl e ↦ (let a = before k p q n h (omega arith) in let o = one_at_most (root_block p n == 0) in omega arith)
       | inr d ↦ (let a = one_less k p q n h in let e = same_at p q n (h n d) in omega arith)
     ]
 
@@ -397,7 +397,7 @@ pub rooms_rooted : {k b : ℕ} {p q : Pool} → IsRooted k b p q → rooms p ≤
 unfolding rooms
 rooms_rooted {k = k} {p = p} {q = q} h = one_less k p q 16 h.others
 
-same_below : (p q : Pool) (n : ℕ) → AreSameRoots p q → sum_below n (λ j. one_if (named_by q j == 0)) ≡ sum_below n (λ j. one_if (named_by p j == 0))
+same_below : (p q : Pool) (n : ℕ) → AreSameRoots p q → sum_below n (λ j. one_if (root_block q j == 0)) ≡ sum_below n (λ j. one_if (root_block p j == 0))
 same_below p q zero h = refl
 same_below p q (suc n) h = let a = same_below p q n h in let e = same_at p q n (h n) in omega arith
 
@@ -410,7 +410,7 @@ rooms_still {p = p} {q = q} s = same_below p q 16 s.roots
 -- after calls that read, where the trees are the same
 pub cheap_after : {p q r : Pool} (trees others : Pair) → IsRun p → IsRun q → q.start ≡ p.start → IsStill p q → others.near ≡ trees.near → others.far ≡ trees.far → IsCheap others q r → IsCheap trees p r
 cheap_after {p = p} {q = q} {r = r} trees others hp hq start s near far b x y sx sy h =
-    let one = b x y (s.trees others.near x (subst (λ (k : ℕ). Stands p k x) (sym near) sx)) (s.trees others.far y (subst (λ (k : ℕ). Stands p k y) (sym far) sy)) h in
+    let one = b x y (s.trees others.near x (subst (λ (k : ℕ). TreeStands p k x) (sym near) sx)) (s.trees others.far y (subst (λ (k : ℕ). TreeStands p k y) (sym far) sy)) h in
     made_more (0 + 1) 1 p r (made_then 0 1 p q r hp hq start s.made one) (lit≤ tt)
 
 -- and a call after them that makes none
@@ -445,7 +445,7 @@ rebuilt_alone b =
 -- where the root of the tree below was dropped
 pub rebuilt_over : {n : ℕ} {w m : Made} {p q r : Pool} → IsRun p → IsRun q → q.start ≡ p.start → IsHeld p w → IsBuilt n m p q → IsEmptied w.root q r → IsDropped w.root q r → IsWorking r → IsRebuilt n (Some w) m p r
 rebuilt_over {n = n} {w = w} {m = m} {p = p} {q = q} {r = r} hp hq start held b gone left work =
-    let ne : m.root ≢ w.root = λ e. held.some (sym held.names ∙ (ap (named_by p) (sym e) ∙ b.rooted.empty)) in
+    let ne : m.root ≢ w.root = λ e. held.some (sym held.names ∙ (ap (root_block p) (sym e) ∙ b.rooted.empty)) in
     record {
       low = b.rooted.low;
       some = b.some;
@@ -454,20 +454,20 @@ rebuilt_over {n = n} {w = w} {m = m} {p = p} {q = q} {r = r} hp hq start held b 
       left = gone.root;
       others = λ j h o. gone.others j o ∙ b.rooted.others j h;
       trees =
-          λ j t low o s. elim (cases_eq (named_by p j) 0) [
-            | inl e ↦ none_stands p r (named_by p j) t e s
-            | inr e ↦ left.trees j (named_by p j) t o low (b.rooted.others j (rooted_some j b.rooted e)) (b.trees j t low s)
+          λ j t low o s. elim (cases_eq (root_block p j) 0) [
+            | inl e ↦ none_stands p r (root_block p j) t e s
+            | inr e ↦ left.trees j (root_block p j) t o low (b.rooted.others j (rooted_some j b.rooted e)) (b.trees j t low s)
           ];
       blocks =
-          λ f j t low o s. elim (cases_eq (named_by p j) 0) [
-            | inl e ↦ weight_none f p r (named_by p j) t e s
-            | inr e ↦ weight_root w.root q r work left f t j (named_by p j) (gone.others j o ∙ b.rooted.others j (rooted_some j b.rooted e)) (b.trees j t low s) ∙ b.blocks f j t low s
+          λ f j t low o s. elim (cases_eq (root_block p j) 0) [
+            | inl e ↦ weight_none f p r (root_block p j) t e s
+            | inr e ↦ weight_root w.root q r work left f t j (root_block p j) (gone.others j o ∙ b.rooted.others j (rooted_some j b.rooted e)) (b.trees j t low s) ∙ b.blocks f j t low s
           ];
       made = made_more (n + 0) n p r (made_then n 0 p q r hp hq start b.made left.made) (omega arith);
     }
 
-pub rebuilt_stands : {n : ℕ} {w m : Made} {p q r : Pool} (t : Tree) → IsHeld p w → IsBuilt n m p q → IsDropped w.root q r → Stands q m.block t → Stands r m.block t
-rebuilt_stands {m = m} {p = p} t held b left s = left.trees m.root m.block t (λ e. held.some (sym held.names ∙ (ap (named_by p) (sym e) ∙ b.rooted.empty))) b.rooted.low b.rooted.names s
+pub rebuilt_stands : {n : ℕ} {w m : Made} {p q r : Pool} (t : Tree) → IsHeld p w → IsBuilt n m p q → IsDropped w.root q r → TreeStands q m.block t → TreeStands r m.block t
+rebuilt_stands {m = m} {p = p} t held b left s = left.trees m.root m.block t (λ e. held.some (sym held.names ∙ (ap (root_block p) (sym e) ∙ b.rooted.empty))) b.rooted.low b.rooted.names s
 
 -- the tree of a root, if there is one, is at hand
 pub held_at_hand : (p : Pool) (o : Option Made) → IsWorking p → IfSome o (IsHeld p) → IsAtHand p (block_of o)

@@ -6,11 +6,11 @@ use Rattle.shm_words.specs.declared.geometry.Geometry.{Geometry}
 use Rattle.shm_plain.specs.Pools.{Pool, memo_of}
 use Rattle.shm_count.specs.declared.answer.Made.{Made}
 use Rattle.shm_tree.specs.declared.{remove.Removed.Removed, stop.Stop.Stop, registers.Registers.Registers}
-use Rattle.shm_tree.specs.{Bounds.{drop_steps, share_steps}, Building.named_by, Changing.Changes}
+use Rattle.shm_tree.specs.{Bounds.{drop_steps, share_steps}, Building.root_block, Changing.Changes}
 use Rattle.shm_tree.specs.Costing.{Costs, MakesFew, copied_steps, copy_steps, read_steps, sweep_steps}
 use Rattle.shm_tree.specs.Forests.{HasVersions, IsForest, IsFree, KeepsRoots, KeepsVersions, block_in, root_at, version}
 use Rattle.shm_tree.specs.{Keeping.{HasMade, IsDropped, IsShared, IsStill, is_live}, Living.{AreLivesTrees, KeepsLives}}
-use Rattle.shm_tree.specs.{Removing.{IsKept, IsRemoved}, Standing.{IsTree, Stands}, Tearing.HasTorn}
+use Rattle.shm_tree.specs.{Removing.{IsKept, IsRemoved}, Standing.{IsTree, TreeStands}, Tearing.HasTorn}
 use Rattle.shm_tree.specs.{Trees.{Tree, height}, Working.{IfAlive, IsSameLatch, IsSpent, IsWorking, Went}}
 use Rattle.shm_tree.proofs.{Building.{Looked, looked_none, made_more, went_on}, Eras.spent_stays, Fallings.rests_shared}
 use Rattle.shm_tree.proofs.{Forests.{Sweeping, sweeping_more, sweeping_none}, Fresh.made_few, Nodes.made_then}
@@ -119,7 +119,7 @@ pub record Swept (ks : List ℕ) (n : ℕ) (p q : Pool) (x y : ℕ) : Type 0 whe
 pub swept_none : (ks : List ℕ) (p : Pool) (x : ℕ) → IsWorking p → Swept ks 0 p p x x
 swept_none ks p x w = record { swept = sweeping_none ks p x w; costs = costs_none (0 * drop_steps p.start.geometry 0) p x w }
 
-pub swept_more : {p q r : Pool} {x y z : ℕ} (ks : List ℕ) (n : ℕ) → IsWorking p → Swept ks n p q x y → Went q r y z → IsWorking r → IsSameLatch q r → KeepsRoots ks q r → ((k : ℕ) → k ≢ n → named_by r k ≡ named_by q k) → (IsFree ks n → named_by r n ≡ 0) → Costs 0 (drop_steps q.start.geometry 0) q r y z → Swept ks (n + 1) p r x z
+pub swept_more : {p q r : Pool} {x y z : ℕ} (ks : List ℕ) (n : ℕ) → IsWorking p → Swept ks n p q x y → Went q r y z → IsWorking r → IsSameLatch q r → KeepsRoots ks q r → ((k : ℕ) → k ≢ n → root_block r k ≡ root_block q k) → (IsFree ks n → root_block r n ≡ 0) → Costs 0 (drop_steps q.start.geometry 0) q r y z → Swept ks (n + 1) p r x z
 swept_more {p = p} {q = q} {r = r} {x = x} {y = y} {z = z} ks n wp a g w l k others empty costs =
     let d : ℕ = drop_steps p.start.geometry 0 in
     let first : Costs (0 + 0) (n * d + d) p r x z = costs_then (λ (e : Geometry). drop_steps e 0) wp a.swept.working w a.swept.went g a.costs costs in
@@ -175,6 +175,6 @@ pub cleared_costs : {x y w : ℕ} (f g h : Registers) (o : Result (Unit {0}) Sto
 cleared_costs f g h (Ok u) xf xg v swept xh m put = put_costs xf.working xg.working xh.working v m (unput_costs (copied_steps f.pool.start.geometry) swept) put
 cleared_costs f g h (Err e) xf xg v swept xh m put = tt
 
-pub got_costs : {T : Type 0} (x y : ℕ) (f : Registers) (q : Pool) (at : ℕ) (o : Result T Stop) → at < 12 → IfOk o (λ v. (t : Tree) → Stands f.pool (block_in f.pool (root_at f at)) t → Costs 0 (read_steps (height t)) f.pool q x y) → IfOk o (λ v. (ts : List Tree) → HasVersions f ts → Costs 0 (read_steps (height (version ts at))) f.pool q x y)
+pub got_costs : {T : Type 0} (x y : ℕ) (f : Registers) (q : Pool) (at : ℕ) (o : Result T Stop) → at < 12 → IfOk o (λ v. (t : Tree) → TreeStands f.pool (block_in f.pool (root_at f at)) t → Costs 0 (read_steps (height t)) f.pool q x y) → IfOk o (λ v. (ts : List Tree) → HasVersions f ts → Costs 0 (read_steps (height (version ts at))) f.pool q x y)
 got_costs x y f q at (Ok v) lt is = λ ts w. is (version ts at) (w.each at lt).stands
 got_costs x y f q at (Err e) lt is = tt

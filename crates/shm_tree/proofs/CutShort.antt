@@ -4,7 +4,7 @@ use Rattle.std.proofs.lemmas.Bool.{cases_lt}
 use Rattle.std.specs.{Prelude.{Some, IfErr}, Result.IsErrAnd}
 use Rattle.shm_plain.specs.{Calls.Ran, Pools.{Pool, memo_of}}
 use Rattle.shm_tree.specs.declared.{line.TreeLine.TreeLine, registers.Registers.Registers, stop.Stop.Stop}
-use Rattle.shm_tree.specs.{Building.named_by, CutShort.{DiesHalfDone, IsHalfDone}}
+use Rattle.shm_tree.specs.{Building.root_block, CutShort.{DiesHalfDone, IsHalfDone}}
 use Rattle.shm_tree.specs.Forests.{HasVersions, IsForest, IsFree, IsSpare, IsUnspent, MayBeDone, block_in, root_at, version}
 use Rattle.shm_tree.specs.{Standing.IsTree, Trees.{Tree, Empty}}
 use Rattle.shm_tree.specs.Working.{AreSameRoots, DiedBegun, IsCutOff, IsInCall, IsUnderWay}
@@ -23,7 +23,7 @@ pub unanswered : {x y : ℕ} (p q : Pool) → Ran 0 true false p q x y → IsInC
 unanswered {x = x} p q r =
     elim (cases_lt 0 x) [
       | inl lt ↦ inl (r.within refl lt)
-      | inr le ↦ inr (λ k. ap (λ (s : Pool). named_by s k) (r.still refl (omega arith)))
+      | inr le ↦ inr (λ k. ap (λ (s : Pool). root_block s k) (r.still refl (omega arith)))
     ]
 
 -- a call after one that changed no root
@@ -97,7 +97,7 @@ pub same_off : (line : TreeLine) (f g h : Registers) (q : Pool) (x z : ℕ) (e :
 same_off line f g h q x z e first same may begun kept d tidy some calm =
     elim (begun d) [
       | inl busy ↦ inl (inl busy)
-      | inr (inl none) ↦ (let is = first tidy in yet line f h (kept ∙ ap (λ (r : Registers). r.roots) is) (λ k. none.1 k ∙ (same k ∙ ap (λ (r : Registers). named_by r.pool k) is)) may)
+      | inr (inl none) ↦ (let is = first tidy in yet line f h (kept ∙ ap (λ (r : Registers). r.roots) is) (λ k. none.1 k ∙ (same k ∙ ap (λ (r : Registers). root_block r.pool k) is)) may)
       | inr (inr spent) ↦ absurd (calm spent)
     ]
 

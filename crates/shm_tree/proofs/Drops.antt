@@ -15,10 +15,10 @@ use Rattle.shm_ref.specs.{DropRoot.{Control.dropping, DropLeaves}, Lefts.RootEve
 use Rattle.shm_ref.proofs.RootKeeps.{drop_emptied, drop_queues, drop_roots}
 use Rattle.shm_ref.proofs.RefusedDrops.{spent_either, spent_emptied, spent_kept}
 use Rattle.shm_tree.specs.Keeping.{IsDropped, IsStill, KeepsNode, is_alloc, is_live, made_in}
-use Rattle.shm_tree.specs.{Standing.{IsNode, Stands, word_of}, Tearing.IsGone, Trees.{Tree, Empty, Node}}
+use Rattle.shm_tree.specs.{Standing.{IsNode, TreeStands, word_of}, Tearing.IsGone, Trees.{Tree, Empty, Node}}
 use Rattle.shm_tree.specs.Working.{AreSameRoots, IsEmptied, IsSameLatch, IsSpent, IsWorking, Reaches}
 use Rattle.shm_tree.proofs.Alive.{IsHomeless, IsOn, after, before, homeless_is, homeless_none, still, works, works_so}
-use Rattle.shm_tree.proofs.{Firsts.{freed_dead, frees_any}, Frames.{Unfreed, Unmade, Untouched, dead_kept, frees}}
+use Rattle.shm_tree.proofs.{Firsts.{freed_dead, frees_any}, Frames.{Unfreed, Unmade, UntouchedBy, dead_kept, frees}}
 use Rattle.shm_tree.proofs.Losses.{Loses}
 use Rattle.shm_tree.proofs.Nodes.{body_names, calm_first, calm_held, from_started, keeps_then, made_then, names, node_kept, root_is, root_names}
 use Rattle.shm_tree.proofs.{Shares.{queues_quiet, untouched_reaches, untouched_roots}, Turns.did_keeps}
@@ -145,7 +145,7 @@ module _ (p q : Pool) (es : List Event) (on : IsOn p q es) (k x : ℕ) (ds : Lis
       weaken (e ∷ xs) all = (torn_loss e all.0, weaken xs all.1)
 
   -- the home loses none
-  torn_home : (e : Event) → IsTearing 0 x (ds ++ frees_of 0 vs) e → Untouched (Home 0) e
+  torn_home : (e : Event) → IsTearing 0 x (ds ++ frees_of 0 vs) e → UntouchedBy (Home 0) e
   torn_home (Down c (Body d i) t) h = refl
   torn_home (Free c d) h = refl
   torn_home _ h = absurd h
@@ -158,7 +158,7 @@ module _ (p q : Pool) (es : List Event) (on : IsOn p q es) (k x : ℕ) (ds : Lis
       weaken (e ∷ xs) all = (torn_home e all.0, weaken xs all.1)
 
   -- a block that is live and no zero-count block in the end lost no word
-  untouched_by : (b i : ℕ) → is_live q b ≡ true → (Contains (memo_of q 0).dying b → ⊥) → (e : Event) → IsTearing 0 x (ds ++ frees_of 0 vs) e → Untouched (Body b i) e
+  untouched_by : (b i : ℕ) → is_live q b ≡ true → (Contains (memo_of q 0).dying b → ⊥) → (e : Event) → IsTearing 0 x (ds ++ frees_of 0 vs) e → UntouchedBy (Body b i) e
   untouched_by b i live counted (Free c d) h = refl
   untouched_by b i live counted (Down c (Body d j) t) h =
       elim (cases_eq d b) [
@@ -174,10 +174,10 @@ module _ (p q : Pool) (es : List Event) (on : IsOn p q es) (k x : ℕ) (ds : Lis
           ]
   untouched_by b i live counted _ h = absurd h
 
-  untouched_all : (b i : ℕ) → is_live q b ≡ true → (Contains (memo_of q 0).dying b → ⊥) → AllByRecursion (Untouched (Body b i)) es'
+  untouched_all : (b i : ℕ) → is_live q b ≡ true → (Contains (memo_of q 0).dying b → ⊥) → AllByRecursion (UntouchedBy (Body b i)) es'
   untouched_all b i live counted = (refl, weaken ds torn_each)
     where
-      weaken : (xs : List Event) → AllByRecursion (λ e. IsTearing 0 x (ds ++ frees_of 0 vs) e) xs → AllByRecursion (Untouched (Body b i)) xs
+      weaken : (xs : List Event) → AllByRecursion (λ e. IsTearing 0 x (ds ++ frees_of 0 vs) e) xs → AllByRecursion (UntouchedBy (Body b i)) xs
       weaken [] all = tt
       weaken (e ∷ xs) all = (untouched_by b i live counted e all.0, weaken xs all.1)
 
@@ -194,13 +194,13 @@ module _ (p q : Pool) (es : List Event) (on : IsOn p q es) (k x : ℕ) (ds : Lis
       (c.0, λ d. c.1 ((h.dying 0 (calm_first q (after p q es on))).listed b d).1)
 
   -- so a tree stands that a word names
-  tree_left : (t : Tree) (b : ℕ) (s : Spot) → names q s ≡ b → Stands p b t → Stands q b t
+  tree_left : (t : Tree) (b : ℕ) (s : Spot) → names q s ≡ b → TreeStands p b t → TreeStands q b t
   tree_left Empty b s e y = y
   tree_left (Node i n l r) b s e y =
       let c = counted_left b s y.0.some e in
       let kept = nodes_left b i n _ c.0 c.1 y.0 in
-      let left : Stands p (word_of q (Body b 0)) l = subst (λ z. Stands p z l) (sym kept.left) y.1 in
-      let right : Stands p (word_of q (Body b 1)) r = subst (λ z. Stands p z r) (sym kept.right) y.2 in
+      let left : TreeStands p (word_of q (Body b 0)) l = subst (λ z. TreeStands p z l) (sym kept.left) y.1 in
+      let right : TreeStands p (word_of q (Body b 1)) r = subst (λ z. TreeStands p z r) (sym kept.right) y.2 in
       let two = kept.node.refs in (
         kept.node,
         tree_left l (word_of q (Body b 0)) (Body b 0) (body_names q (after p q es on) b 0 kept.node.live (omega (arith, two))) left,

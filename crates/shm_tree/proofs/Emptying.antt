@@ -11,22 +11,22 @@ use Rattle.shm_plain.specs.{Closings.IsClosedRun, Pools.{IsRun, Pool, after_fall
 use Rattle.shm_plain.proofs.Turning.{fall_run}
 use Rattle.shm_recover.specs.{Recover.{Losses.IsLoss, OnlyLoses}, Proved.Recover.Losses.roots_losses}
 use Rattle.shm_tree.specs.{Ending.{HasEnded, HasParted, IsRevived}, Falling.AreFalling, Keeping.is_live}
-use Rattle.shm_tree.proofs.{Drops.each, Falls.{Keeps, falling_kept}, Named.upward}
+use Rattle.shm_tree.proofs.{Drops.each, Falls.{OnlyFalls, falling_kept}, Named.upward}
 use Rattle.shm_tree.proofs.Nodes.{IsCalm, names, root_is, root_names}
 
 -- ---- events that lose references
 
-loss_keeps : (r : ℕ → ℕ) (n : ℕ) (e : Event) → IsLoss 0 e → Keeps r n e
+loss_keeps : (r : ℕ → ℕ) (n : ℕ) (e : Event) → IsLoss 0 e → OnlyFalls r n e
 loss_keeps r n (Down c s b) h = tt
 loss_keeps r n (Free c b) h = tt
 loss_keeps r n _ h = absurd h
 
-lost_keeps : (r : ℕ → ℕ) (n : ℕ) (es : List Event) → OnlyLoses 0 es → (e : Event) → Contains es e → Keeps r n e
+lost_keeps : (r : ℕ → ℕ) (n : ℕ) (es : List Event) → OnlyLoses 0 es → (e : Event) → Contains es e → OnlyFalls r n e
 lost_keeps r n es h e c =
     elim (Contains-append_cases h.half h.losses e (subst (λ (xs : List Event). Contains xs e) h.split c)) [
       | inl y ↦ elim h.first [
         | inl none ↦ absurd (let z : Contains [] e = subst (λ (xs : List Event). Contains xs e) none y in let l = z.1 in omega (arith, l))
-        | inr (a, one) ↦ subst (Keeps r n) (only (ChangeDown 0 a) (subst (λ (xs : List Event). Contains xs e) one y)) tt
+        | inr (a, one) ↦ subst (OnlyFalls r n) (only (ChangeDown 0 a) (subst (λ (xs : List Event). Contains xs e) one y)) tt
       ]
       | inr y ↦ loss_keeps r n e (All-contains (IsLoss 0) h.losses e h.others y)
     ]
@@ -74,7 +74,7 @@ module _ (p : Pool) (run : IsRun p) (one : p.start.geometry.clients ≡ 1) (act 
     parted_empty h =
         let gone = h.leaves in
         let cq : IsCalm q = record { run = closed.run; one = clients; idle = gone.left.idle } in
-        let after : AreFalling q = falling_kept p q h.told run closed.run start h.did falling (each (Keeps falling.rank falling.most) h.told (λ e c. loss_keeps falling.rank falling.most e (All-contains (IsLoss 0) h.told e (roots_losses 0 (memo_of p 0) 16 h.told gone.events) c))) in
+        let after : AreFalling q = falling_kept p q h.told run closed.run start h.did falling (each (OnlyFalls falling.rank falling.most) h.told (λ e c. loss_keeps falling.rank falling.most e (All-contains (IsLoss 0) h.told e (roots_losses 0 (memo_of p 0) 16 h.told gone.events) c))) in
         none_live q cq after (λ b live. (closed.clean.counts b live).0) (λ k. root_names q cq k ∙ (sym (root_is q cq k) ∙ gone.left.roots k))
 
     revived_empty : IsRevived (after_fall p 0) q (Ok tt) → (b : ℕ) → is_live q b ≡ false
@@ -82,7 +82,7 @@ module _ (p : Pool) (run : IsRun p) (one : p.start.geometry.clients ≡ 1) (act 
         let gone = h.leaves in
         let cq : IsCalm q = record { run = closed.run; one = clients; idle = gone.left.idle } in
         let fell : AreFalling (after_fall p 0) = fall_falling falling in
-        let after : AreFalling q = falling_kept (after_fall p 0) q h.told (fall_run p 0 run (omega (arith, one))) closed.run start h.did fell (each (Keeps fell.rank fell.most) h.told (lost_keeps fell.rank fell.most h.told gone.events)) in
+        let after : AreFalling q = falling_kept (after_fall p 0) q h.told (fall_run p 0 run (omega (arith, one))) closed.run start h.did fell (each (OnlyFalls fell.rank fell.most) h.told (lost_keeps fell.rank fell.most h.told gone.events)) in
         none_live q cq after (λ b live. (closed.clean.counts b live).0) (λ k. root_names q cq k ∙ (sym (root_is q cq k) ∙ gone.left.roots k))
 
     -- no block is live once the client has left, or was recovered

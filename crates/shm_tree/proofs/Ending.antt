@@ -10,9 +10,8 @@ use Rattle.shm_graph.specs.{Agents.{acts, entered, last_agent}, Asks.Trail, Laws
 use Rattle.shm_graph.specs.{Spots.{IsAt, classes_in, spot_address}, Views.own_word, Whole.fits_now}
 use Rattle.shm_graph.proofs.{Memos.MemoSteps.recovers-entered, Spots.{Fixed.fixed_is_at, Seeing.see_there}}
 use Rattle.shm_graph.proofs.Spots.Spotting.{at_below}
-use Rattle.shm_calls.specs.{declared.calls.Calls.Calls, CallsControl.{calls_control, calls_does, calls_of}}
-use Rattle.shm_calls.specs.{CallsFit.{CallsFits, CallsGives}, Proved.CallsKeep.{calls_begin, calls_tells}}
-use Rattle.shm_calls.specs.Plans.{PlanLaws}
+use Rattle.plans.specs.{declared.calls.Calls.Calls, CallsControl.{calls_control, calls_does, calls_of}}
+use Rattle.plans.specs.{CallsFit.{CallsFits, CallsGives}, Proved.CallsKeep.{calls_begin, calls_tells}, Plans.PlanLaws}
 use Rattle.shm_plain.specs.Pools.{IsOf, IsRun, MayStep, Pool, after_fall, memo_of, readied}
 use Rattle.shm_plain.proofs.{Called.{Called, answered, call_fits}, Calling.{fits_acting, may_acting}}
 use Rattle.shm_count.specs.{declared.answer.EraSpent.EraSpent, Roots.member}
@@ -22,9 +21,8 @@ use Rattle.shm_recover.specs.Proved.{FinishTakes.Laws.finish_laws, GiveUp.Laws.g
 use Rattle.shm_recover.specs.Proved.{Leave.Laws.leave_laws, Mend.Laws.mend_laws}
 use Rattle.shm_recover.specs.Proved.{Recover.Laws.{recover_begin, recover_laws}, Scan.Laws.scan_laws}
 use Rattle.shm_recover.specs.Proved.TakeBack.Laws.{back_laws}
-use Rattle.shm_recover.specs.Leave.{Control.{LeaveAnswer, LeaveCall, leave_parts, leaving, leave_steered}, leave_plan}
-use Rattle.shm_recover.specs.Recover.Control.{RecoverAnswer, RecoverCall, recover_parts, recovering, recover_steered}
-use Rattle.shm_recover.specs.Recover.{recover_plan}
+use Rattle.shm_recover.specs.Leave.{Control.{LeaveCall, leave_parts, leaving, leave_steered}, leave_plan}
+use Rattle.shm_recover.specs.Recover.{Control.{RecoverCall, recover_parts, recovering, recover_steered}, recover_plan}
 use Rattle.shm_alone.specs.{GiveEnds.none_over, LeaveEnds.{leave_alone, leave_left}}
 use Rattle.shm_alone.specs.Proved.{LeaveEnds.{leave_few, leave_ends}, RecoverEnds.{recover_few, recover_ends}}
 use Rattle.shm_alone.specs.RecoverEnds.{recover_alone, recover_left}
@@ -60,7 +58,7 @@ answers_sure {S} k fits gives m n is enough p q r0 x y o run may of fit fresh sa
 -- ---- a leaving
 
 abbrev pub LeaveCalls : Type 0
-LeaveCalls = Calls LeaveState LeaveCall (Result (Unit {0}) EraSpent) LeaveAnswer
+LeaveCalls = Calls LeaveState LeaveCall
 
 abbrev pub leave_control : Control LeaveCalls (Result (Unit {0}) EraSpent)
 leave_control = calls_control leave_parts leave_steered
@@ -100,7 +98,7 @@ module _ (p : Pool) (h : IsWorking p) (latch : (memo_of p 0).latch ≡ None) (dy
 -- ---- a recovery
 
 abbrev pub RecoverCalls : Type 0
-RecoverCalls = Calls RecoverState RecoverCall (Result (Unit {0}) EraSpent) RecoverAnswer
+RecoverCalls = Calls RecoverState RecoverCall
 
 abbrev pub recover_control : Control RecoverCalls (Result (Unit {0}) EraSpent)
 recover_control = calls_control recover_parts recover_steered

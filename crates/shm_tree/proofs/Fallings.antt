@@ -2,9 +2,9 @@
 use Rattle.std.proofs.Common.{◌≡◌, ℕ, ◌+◌, ◌-◌, ◌*◌, ◌≤◌, [], true, refl, sym, ◌∙◌, subst, arith, inl, inr, true≢false}
 use Rattle.shm_words.specs.declared.geometry.Geometry.{Geometry}
 use Rattle.shm_plain.specs.Pools.{Pool, memo_of}
-use Rattle.shm_tree.specs.{Bounds.{fall_steps, remnant_steps, remove_steps, raise_steps}, Building.{IsCut, named_by}}
+use Rattle.shm_tree.specs.{Bounds.{fall_steps, remnant_steps, remove_steps, raise_steps}, Building.{IsCut, root_block}}
 use Rattle.shm_tree.specs.{Keeping.{IsShared, is_live}, Living.{AreLivesTrees, KeepsLives}, Spending.HasSpent}
-use Rattle.shm_tree.specs.{Standing.Stands, Working.{IsSpent, IsWorking, Went}}
+use Rattle.shm_tree.specs.{Standing.TreeStands, Working.{IsSpent, IsWorking, Went}}
 use Rattle.shm_tree.proofs.{Eras.spent_stays, Lights.{once, part_weighs, weighs_live}, Named.lives_nodes}
 use Rattle.shm_tree.proofs.Spendings.{spent_more}
 
@@ -50,7 +50,7 @@ pub cut_stay : {n x y : ℕ} (p q : Pool) → IsWorking p → IsWorking q → We
 cut_stay p q wp wq went calm trees cut b live =
     let none : (memo_of p 0).dying ≡ [] = elim wp.dying [ inl e ↦ e | inr s ↦ absurd (calm (spent_stays p q wp wq went s)) ] in
     let w = lives_nodes p wp none trees b live in
-    let there : Stands q (named_by p w.0) w.2 = cut.trees w.0 w.2 w.1 w.3 in
-    let some = part_weighs p b (named_by p w.0) w.2 w.4 in
+    let there : TreeStands q (root_block p w.0) w.2 = cut.trees w.0 w.2 w.1 w.3 in
+    let some = part_weighs p b (root_block p w.0) w.2 w.4 in
     let same = cut.blocks (once b) w.0 w.2 w.1 w.3 in
-    weighs_live q b (named_by p w.0) w.2 there (omega (arith, some, same))
+    weighs_live q b (root_block p w.0) w.2 there (omega (arith, some, same))

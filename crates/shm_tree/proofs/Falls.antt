@@ -9,7 +9,7 @@ use Rattle.shm_graph.specs.{References.words_of, Spots.{same_spot, see}, Views.t
 use Rattle.shm_graph.proofs.{Spots.Spotting.same_spot_is, States.Holders.held_live_not_zero}
 use Rattle.shm_plain.specs.{Calls.Did, Pools.{IsRun, Pool}}
 use Rattle.shm_tree.specs.{Falling.{AreFalling, KeepsFalling}, Keeping.is_live, Living.AreLivesTrees}
-use Rattle.shm_tree.specs.{Standing.{Stands, word_of}, Trees.{Tree, Empty, Node, height}, Working.IsWorking}
+use Rattle.shm_tree.specs.{Standing.{TreeStands, word_of}, Trees.{Tree, Empty, Node, height}, Working.IsWorking}
 use Rattle.shm_tree.proofs.Links.{stands_low}
 use Rattle.shm_tree.proofs.Nodes.{IsCalm, body_names, calm_held, from_started, home_names, names, working_calm}
 use Rattle.shm_tree.proofs.Turns.{StepsKeep, did_keeps}
@@ -50,14 +50,14 @@ lives_fall p work trees home =
     calm : IsCalm p
     calm = working_calm p work
 
-    rank_is : (b : ℕ) (t : Tree) → b ≢ 0 → Stands p b t → word_of p (Body b 4) ≡ height t
+    rank_is : (b : ℕ) (t : Tree) → b ≢ 0 → TreeStands p b t → word_of p (Body b 4) ≡ height t
     rank_is b Empty some st = absurd (some st)
     rank_is b (Node k n l r) some st = st.0.height
 
-    child_rank : (b c : ℕ) (t : Tree) → b ≢ 0 → b ≡ c → Stands p c t → word_of p (Body b 4) ≡ height t
-    child_rank b c t some e st = rank_is b t some (subst (λ (z : ℕ). Stands p z t) (sym e) st)
+    child_rank : (b c : ℕ) (t : Tree) → b ≢ 0 → b ≡ c → TreeStands p c t → word_of p (Body b 4) ≡ height t
+    child_rank b c t some e st = rank_is b t some (subst (λ (z : ℕ). TreeStands p z t) (sym e) st)
 
-    below : (d i : ℕ) (u : Tree) → Stands p d u → is_live p d ≡ true → i < tag_refs p.start.geometry.wide (word_of p (Tag d)) → names p (Body d i) ≢ 0 → (word_of p (Body (names p (Body d i)) 4) < word_of p (Body d 4)) × (word_of p (Body d 4) ≤ 2 ^ 24)
+    below : (d i : ℕ) (u : Tree) → TreeStands p d u → is_live p d ≡ true → i < tag_refs p.start.geometry.wide (word_of p (Tag d)) → names p (Body d i) ≢ 0 → (word_of p (Body (names p (Body d i)) 4) < word_of p (Body d 4)) × (word_of p (Body d 4) ≤ 2 ^ 24)
     below d i Empty st live low some = absurd (held_live_not_zero p.start.geometry _ _ (calm_held p calm) d live st)
     below d i (Node k n l r) st live low some =
         let here : word_of p (Body d 4) ≡ height (Node k n l r) = st.0.height in
@@ -104,8 +104,8 @@ more_ups P Q more (e ∷ es) all = (one e all.0, more_ups P Q more es all.1)
     one _ h = tt
 
 -- the event makes only references that fall
-abbrev pub Keeps : (ℕ → ℕ) → ℕ → Event → Type 0
-Keeps r n = Ups (IsLower r n)
+abbrev pub OnlyFalls : (ℕ → ℕ) → ℕ → Event → Type 0
+OnlyFalls r n = Ups (IsLower r n)
 
 module _ (r : ℕ → ℕ) (n : ℕ) where
   same_falls : (t u : Spot → ℕ) → ((s : Spot) → u s ≡ t s) → Falls r n t → Falls r n u
@@ -149,7 +149,7 @@ module _ (r : ℕ → ℕ) (n : ℕ) where
             subst (λ (y : ℕ). (r y < r d) × (r d ≤ n)) (sym is) (h.1 d i (λ none. some (is ∙ none))))
       ]
 
-  event_falls : (g : Geometry) (w : Spot → ℕ) (a b : Graph) (e : Event) → Happens g w e a b → Keeps r n e → Falls r n a.target → Falls r n b.target
+  event_falls : (g : Geometry) (w : Spot → ℕ) (a b : Graph) (e : Event) → Happens g w e a b → OnlyFalls r n e → Falls r n a.target → Falls r n b.target
   event_falls g w a b Nothing h good f = same_falls a.target b.target h.targets f
   event_falls g w a b (Alloc c k x) h good f = set_falls a.target b.target (Root c k) x h.3.2.targets tt f
   event_falls g w a b (Up c p x) h good f = set_falls a.target b.target p x h.2.targets good f
@@ -158,15 +158,15 @@ module _ (r : ℕ → ℕ) (n : ℕ) where
   event_falls g w a b (ChangeDown c x) h good f = same_falls a.target b.target h.2.targets f
   event_falls g w a b (Free c x) h good f = same_falls a.target b.target h.4.targets f
 
-  falls_kept : (g : Geometry) (c : ℕ) → StepsKeep g c (Keeps r n) (λ w v. Falls r n (targets g w v))
+  falls_kept : (g : Geometry) (c : ℕ) → StepsKeep g c (OnlyFalls r n) (λ w v. Falls r n (targets g w v))
   falls_kept g c w w' v v' a p e who h step words good is = event_falls g w (graph_of g w v) (graph_of g w' v') e step.event good is
 
 -- Turns of the client whose events make only references that fall leave references that fall
-pub falling_kept : (p q : Pool) (es : List Event) → IsRun p → IsRun q → q.start ≡ p.start → Did 0 p q es → (h : AreFalling p) → AllByRecursion (Keeps h.rank h.most) es → AreFalling q
+pub falling_kept : (p q : Pool) (es : List Event) → IsRun p → IsRun q → q.start ≡ p.start → Did 0 p q es → (h : AreFalling p) → AllByRecursion (OnlyFalls h.rank h.most) es → AreFalling q
 falling_kept p q es hp hq start did h all =
     let f : Falls h.rank h.most (λ s. names q s) =
     from_started (λ z. Falls h.rank h.most (λ s. names z s)) p q start
-    (did_keeps 0 p q es hp hq start did (Keeps h.rank h.most) tt (λ w v. Falls h.rank h.most (targets p.start.geometry w v)) (falls_kept h.rank h.most p.start.geometry 0) all (h.home, h.falls)) in
+    (did_keeps 0 p q es hp hq start did (OnlyFalls h.rank h.most) tt (λ w v. Falls h.rank h.most (targets p.start.geometry w v)) (falls_kept h.rank h.most p.start.geometry 0) all (h.home, h.falls)) in
     record { home = f.0; rank = h.rank; most = h.most; falls = f.1 }
 
 pub still_falling : {p q : Pool} → KeepsFalling p q → AreFalling p → AreFalling q

@@ -8,7 +8,7 @@ use Rattle.shm_graph.specs.{declared.spot.Spot.TheVariants.{Body, Root, Tag}, As
 use Rattle.shm_graph.specs.{Held.is_loose, Idle.hold_word, MemoAfterRead.values_read, Reach.{learnt, not_at}, Spots.see}
 use Rattle.shm_graph.specs.Views.{own_word}
 use Rattle.shm_graph.proofs.StepKinds.Loads.{choice}
-use Rattle.shm_laws.proofs.Keep.{Contains-filter}
+use Rattle.kind_laws.proofs.Lists.{Contains-filter}
 use Rattle.shm_plain.specs.Pools.{Pool, memo_of, pool}
 use Rattle.shm_count.specs.{Roots.member, Tear.Memos.Knows}
 use Rattle.shm_ref.specs.declared.answer.LookFault.{LookFault, TheVariants.{NoSuchRef, NotHeld}}

@@ -6,7 +6,8 @@ use Rattle.shm_words.proofs.Placing.{total_most_wide}
 use Rattle.shm_graph.specs.{declared.spot.Spot.TheVariants.Body, References.{one_if, sum_below}}
 use Rattle.shm_graph.proofs.States.Reading.{live_below}
 use Rattle.shm_plain.specs.Pools.{Pool}
-use Rattle.shm_tree.specs.{Standing.{Stands, word_of}, Trees.{Tree, Empty, Node, AreAbove, AreBelow, IsSearch, size}}
+use Rattle.shm_tree.specs.Standing.{TreeStands, word_of}
+use Rattle.shm_tree.specs.Trees.{Tree, Empty, Node, AreAbove, AreBelow, IsSearch, size}
 use Rattle.shm_tree.proofs.Searching.{below_more}
 
 -- ---- sums
@@ -73,7 +74,7 @@ module _ (p : Pool) where
   keys_more : (i j : ℕ) → i ≤ j → keys_below i ≤ keys_below j
   keys_more i j le = sum_most (total_of p.start.geometry) _ _ (λ b. one_more (word_of p (Body b 2)) i j le)
 
-  size_between : (b lo hi : ℕ) (t : Tree) → lo ≤ hi → Stands p b t → IsSearch t → AreFrom lo t → AreBelow hi t → size t + keys_below lo ≤ keys_below hi
+  size_between : (b lo hi : ℕ) (t : Tree) → lo ≤ hi → TreeStands p b t → IsSearch t → AreFrom lo t → AreBelow hi t → size t + keys_below lo ≤ keys_below hi
   size_between b lo hi Empty le st se from to = omega (arith, keys_more lo hi le)
   size_between b lo hi (Node k n l r) le (m, hl, hr) (lk, kr, sl, sr) (lo_k, fl, fr) (k_hi, tl, tr) =
       let left = size_between (word_of p (Body b 0)) lo k l lo_k hl sl fl lk in
@@ -83,11 +84,11 @@ module _ (p : Pool) where
       omega (arith, left, right, here)
 
 -- no more nodes than words
-pub size_fits : (p : Pool) (b : ℕ) (t : Tree) → Stands p b t → IsSearch t → size t ≤ total_of p.start.geometry
+pub size_fits : (p : Pool) (b : ℕ) (t : Tree) → TreeStands p b t → IsSearch t → size t ≤ total_of p.start.geometry
 size_fits p b t st se =
     let above = some_above t in
     let between = size_between p b 0 above.0 t (omega arith) st se (from_zero t) above.1 in
     omega (arith, between, sum_few (total_of p.start.geometry) (λ d. nat_lt (word_of p (Body d 2)) above.0))
 
-pub size_small : (p : Pool) (b : ℕ) (t : Tree) → GeometryFits p.start.geometry → Stands p b t → IsSearch t → size t < 2 ^ 24
+pub size_small : (p : Pool) (b : ℕ) (t : Tree) → GeometryFits p.start.geometry → TreeStands p b t → IsSearch t → size t < 2 ^ 24
 size_small p b t fits st se = omega (arith, size_fits p b t st se, total_most_wide p.start.geometry fits)

@@ -7,9 +7,9 @@ use Rattle.shm_plain.specs.{Calls.Did, Pools.{IsRun, Pool, memo_of}}
 use Rattle.shm_plain.proofs.OwnTurns.{did_none}
 use Rattle.shm_count.specs.declared.answer.Made.{Made}
 use Rattle.shm_tree.specs.declared.{registers.Registers.Registers, stop.Stop.Stop}
-use Rattle.shm_tree.specs.{Building.{IsBuilt, IsCut, named_by}, Changing.Changes, Causes.StopCause}
-use Rattle.shm_tree.specs.Forests.{Calls, IsForest, IsFree, IsTidy, KeepsNamed, KeepsOthers, KeepsRegisters, KeepsRoot, KeepsRoots, KeepsVersions, Stopped, block_in, root_at, version}
-use Rattle.shm_tree.specs.{Keeping.{IsDropped, IsShared, IsStill}, Standing.{IsTree, Stands, weight}, Trees.Tree}
+use Rattle.shm_tree.specs.{Building.{IsBuilt, IsCut, root_block}, Changing.Changes, Causes.StopCause}
+use Rattle.shm_tree.specs.Forests.{CallLeaves, IsForest, IsFree, IsTidy, KeepsNamed, KeepsOthers, KeepsRegisters, KeepsRoot, KeepsRoots, KeepsVersions, CallStopped, block_in, root_at, version}
+use Rattle.shm_tree.specs.{Keeping.{IsDropped, IsShared, IsStill}, Standing.{IsTree, TreeStands, weight}, Trees.Tree}
 use Rattle.shm_tree.specs.Working.{DiedIn, IfAlive, IfRefused, IsEmptied, IsRooted, IsSameLatch, IsWorking, Went}
 use Rattle.shm_tree.specs.declared.stop.Stop.TheVariants as stop
 use Rattle.shm_tree.proofs.Answering.{alive_map, cause_after}
@@ -18,31 +18,31 @@ use Rattle.shm_tree.proofs.{Links.still_then, Turns.did_then, Weights.{weight_no
 
 -- ---- roots
 
-pub block_low : (p : Pool) (k : ℕ) → k < 16 → block_in p k ≡ named_by p k
-block_low p k lt = cond-true (nat_lt k 16) (named_by p k) 0 (lt-ltb k 16 lt)
+pub block_low : (p : Pool) (k : ℕ) → k < 16 → block_in p k ≡ root_block p k
+block_low p k lt = cond-true (nat_lt k 16) (root_block p k) 0 (lt-ltb k 16 lt)
 
 pub block_none : (p : Pool) (k : ℕ) → 16 ≤ k → block_in p k ≡ 0
-block_none p k le = cond-false (nat_lt k 16) (named_by p k) 0 (le-ltb k 16 le)
+block_none p k le = cond-false (nat_lt k 16) (root_block p k) 0 (le-ltb k 16 le)
 
 pub root_past : {p q : Pool} (k : ℕ) → 16 ≤ k → KeepsRoot p q k
 root_past {p = p} {q = q} k le = record { same = block_none q k le ∙ sym (block_none p k le); trees = λ t s. none_stands p q (block_in p k) t (block_none p k le) s; blocks = λ f t s. weight_none f p q (block_in p k) t (block_none p k le) s }
 
-pub root_low : {p q : Pool} (k : ℕ) → k < 16 → named_by q k ≡ named_by p k → ((t : Tree) → Stands p (named_by p k) t → Stands q (named_by p k) t) → ((f : ℕ → ℕ) (t : Tree) → Stands p (named_by p k) t → weight f q (named_by p k) t ≡ weight f p (named_by p k) t) → KeepsRoot p q k
+pub root_low : {p q : Pool} (k : ℕ) → k < 16 → root_block q k ≡ root_block p k → ((t : Tree) → TreeStands p (root_block p k) t → TreeStands q (root_block p k) t) → ((f : ℕ → ℕ) (t : Tree) → TreeStands p (root_block p k) t → weight f q (root_block p k) t ≡ weight f p (root_block p k) t) → KeepsRoot p q k
 root_low {p = p} {q = q} k lt same trees blocks =
     record {
       same = block_low q k lt ∙ (same ∙ sym (block_low p k lt));
-      trees = λ t s. subst (λ (b : ℕ). Stands q b t) (sym (block_low p k lt)) (trees t (subst (λ (b : ℕ). Stands p b t) (block_low p k lt) s));
-      blocks = λ f t s. subst (λ (b : ℕ). weight f q b t ≡ weight f p b t) (sym (block_low p k lt)) (blocks f t (subst (λ (b : ℕ). Stands p b t) (block_low p k lt) s));
+      trees = λ t s. subst (λ (b : ℕ). TreeStands q b t) (sym (block_low p k lt)) (trees t (subst (λ (b : ℕ). TreeStands p b t) (block_low p k lt) s));
+      blocks = λ f t s. subst (λ (b : ℕ). weight f q b t ≡ weight f p b t) (sym (block_low p k lt)) (blocks f t (subst (λ (b : ℕ). TreeStands p b t) (block_low p k lt) s));
     }
 
 pub root_still : {p q : Pool} (k : ℕ) → IsStill p q → KeepsRoot p q k
 root_still {p = p} {q = q} k s =
     elim (cases_lt k 16) [
-      | inl lt ↦ root_low k lt (s.roots k) (λ t h. s.trees (named_by p k) t h) (λ f t h. weight_nodes f p q s.nodes (named_by p k) t h)
+      | inl lt ↦ root_low k lt (s.roots k) (λ t h. s.trees (root_block p k) t h) (λ f t h. weight_nodes f p q s.nodes (root_block p k) t h)
       | inr le ↦ root_past k le
     ]
 
-pub root_cut : {n : ℕ} {p q : Pool} (k : ℕ) → IsCut n p q → (k < 16 → named_by p k ≢ 0) → KeepsRoot p q k
+pub root_cut : {n : ℕ} {p q : Pool} (k : ℕ) → IsCut n p q → (k < 16 → root_block p k ≢ 0) → KeepsRoot p q k
 root_cut {p = p} {q = q} k c some =
     elim (cases_lt k 16) [
       | inl lt ↦ root_low k lt (c.roots k (some lt)) (λ t h. c.trees k t lt h) (λ f t h. c.blocks f k t lt h)
@@ -52,7 +52,7 @@ root_cut {p = p} {q = q} k c some =
 pub root_dropped : {p q : Pool} (j k : ℕ) → (k < 16 → k ≢ j) → IsEmptied j p q → IsDropped j p q → IsWorking q → KeepsRoot p q k
 root_dropped {p = p} {q = q} j k ne e d w =
     elim (cases_lt k 16) [
-      | inl lt ↦ root_low k lt (e.others k (ne lt)) (λ t h. d.trees k (named_by p k) t (ne lt) lt refl h) (λ f t h. weight_root j p q w d f t k (named_by p k) (e.others k (ne lt)) h)
+      | inl lt ↦ root_low k lt (e.others k (ne lt)) (λ t h. d.trees k (root_block p k) t (ne lt) lt refl h) (λ f t h. weight_root j p q w d f t k (root_block p k) (e.others k (ne lt)) h)
       | inr le ↦ root_past k le
     ]
 
@@ -60,11 +60,11 @@ pub root_then : {p q r : Pool} (k : ℕ) → KeepsRoot p q k → KeepsRoot q r k
 root_then {p = p} {q = q} {r = r} k a b =
     record {
       same = b.same ∙ a.same;
-      trees = λ t s. subst (λ (x : ℕ). Stands r x t) a.same (b.trees t (subst (λ (x : ℕ). Stands q x t) (sym a.same) (a.trees t s)));
-      blocks = λ f t s. subst (λ (x : ℕ). weight f r x t ≡ weight f q x t) a.same (b.blocks f t (subst (λ (x : ℕ). Stands q x t) (sym a.same) (a.trees t s))) ∙ a.blocks f t s;
+      trees = λ t s. subst (λ (x : ℕ). TreeStands r x t) a.same (b.trees t (subst (λ (x : ℕ). TreeStands q x t) (sym a.same) (a.trees t s)));
+      blocks = λ f t s. subst (λ (x : ℕ). weight f r x t ≡ weight f q x t) a.same (b.blocks f t (subst (λ (x : ℕ). TreeStands q x t) (sym a.same) (a.trees t s))) ∙ a.blocks f t s;
     }
 
-pub named_same : {p q : Pool} (k : ℕ) → KeepsRoot p q k → k < 16 → named_by q k ≡ named_by p k
+pub named_same : {p q : Pool} (k : ℕ) → KeepsRoot p q k → k < 16 → root_block q k ≡ root_block p k
 named_same {p = p} {q = q} k h lt = sym (block_low q k lt) ∙ (h.same ∙ block_low p k lt)
 
 -- ---- roots that named a block
@@ -81,7 +81,7 @@ named_then {p = p} {q = q} a b k some = root_then k (a k some) (b k (λ lt e. so
 -- ---- registers
 
 pub version_kept : {p q : Pool} {k : ℕ} (t : Tree) → KeepsRoot p q k → IsTree p (block_in p k) t → IsTree q (block_in q k) t
-version_kept {p = p} {q = q} {k = k} t h s = record { stands = subst (λ (b : ℕ). Stands q b t) (sym h.same) (h.trees t s.stands); search = s.search; balanced = s.balanced }
+version_kept {p = p} {q = q} {k = k} t h s = record { stands = subst (λ (b : ℕ). TreeStands q b t) (sym h.same) (h.trees t s.stands); search = s.search; balanced = s.balanced }
 
 -- the registers over another pool
 pub over : Registers → Pool → Bool → Registers
@@ -160,13 +160,13 @@ quiet_then {p = p} {q = q} {r = r} w a b = record { went = went_on w.run a.went 
 
 -- ---- stops
 
-pub stopped_here : {p q : Pool} (e : Stop) → IsRun q → q.start ≡ p.start → StopCause p q e → Stopped p q e
+pub stopped_here : {p q : Pool} (e : Stop) → IsRun q → q.start ≡ p.start → StopCause p q e → CallStopped p q e
 stopped_here {p = p} {q = q} e run start cause = record { at = q; run = run; start = start; cause = cause; on = ([], did_none 0 q q refl) }
 
-pub stopped_after : {p q r : Pool} {x y : ℕ} (e : Stop) → IsRun p → Went p q x y → Stopped q r e → Stopped p r e
+pub stopped_after : {p q r : Pool} {x y : ℕ} (e : Stop) → IsRun p → Went p q x y → CallStopped q r e → CallStopped p r e
 stopped_after {p = p} {q = q} e hp w s = record { at = s.at; run = s.run; start = s.start ∙ w.start; cause = cause_after p q s.at hp w.run w.start w.did e s.cause; on = s.on }
 
-pub stopped_on : {p q r : Pool} (e : Stop) → Stopped p q e → IsRun q → q.start ≡ p.start → (es : List Event) × Did 0 q r es → Stopped p r e
+pub stopped_on : {p q r : Pool} (e : Stop) → CallStopped p q e → IsRun q → q.start ≡ p.start → (es : List Event) × Did 0 q r es → CallStopped p r e
 stopped_on {p = p} {q = q} {r = r} e s hq start did =
     record {
       at = s.at;
@@ -178,17 +178,17 @@ stopped_on {p = p} {q = q} {r = r} e s hq start did =
 
 -- ---- calls on the pool
 
-pub calls_from : {T : Type 0} {K : Pool → Pool → Type 0} {p q : Pool} {x y : ℕ} {e : Stop} (o : Result T Stop) → IsErrAnd o (λ v. v ≡ e) → Calls {T = T} K (Err e) p q x y → Calls {T = T} K o p q x y
+pub calls_from : {T : Type 0} {K : Pool → Pool → Type 0} {p q : Pool} {x y : ℕ} {e : Stop} (o : Result T Stop) → IsErrAnd o (λ v. v ≡ e) → CallLeaves {T = T} K (Err e) p q x y → CallLeaves {T = T} K o p q x y
 calls_from (Ok a) h m = absurd h
-calls_from {T = T} {K = K} {p = p} {q = q} {x = x} {y = y} (Err v) h m = subst (λ (w : Stop). Calls {T = T} K (Err w) p q x y) (sym h) m
+calls_from {T = T} {K = K} {p = p} {q = q} {x = x} {y = y} (Err v) h m = subst (λ (w : Stop). CallLeaves {T = T} K (Err w) p q x y) (sym h) m
 
 -- no word step was left for a call
-pub calls_died : {T : Type 0} {K : Pool → Pool → Type 0} {p q : Pool} {x y : ℕ} (e : Stop) → Went p q x y → (e ≡ stop.Died) × (y ≡ 0) → Calls {T = T} K (Err e) p q x y
+pub calls_died : {T : Type 0} {K : Pool → Pool → Type 0} {p q : Pool} {x y : ℕ} (e : Stop) → Went p q x y → (e ≡ stop.Died) × (y ≡ 0) → CallLeaves {T = T} K (Err e) p q x y
 calls_died {T = T} {K = K} {p = p} {q = q} {x = x} {y = y} e w d =
-    subst (λ (v : Stop). Calls {T = T} K (Err v) p q x y) (sym d.0) (record { went = w; working = tt; latch = tt; kept = tt; cause = stopped_here stop.Died w.run w.start tt; died = λ v. d.1 })
+    subst (λ (v : Stop). CallLeaves {T = T} K (Err v) p q x y) (sym d.0) (record { went = w; working = tt; latch = tt; kept = tt; cause = stopped_here stop.Died w.run w.start tt; died = λ v. d.1 })
 
 -- what is kept is more than what is asked
-pub calls_kept : {T : Type 0} {K L : Pool → Pool → Type 0} {p q : Pool} {x y : ℕ} (o : Result T Stop) → (K p q → L p q) → Calls K o p q x y → Calls L o p q x y
+pub calls_kept : {T : Type 0} {K L : Pool → Pool → Type 0} {p q : Pool} {x y : ℕ} (o : Result T Stop) → (K p q → L p q) → CallLeaves K o p q x y → CallLeaves L o p q x y
 calls_kept o f c = record { went = c.went; working = c.working; latch = c.latch; kept = alive_kept o f c.kept; cause = c.cause; died = c.died }
 
 -- what was built under the latch, once that is given back
@@ -208,11 +208,11 @@ cut_still a b c = named_then (named_still a) (named_then (named_cut b) (named_st
 named_shared : {k b : ℕ} {p q : Pool} → IsShared k b p q → KeepsNamed p q
 named_shared {p = p} {q = q} h j some =
     elim (cases_lt j 16) [
-      | inl lt ↦ root_low j lt (h.rooted.others j (rooted_some j h.rooted (some lt))) (λ t s. h.trees (named_by p j) t s) (λ f t s. weight_nodes f p q h.nodes (named_by p j) t s)
+      | inl lt ↦ root_low j lt (h.rooted.others j (rooted_some j h.rooted (some lt))) (λ t s. h.trees (root_block p j) t s) (λ f t s. weight_nodes f p q h.nodes (root_block p j) t s)
       | inr le ↦ root_past j le
     ]
 
-pub shared_grows : {c : ℕ} {p q r : Pool} {x y z : ℕ} (b : ℕ) (o : Result Made Stop) → IsWorking p → Looked p q x y → Changes c IsStill o q r y z → IfOk o (λ m. IsShared m.root b q r) → Calls KeepsNamed o p r x z
+pub shared_grows : {c : ℕ} {p q r : Pool} {x y z : ℕ} (b : ℕ) (o : Result Made Stop) → IsWorking p → Looked p q x y → Changes c IsStill o q r y z → IfOk o (λ m. IsShared m.root b q r) → CallLeaves KeepsNamed o p r x z
 shared_grows b (Ok m) wp l h sh = record { went = went_on wp.run l.went h.went; working = h.working; latch = h.latch ∙ l.latch; kept = named_then (named_still l.still) (named_shared sh); cause = tt; died = tt }
 shared_grows {p = p} {q = q} {r = r} b (Err e) wp l h sh =
     record {
@@ -227,15 +227,15 @@ shared_grows {p = p} {q = q} {r = r} b (Err e) wp l h sh =
 pub shared_rooted : {m : Made} {p q r : Pool} (b : ℕ) → IsStill p q → m.block ≡ b → IsShared m.root b q r → IsRooted m.root m.block p r
 shared_rooted {m = m} b a e h = record { low = h.rooted.low; empty = sym (a.roots m.root) ∙ h.rooted.empty; names = h.rooted.names ∙ sym e; others = λ j o. h.rooted.others j o ∙ a.roots j }
 
-pub shared_stands : {m : Made} {p q r : Pool} (b d : ℕ) (t : Tree) → IsStill p q → b ≡ d → m.block ≡ b → IsShared m.root b q r → Stands p d t → Stands r m.block t
+pub shared_stands : {m : Made} {p q r : Pool} (b d : ℕ) (t : Tree) → IsStill p q → b ≡ d → m.block ≡ b → IsShared m.root b q r → TreeStands p d t → TreeStands r m.block t
 shared_stands {p = p} {q = q} {r = r} b d t a n e h s =
-    subst (λ (k : ℕ). Stands r k t) (sym e) (h.trees b t (subst (λ (k : ℕ). Stands q k t) (sym n) (a.trees d t s)))
+    subst (λ (k : ℕ). TreeStands r k t) (sym e) (h.trees b t (subst (λ (k : ℕ). TreeStands q k t) (sym n) (a.trees d t s)))
 
 pub copied_rooted : {p q : Pool} (r : Pool) (b : ℕ) (o : Result Made Stop) → IsStill p q → IfOk o (λ m. m.block ≡ b) → IfOk o (λ m. IsShared m.root b q r) → IfOk o (λ m. IsRooted m.root m.block p r)
 copied_rooted r b (Ok m) a e h = shared_rooted b a e h
 copied_rooted r b (Err v) a e h = tt
 
-pub copied_stands : {p q : Pool} (r : Pool) (b d : ℕ) (o : Result Made Stop) → IsStill p q → b ≡ d → IfOk o (λ m. m.block ≡ b) → IfOk o (λ m. IsShared m.root b q r) → IfOk o (λ m. (t : Tree) → Stands p d t → Stands r m.block t)
+pub copied_stands : {p q : Pool} (r : Pool) (b d : ℕ) (o : Result Made Stop) → IsStill p q → b ≡ d → IfOk o (λ m. m.block ≡ b) → IfOk o (λ m. IsShared m.root b q r) → IfOk o (λ m. (t : Tree) → TreeStands p d t → TreeStands r m.block t)
 copied_stands r b d (Ok m) a n e h = λ t s. shared_stands b d t a n e h s
 copied_stands r b d (Err v) a n e h = tt
 
@@ -247,14 +247,14 @@ pub record Sweeping (ks : List ℕ) (n : ℕ) (p q : Pool) (x y : ℕ) : Type 0 
   pub working : IsWorking q
   pub latch : IsSameLatch p q
   pub kept : KeepsRoots ks p q
-  pub empty : (k : ℕ) → k < n → IsFree ks k → named_by q k ≡ 0
+  pub empty : (k : ℕ) → k < n → IsFree ks k → root_block q k ≡ 0
 
 pub sweeping_none : (ks : List ℕ) (p : Pool) (x : ℕ) → IsWorking p → Sweeping ks 0 p p x x
 sweeping_none ks p x w =
     let l = looked_none p x w in
     record { went = l.went; working = w; latch = refl; kept = λ r lt. root_still (slice_index ks r) l.still; empty = λ k lt free. absurd (omega arith) }
 
-pub sweeping_more : {p q r : Pool} {x y z : ℕ} (ks : List ℕ) (n : ℕ) → IsWorking p → Sweeping ks n p q x y → Went q r y z → IsWorking r → IsSameLatch q r → KeepsRoots ks q r → ((k : ℕ) → k ≢ n → named_by r k ≡ named_by q k) → (IsFree ks n → named_by r n ≡ 0) → Sweeping ks (n + 1) p r x z
+pub sweeping_more : {p q r : Pool} {x y z : ℕ} (ks : List ℕ) (n : ℕ) → IsWorking p → Sweeping ks n p q x y → Went q r y z → IsWorking r → IsSameLatch q r → KeepsRoots ks q r → ((k : ℕ) → k ≢ n → root_block r k ≡ root_block q k) → (IsFree ks n → root_block r n ≡ 0) → Sweeping ks (n + 1) p r x z
 sweeping_more {r = r} ks n wp a g w l k others empty =
     record {
       went = went_on wp.run a.went g;
@@ -263,12 +263,12 @@ sweeping_more {r = r} ks n wp a g w l k others empty =
       kept = roots_then ks a.kept k;
       empty =
           λ i lt free. elim (cases_eq i n) [
-            | inl e ↦ ap (named_by r) e ∙ empty (subst (IsFree ks) e free)
+            | inl e ↦ ap (root_block r) e ∙ empty (subst (IsFree ks) e free)
             | inr ne ↦ others i ne ∙ a.empty i (omega arith) free
           ];
     }
 
-pub sweeping_stop : (S : Type 0) {T : Type 0} {p q r : Pool} {x y z : ℕ} (ks : List ℕ) (n : ℕ) (e : Stop) → IsWorking p → Sweeping ks n p q x y → Calls {T = S} (KeepsRoots ks) (Err e) q r y z → Calls {T = T} (KeepsRoots ks) (Err e) p r x z
+pub sweeping_stop : (S : Type 0) {T : Type 0} {p q r : Pool} {x y z : ℕ} (ks : List ℕ) (n : ℕ) (e : Stop) → IsWorking p → Sweeping ks n p q x y → CallLeaves {T = S} (KeepsRoots ks) (Err e) q r y z → CallLeaves {T = T} (KeepsRoots ks) (Err e) p r x z
 sweeping_stop S {T = T} {p = p} {q = q} {r = r} ks n e wp a c =
     record {
       went = went_on wp.run a.went c.went;
@@ -280,14 +280,14 @@ sweeping_stop S {T = T} {p = p} {q = q} {r = r} ks n e wp a c =
     }
 
 -- a root that was to be empty is so already
-pub calls_none : {T : Type 0} {K : Pool → Pool → Type 0} (a : T) (p : Pool) (x : ℕ) → IsWorking p → K p p → Calls {T = T} K (Ok a) p p x x
+pub calls_none : {T : Type 0} {K : Pool → Pool → Type 0} (a : T) (p : Pool) (x : ℕ) → IsWorking p → K p p → CallLeaves {T = T} K (Ok a) p p x x
 calls_none a p x w k = record { went = (looked_none p x w).went; working = w; latch = refl; kept = k; cause = tt; died = tt }
 
 pub root_self : (p : Pool) (k : ℕ) → KeepsRoot p p k
 root_self p k = record { same = refl; trees = λ t s. s; blocks = λ f t s. refl }
 
 -- a root was dropped, or not
-pub dropped_calls : {T : Type 0} {p q : Pool} {x y : ℕ} (j : ℕ) (o : Result T Stop) → Went p q x y → IfAlive o (IsWorking q) → IfAlive o (IsSameLatch p q) → IfOk o (λ u. IsEmptied j p q) → IfOk o (λ u. IsDropped j p q) → IfRefused o (IsStill p q) → IfErr o (λ e. StopCause p q e) → IfErr o (λ e. DiedIn e p q y) → Calls (KeepsOthers j) o p q x y
+pub dropped_calls : {T : Type 0} {p q : Pool} {x y : ℕ} (j : ℕ) (o : Result T Stop) → Went p q x y → IfAlive o (IsWorking q) → IfAlive o (IsSameLatch p q) → IfOk o (λ u. IsEmptied j p q) → IfOk o (λ u. IsDropped j p q) → IfRefused o (IsStill p q) → IfErr o (λ e. StopCause p q e) → IfErr o (λ e. DiedIn e p q y) → CallLeaves (KeepsOthers j) o p q x y
 dropped_calls j (Ok a) g w l e d s ca di = record { went = g; working = w; latch = l; kept = λ k ne. root_dropped j k ne e d w; cause = tt; died = tt }
 dropped_calls {T = T} {p = p} {q = q} j (Err v) g w l e d s ca di =
     record { went = g; working = w; latch = l; kept = alive_refused T T (IsStill p q) (KeepsOthers j p q) v (λ u k ne. root_still k u) s; cause = stopped_here v g.run g.start ca; died = λ d. (di d).0 }

@@ -32,8 +32,8 @@ abbrev pub frees : Event → ℕ → Bool
 frees (Free c b) x = b == x
 frees e x = false
 
-abbrev pub Untouched : Spot → Event → Type 0
-Untouched p e = touches e p ≡ false
+abbrev pub UntouchedBy : Spot → Event → Type 0
+UntouchedBy p e = touches e p ≡ false
 
 abbrev pub Unfreed : ℕ → Event → Type 0
 Unfreed x e = frees e x ≡ false
@@ -101,7 +101,7 @@ module _ (g : Geometry) (w : Spot → ℕ) (a b : Graph) where
 
 module _ (g : Geometry) (c : ℕ) where
   -- what a spot names
-  pub target_kept : (s : Spot) (x : ℕ) → StepsKeep g c (Untouched s) (λ w v. targets g w v s ≡ x)
+  pub target_kept : (s : Spot) (x : ℕ) → StepsKeep g c (UntouchedBy s) (λ w v. targets g w v s ≡ x)
   target_kept s x w w' v v' a p e who h step words good is = event_target g w (graph_of g w v) (graph_of g w' v') e s step.event good ∙ is
 
   -- whether a block is live

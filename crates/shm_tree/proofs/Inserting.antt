@@ -6,10 +6,10 @@ use Rattle.shm_graph.specs.declared.spot.Spot.TheVariants.{Body}
 use Rattle.shm_plain.specs.Pools.{IsRun, Pool}
 use Rattle.shm_count.specs.declared.answer.Made.{Made}
 use Rattle.shm_tree.specs.{Bounds.climb_steps, Spending.HasSpent, declared.node.Side.{Side, TheVariants.{Left, Right}}}
-use Rattle.shm_tree.specs.Building.{IsAtHand, IsBuilt, IsHeld, IsRebuilt, joined_by, named_by}
+use Rattle.shm_tree.specs.Building.{IsAtHand, IsBuilt, IsHeld, IsRebuilt, joined_by, root_block}
 use Rattle.shm_tree.specs.{Inserting.{IsRegistered, left_of, outside, right_of}, Keeping.{HasMade, IsStill}}
 use Rattle.shm_tree.specs.{Living.KeepsLives, Raising.{IsCheapAt, StandsAgain, side_of}, Sharing.CountsTop}
-use Rattle.shm_tree.specs.Standing.{Stands, weight, word_of}
+use Rattle.shm_tree.specs.Standing.{TreeStands, weight, word_of}
 use Rattle.shm_tree.specs.Trees.{Tree, Empty, Node, AreNear, height, inserted, joined}
 use Rattle.shm_tree.specs.{Ways.{IsEnd, IsOther, down, toward}, Working.{IsSameLatch, IsWorking, Went}}
 use Rattle.shm_tree.proofs.Building.{made_more, none_stands, root_reached, rooted_some}
@@ -34,18 +34,18 @@ pub record Rising (x y d e : ℕ) (top : ℕ) (m : Made) (p q : Pool) (u v : ℕ
   pub latch : IsSameLatch p q
   pub low : d ≤ e
   pub built : IsBuilt (1 + 3 * (e - d)) m p q
-  pub on : (t : Tree) → Stands p top t → (i : ℕ) → i < e → IsOther x (down x t i)
-  pub stands : (t : Tree) → Stands p top t → Stands q m.block (inserted x y (down x t d))
-  pub made : (t : Tree) → Stands p top t → HasMade (cost x y (down x t d)) p q
+  pub on : (t : Tree) → TreeStands p top t → (i : ℕ) → i < e → IsOther x (down x t i)
+  pub stands : (t : Tree) → TreeStands p top t → TreeStands q m.block (inserted x y (down x t d))
+  pub made : (t : Tree) → TreeStands p top t → HasMade (cost x y (down x t d)) p q
   pub rests : KeepsLives p q
-  pub few : (t : Tree) → Stands p top t → weight (outside p top t) q m.block (inserted x y (down x t d)) ≤ 1 + (e - d)
-  pub new : (t : Tree) → Stands p top t → outside p top t m.block ≡ 1
-  pub tops : (t : Tree) → Stands p top t → height (inserted x y (down x t d)) ≡ height (down x t d) + 1 → (s : Side) → CountsTop (outside p top t) q s m.block
+  pub few : (t : Tree) → TreeStands p top t → weight (outside p top t) q m.block (inserted x y (down x t d)) ≤ 1 + (e - d)
+  pub new : (t : Tree) → TreeStands p top t → outside p top t m.block ≡ 1
+  pub tops : (t : Tree) → TreeStands p top t → height (inserted x y (down x t d)) ≡ height (down x t d) + 1 → (s : Side) → CountsTop (outside p top t) q s m.block
 
 -- one level more was built over what was built, after calls that read
 pub built_up : {n : ℕ} {low m : Made} {p q r s : Pool} → IsRun p → IsRun q → q.start ≡ p.start → IsRun r → r.start ≡ q.start → IsBuilt n low p q → IsStill q r → IsRebuilt 3 (Some low) m r s → IsBuilt (n + 3) m p s
 built_up {n = n} {low = low} {m = m} {p = p} {q = q} {r = r} {s = s} hp hq start hr onward a i b =
-    let ne : m.root ≢ low.root = λ e. a.some (sym a.rooted.names ∙ (ap (named_by q) (sym e) ∙ (sym (i.roots m.root) ∙ b.empty))) in
+    let ne : m.root ≢ low.root = λ e. a.some (sym a.rooted.names ∙ (ap (root_block q) (sym e) ∙ (sym (i.roots m.root) ∙ b.empty))) in
     record {
       rooted =
           record {
@@ -54,28 +54,28 @@ built_up {n = n} {low = low} {m = m} {p = p} {q = q} {r = r} {s = s} hp hq start
             names = b.names;
             others =
                 λ j h. elim (cases_eq j low.root) [
-                  | inl e ↦ ap (named_by s) e ∙ (b.left ∙ (sym a.rooted.empty ∙ ap (named_by p) (sym e)))
+                  | inl e ↦ ap (root_block s) e ∙ (b.left ∙ (sym a.rooted.empty ∙ ap (root_block p) (sym e)))
                   | inr e ↦ b.others j h e ∙ (i.roots j ∙ a.rooted.others j e)
                 ];
           };
       some = b.some;
       trees =
-          λ j t h st. elim (cases_eq (named_by p j) 0) [
-            | inl e ↦ none_stands p s (named_by p j) t e st
+          λ j t h st. elim (cases_eq (root_block p j) 0) [
+            | inl e ↦ none_stands p s (root_block p j) t e st
             | inr e ↦
                 (let ne' = rooted_some j a.rooted e in
-                let same : named_by r j ≡ named_by p j = i.roots j ∙ a.rooted.others j ne' in
-                subst (λ (k : ℕ). Stands s k t) same (b.trees j t h ne' (subst (λ (k : ℕ). Stands r k t) (sym same) (i.trees (named_by p j) t (a.trees j t h st)))))
+                let same : root_block r j ≡ root_block p j = i.roots j ∙ a.rooted.others j ne' in
+                subst (λ (k : ℕ). TreeStands s k t) same (b.trees j t h ne' (subst (λ (k : ℕ). TreeStands r k t) (sym same) (i.trees (root_block p j) t (a.trees j t h st)))))
           ];
       blocks =
-          λ f j t h st. elim (cases_eq (named_by p j) 0) [
-            | inl e ↦ weight_none f p s (named_by p j) t e st
+          λ f j t h st. elim (cases_eq (root_block p j) 0) [
+            | inl e ↦ weight_none f p s (root_block p j) t e st
             | inr e ↦
                 (let ne' = rooted_some j a.rooted e in
-                let same : named_by r j ≡ named_by p j = i.roots j ∙ a.rooted.others j ne' in
-                let there : Stands q (named_by p j) t = a.trees j t h st in
-                let more : weight f s (named_by p j) t ≡ weight f r (named_by p j) t = subst (λ (k : ℕ). weight f s k t ≡ weight f r k t) same (b.blocks f j t h ne' (subst (λ (k : ℕ). Stands r k t) (sym same) (i.trees (named_by p j) t there))) in
-                more ∙ (weight_nodes f q r i.nodes (named_by p j) t there ∙ a.blocks f j t h st))
+                let same : root_block r j ≡ root_block p j = i.roots j ∙ a.rooted.others j ne' in
+                let there : TreeStands q (root_block p j) t = a.trees j t h st in
+                let more : weight f s (root_block p j) t ≡ weight f r (root_block p j) t = subst (λ (k : ℕ). weight f s k t ≡ weight f r k t) same (b.blocks f j t h ne' (subst (λ (k : ℕ). TreeStands r k t) (sym same) (i.trees (root_block p j) t there))) in
+                more ∙ (weight_nodes f q r i.nodes (root_block p j) t there ∙ a.blocks f j t h st))
           ];
       made = made_more ((n + 0) + 3) (n + 3) p s (made_then (n + 0) 3 p r s hp hr (onward ∙ start) (made_then n 0 p q r hp hq start a.made i.made) b.made) (omega arith);
     }
@@ -83,11 +83,11 @@ built_up {n = n} {low = low} {m = m} {p = p} {q = q} {r = r} {s = s} hp hq start
 -- ---- the lowest level
 
 -- where no node stands both trees are empty ones
-pub no_trees : (p : Pool) (b : ℕ) (t : Tree) → b ≡ 0 → Stands p b t → Stands p 0 (left_of t) × Stands p 0 (right_of t)
+pub no_trees : (p : Pool) (b : ℕ) (t : Tree) → b ≡ 0 → TreeStands p b t → TreeStands p 0 (left_of t) × TreeStands p 0 (right_of t)
 no_trees p b Empty e s = (refl, refl)
 no_trees p b (Node k n l r) e s = absurd (s.0.some e)
 
-pub node_trees : (p : Pool) (b : ℕ) (t : Tree) → b ≢ 0 → Stands p b t → Stands p (word_of p (Body b 0)) (left_of t) × Stands p (word_of p (Body b 1)) (right_of t)
+pub node_trees : (p : Pool) (b : ℕ) (t : Tree) → b ≢ 0 → TreeStands p b t → TreeStands p (word_of p (Body b 0)) (left_of t) × TreeStands p (word_of p (Body b 1)) (right_of t)
 node_trees p b Empty some s = absurd (some s)
 node_trees p b (Node k n l r) some s = (s.1, s.2)
 
@@ -102,26 +102,26 @@ registered_at_hand {p = p} {q = q} {b = b} g h w =
       | inl e ↦ ((g.tree.0, none_stands p q b g.tree.0 e g.tree.1.stands), λ some. absurd (some e))
       | inr d ↦
           (let k = g.named d in
-          let same : named_by q k.0 ≡ b = h.rooted.others k.0 (rooted_some k.0 h.rooted (λ e. d (sym k.2 ∙ e))) ∙ k.2 in
-          let stands = h.trees k.0 g.tree.0 k.1 (subst (λ (d : ℕ). Stands p d g.tree.0) (sym k.2) g.tree.1.stands) in
-          ((g.tree.0, subst (λ (d : ℕ). Stands q d g.tree.0) k.2 stands), root_reached q k.0 b w k.1 same))
+          let same : root_block q k.0 ≡ b = h.rooted.others k.0 (rooted_some k.0 h.rooted (λ e. d (sym k.2 ∙ e))) ∙ k.2 in
+          let stands = h.trees k.0 g.tree.0 k.1 (subst (λ (d : ℕ). TreeStands p d g.tree.0) (sym k.2) g.tree.1.stands) in
+          ((g.tree.0, subst (λ (d : ℕ). TreeStands q d g.tree.0) k.2 stands), root_reached q k.0 b w k.1 same))
     ]
 
 -- what stood where a root named it stands there once a tree was built
-pub registered_kept : {p q : Pool} {b : ℕ} {n : ℕ} {m : Made} (t : Tree) → IsRegistered p b → IsBuilt n m p q → Stands p b t → Stands q b t
+pub registered_kept : {p q : Pool} {b : ℕ} {n : ℕ} {m : Made} (t : Tree) → IsRegistered p b → IsBuilt n m p q → TreeStands p b t → TreeStands q b t
 registered_kept {p = p} {q = q} {b = b} t g h s =
     elim (cases_eq b 0) [
       | inl e ↦ none_stands p q b t e s
-      | inr d ↦ (let k = g.named d in subst (λ (d : ℕ). Stands q d t) k.2 (h.trees k.0 t k.1 (subst (λ (d : ℕ). Stands p d t) (sym k.2) s)))
+      | inr d ↦ (let k = g.named d in subst (λ (d : ℕ). TreeStands q d t) k.2 (h.trees k.0 t k.1 (subst (λ (d : ℕ). TreeStands p d t) (sym k.2) s)))
     ]
 
 -- one level more: what stands at the node that was made again, by what stands below and at the node
-pub level_up : {r : Pool} (s : Pool) (x y node low m : ℕ) (t : Tree) → IsOther x t → Stands r node t → Stands r low (inserted x y (toward x t)) → StandsAgain x None node low m r s → Stands s m (inserted x y t)
+pub level_up : {r : Pool} (s : Pool) (x y node low m : ℕ) (t : Tree) → IsOther x t → TreeStands r node t → TreeStands r low (inserted x y (toward x t)) → StandsAgain x None node low m r s → TreeStands s m (inserted x y t)
 level_up s x y node low m Empty o here under b = absurd o
-level_up s x y node low m (Node k n l r) o here under b = subst (Stands s m) (sym (inserted_up x y k n l r o)) (b (Node k n l r) (inserted x y (toward x (Node k n l r))) here under)
+level_up s x y node low m (Node k n l r) o here under b = subst (TreeStands s m) (sym (inserted_up x y k n l r o)) (b (Node k n l r) (inserted x y (toward x (Node k n l r))) here under)
 
 -- and how many blocks were made for it
-pub level_made : {r s : Pool} (x y node low : ℕ) (t : Tree) → IsOther x t → Stands r node t → Stands r low (inserted x y (toward x t)) → HasMade 3 r s → IsCheapAt x node low r s → HasMade (work (inserted x y (toward x t)) (away x t)) r s
+pub level_made : {r s : Pool} (x y node low : ℕ) (t : Tree) → IsOther x t → TreeStands r node t → TreeStands r low (inserted x y (toward x t)) → HasMade 3 r s → IsCheapAt x node low r s → HasMade (work (inserted x y (toward x t)) (away x t)) r s
 level_made x y node low Empty o here under three one = absurd o
 level_made {r = r} {s = s} x y node low (Node k n l w) o here under three one =
     let a : Tree = inserted x y (toward x (Node k n l w)) in
@@ -137,5 +137,5 @@ level_made {r = r} {s = s} x y node low (Node k n l w) o here under three one =
     ]
 
 -- the tree that a root named is held
-pub built_held : {n : ℕ} {m : Made} {p q : Pool} (t : Tree) → IsBuilt n m p q → Stands q m.block t → IsHeld q m
+pub built_held : {n : ℕ} {m : Made} {p q : Pool} (t : Tree) → IsBuilt n m p q → TreeStands q m.block t → IsHeld q m
 built_held t b s = record { low = b.rooted.low; some = b.some; names = b.rooted.names; tree = (t, s) }

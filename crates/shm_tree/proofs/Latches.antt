@@ -9,8 +9,8 @@ use Rattle.shm_graph.specs.declared.{ask.Me.Me, memo.Memo.Memo, run.{Move.{Move,
 use Rattle.shm_graph.specs.{declared.spot.Spot.TheVariants.Latch, Agents.acts, Asks.Trail, Events.Event}
 use Rattle.shm_graph.specs.{Runs.{Leads, first_state}, Spots.{classes_in, see, spot_address}, Tells.machine_steps}
 use Rattle.shm_graph.proofs.Spots.{Fixed.fixed_is_at, Seeing.see_there}
-use Rattle.shm_calls.specs.{CallsControl.{calls_control, calls_of}, Words.word_control}
-use Rattle.shm_plain.specs.{Calls.{Took, state_of, words}, Pools.{Pool, memo_of}, Tracks.kind_next}
+use Rattle.plans.specs.{CallsControl.{calls_control, calls_of}, Words.word_control}
+use Rattle.shm_plain.specs.{Calls.{TookSteps, state_of, words}, Pools.{Pool, memo_of}, Tracks.kind_next}
 use Rattle.shm_plain.proofs.OwnTurns.{leads_after}
 use Rattle.shm_count.specs.Roots.{member}
 use Rattle.shm_ref.specs.{declared.answer.Busy.Busy, Hold.{Control.{busy_trail, holding, hold_steered}, HoldLeaves}}
@@ -95,7 +95,7 @@ module _ (p q : Pool) (es : List Event) (on : IsOn p q es) where
       none_some (Some x) a b = cc
 
   -- so that nobody is found to hold it
-  pub hold_free : (e : Busy) → r0.latch ≡ None → HoldLeaves (holding me 0) r0 r tr es (Err e) → Took (calls_control word_control hold_steered) 0 p (calls_of hold_steered (holding me 0)) q → ⊥
+  pub hold_free : (e : Busy) → r0.latch ≡ None → HoldLeaves (holding me 0) r0 r tr es (Err e) → TookSteps (calls_control word_control hold_steered) 0 p (calls_of hold_steered (holding me 0)) q → ⊥
   hold_free e none h t =
       let g : Geometry = p.start.geometry in
       let k = calls_control word_control hold_steered in

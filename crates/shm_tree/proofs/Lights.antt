@@ -8,7 +8,7 @@ use Rattle.shm_tree.specs.declared.node.{Content.Content, Side.{Side, TheVariant
 use Rattle.shm_tree.specs.Building.{KeepsBlocks, joined_by}
 use Rattle.shm_tree.specs.Inserting.{IsRegistered, is_part, left_of, outside, right_of}
 use Rattle.shm_tree.specs.{Keeping.{child_of, is_live, node_by, other_side}, Raising.{IsOverAt, WeighsAgain, side_of}}
-use Rattle.shm_tree.specs.{Sharing.{CountsTop, IsCount}, Standing.{Stands, weight, word_of}}
+use Rattle.shm_tree.specs.{Sharing.{CountsTop, IsCount}, Standing.{TreeStands, weight, word_of}}
 use Rattle.shm_tree.specs.Trees.{Tree, Empty, Node, IsBalanced, IsSearch, height, inserted}
 use Rattle.shm_tree.specs.Ways.{IsEnd, IsOther, toward}
 use Rattle.shm_tree.proofs.{Answering.height_none, Costs.away, Growing.{end_grew, grew_level, level_heights}}
@@ -62,7 +62,7 @@ part_weighs p z b (Node k n l r) e =
       ]
     ]
 
-pub weighs_live : (q : Pool) (z b : ℕ) (t : Tree) → Stands q b t → 0 < weight (once z) q b t → is_live q z ≡ true
+pub weighs_live : (q : Pool) (z b : ℕ) (t : Tree) → TreeStands q b t → 0 < weight (once z) q b t → is_live q z ≡ true
 weighs_live q z b Empty s h = absurd (omega (arith, h))
 weighs_live q z b (Node k n l r) s h =
     elim (cases_eq z b) [
@@ -74,7 +74,7 @@ weighs_live q z b (Node k n l r) s h =
     ]
 
 -- a block that isn't live once the tree's blocks are as they were is none of them
-pub outside_new : (p q : Pool) (z b : ℕ) (t : Tree) → ((f : ℕ → ℕ) → weight f q b t ≡ weight f p b t) → Stands q b t → is_live q z ≡ false → outside p b t z ≡ 1
+pub outside_new : (p q : Pool) (z b : ℕ) (t : Tree) → ((f : ℕ → ℕ) → weight f q b t ≡ weight f p b t) → TreeStands q b t → is_live q z ≡ false → outside p b t z ≡ 1
 outside_new p q z b t same s dead =
     elim (cases_Bool (is_part p z b t)) [
       | inr e ↦ ap (λ (c : Bool). one_if (not c)) e
@@ -82,11 +82,11 @@ outside_new p q z b t same s dead =
     ]
 
 -- the blocks of a tree that a root names, once another was built
-pub registered_same : {p : Pool} {b : ℕ} (q : Pool) (t : Tree) → IsRegistered p b → KeepsBlocks p q → Stands p b t → (f : ℕ → ℕ) → weight f q b t ≡ weight f p b t
+pub registered_same : {p : Pool} {b : ℕ} (q : Pool) (t : Tree) → IsRegistered p b → KeepsBlocks p q → TreeStands p b t → (f : ℕ → ℕ) → weight f q b t ≡ weight f p b t
 registered_same {p = p} {b = b} q t g h s f =
     elim (cases_eq b 0) [
       | inl e ↦ weight_none f p q b t e s
-      | inr d ↦ (let k = g.named d in subst (λ (d : ℕ). weight f q d t ≡ weight f p d t) k.2 (h f k.0 t k.1 (subst (λ (d : ℕ). Stands p d t) (sym k.2) s)))
+      | inr d ↦ (let k = g.named d in subst (λ (d : ℕ). weight f q d t ≡ weight f p d t) k.2 (h f k.0 t k.1 (subst (λ (d : ℕ). TreeStands p d t) (sym k.2) s)))
     ]
 
 -- ---- one level
@@ -95,7 +95,7 @@ by_light : (f : ℕ → ℕ) (w : Pool) (node k n : ℕ) (l r : Tree) (b : Bool)
 by_light f w node k n l r true = omega arith
 by_light f w node k n l r false = omega arith
 
-pub level_few : {w : Pool} (v : Pool) (f : ℕ → ℕ) (x y node low m i : ℕ) (t : Tree) → IsCount f → IsOther x t → IsSearch t → IsBalanced t → Stands w node t → Stands w low (inserted x y (toward x t)) → weight f w node t ≡ 0 → weight f w low (inserted x y (toward x t)) ≤ i
+pub level_few : {w : Pool} (v : Pool) (f : ℕ → ℕ) (x y node low m i : ℕ) (t : Tree) → IsCount f → IsOther x t → IsSearch t → IsBalanced t → TreeStands w node t → TreeStands w low (inserted x y (toward x t)) → weight f w node t ≡ 0 → weight f w low (inserted x y (toward x t)) ≤ i
     → (height (inserted x y (toward x t)) ≡ height (toward x t) + 1 → (s : Side) → CountsTop f w s low) → WeighsAgain x None node low m w v → weight f v m (inserted x y t) ≤ 1 + i
 level_few v f x y node low m i Empty count o s h here under none few tops b = absurd o
 level_few {w = w} v f x y node low m i (Node k n l r) count o s h here under none few tops b =
@@ -113,7 +113,7 @@ same_side Left Right = inr refl
 same_side Right Left = inr refl
 same_side Right Right = inl refl
 
-pub level_tops : {w v : Pool} (f : ℕ → ℕ) (x y node low m : ℕ) (t : Tree) → IsOther x t → IsSearch t → IsBalanced t → Stands w node t → Stands w low (inserted x y (toward x t)) → f low ≡ 1 → f m ≡ 1 → Stands v m (inserted x y t) → IsOverAt x node low m w v → height (inserted x y t) ≡ height t + 1 → (s : Side) → CountsTop f v s m
+pub level_tops : {w v : Pool} (f : ℕ → ℕ) (x y node low m : ℕ) (t : Tree) → IsOther x t → IsSearch t → IsBalanced t → TreeStands w node t → TreeStands w low (inserted x y (toward x t)) → f low ≡ 1 → f m ≡ 1 → TreeStands v m (inserted x y t) → IsOverAt x node low m w v → height (inserted x y t) ≡ height t + 1 → (s : Side) → CountsTop f v s m
 level_tops f x y node low m Empty o se h here under one new st over grew side = absurd o
 level_tops {w = w} {v = v} f x y node low m (Node k n l r) o se h here under one new st over grew side =
     let t : Tree = Node k n l r in
@@ -125,15 +125,15 @@ level_tops {w = w} {v = v} f x y node low m (Node k n l r) o se h here under one
     let higher = g.1 in
     let child : child_of v m s ≡ low = over k n l r u here under g.2 in
     let is : inserted x y t ≡ node_by s c u other = inserted_up x y k n l r o ∙ joined_flat s c u other g.2.left g.2.right in
-    let w' = parts v m s c u other (subst (Stands v m) is st) in
+    let w' = parts v m s c u other (subst (TreeStands v m) is st) in
     record {
       top = new;
       high =
           λ a b sa sb lt. elim (same_side side s) [
             | inl e ↦ ap (λ (o : Side). f (child_of v m o)) e ∙ (ap f child ∙ one)
             | inr e ↦
-                (let far : a ≡ other = stands_one v (child_of v m (other_side s)) a other (subst (λ (o : Side). Stands v (child_of v m o) a) e sa) w'.far in
-                let near : b ≡ u = stands_one v (child_of v m s) b u (subst (λ (o : Side). Stands v (child_of v m o) b) (ap other_side e ∙ other_twice s) sb) w'.near in
+                (let far : a ≡ other = stands_one v (child_of v m (other_side s)) a other (subst (λ (o : Side). TreeStands v (child_of v m o) a) e sa) w'.far in
+                let near : b ≡ u = stands_one v (child_of v m s) b u (subst (λ (o : Side). TreeStands v (child_of v m o) b) (ap other_side e ∙ other_twice s) sb) w'.near in
                 let i : height a ≡ height other = ap height far in
                 let j : height b ≡ height u = ap height near in
                 absurd (omega (arith, i, j, lt, higher)))
@@ -149,13 +149,13 @@ trees_light f p node near far (Node k n l r) e d =
     let b : weight f p far r ≡ weight f p (word_of p (Body node 1)) r = ap (λ (z : ℕ). weight f p z r) d in
     omega (arith, a, b)
 
-pub none_light : (f : ℕ → ℕ) (p : Pool) (node : ℕ) (t : Tree) → node ≡ 0 → Stands p node t → weight f p 0 (left_of t) + weight f p 0 (right_of t) ≤ weight f p node t
+pub none_light : (f : ℕ → ℕ) (p : Pool) (node : ℕ) (t : Tree) → node ≡ 0 → TreeStands p node t → weight f p 0 (left_of t) + weight f p 0 (right_of t) ≤ weight f p node t
 none_light f p node Empty e s = omega arith
 none_light f p node (Node k n l r) e s = absurd (s.0.some e)
 
-leaf_tops : (f : ℕ → ℕ) (q : Pool) (x y m : ℕ) → f m ≡ 1 → Stands q m (Node x y Empty Empty) → (s : Side) → CountsTop f q s m
+leaf_tops : (f : ℕ → ℕ) (q : Pool) (x y m : ℕ) → f m ≡ 1 → TreeStands q m (Node x y Empty Empty) → (s : Side) → CountsTop f q s m
 leaf_tops f q x y m new st Left = record { top = new; high = λ a b sa sb lt. absurd (let none = height_none q (child_of q m Left) a st.1 sa in omega (arith, none, lt)) }
 leaf_tops f q x y m new st Right = record { top = new; high = λ a b sa sb lt. absurd (let none = height_none q (child_of q m Right) a st.2 sa in omega (arith, none, lt)) }
 
-pub lowest_tops : (f : ℕ → ℕ) (q : Pool) (x y m : ℕ) (t : Tree) → IsEnd x t → f m ≡ 1 → Stands q m (inserted x y t) → height (inserted x y t) ≡ height t + 1 → (s : Side) → CountsTop f q s m
-lowest_tops f q x y m t end new st grew s = leaf_tops f q x y m new (subst (λ (u : Tree). Stands q m (inserted x y u)) (end_grew x y t end grew) st) s
+pub lowest_tops : (f : ℕ → ℕ) (q : Pool) (x y m : ℕ) (t : Tree) → IsEnd x t → f m ≡ 1 → TreeStands q m (inserted x y t) → height (inserted x y t) ≡ height t + 1 → (s : Side) → CountsTop f q s m
+lowest_tops f q x y m t end new st grew s = leaf_tops f q x y m new (subst (λ (u : Tree). TreeStands q m (inserted x y u)) (end_grew x y t end grew) st) s

@@ -13,7 +13,7 @@ use Rattle.shm_count.specs.{declared.answer.Made.Made, Roots.root_word}
 use Rattle.shm_tree.specs.declared.node.{Content.Content, Pair.Pair, Side.{Side, TheVariants.{Left, Right}}}
 use Rattle.shm_tree.specs.Falling.{KeepsFalling}
 use Rattle.shm_tree.specs.Keeping.{HasGrown, HasMade, IsBorn, IsLinked, IsMade, IsReferring, IsStill, KeepsNode, KeepsNodes, child_of, is_live, node_by, other_side}
-use Rattle.shm_tree.specs.{Standing.{IsNode, Stands, word_of}, Trees.{Tree, Empty, Node, height}}
+use Rattle.shm_tree.specs.{Standing.{IsNode, TreeStands, word_of}, Trees.{Tree, Empty, Node, height}}
 use Rattle.shm_tree.specs.Working.{IsWorking, Went}
 use Rattle.shm_tree.proofs.{Nodes.{calm_held, keeps_then, made_then, trees_kept, working_calm}, Turns.did_then}
 
@@ -70,7 +70,7 @@ module _ (p : Pool) (work : IsWorking p) where
         under = ((node_inside b k n h x, omega (arith, is)), under_more p i h s.blocks (omega (arith, e)) s.under);
       }
 
-  spine : (t : Tree) (b : ℕ) → Stands p b t → HasSpine p (height t)
+  spine : (t : Tree) (b : ℕ) → TreeStands p b t → HasSpine p (height t)
   spine Empty b y = record { blocks = []; long = refl; distinct = none_distinct; under = tt }
   spine (Node k n l r) b y =
       elim (cases_Bool (ltb (height l) (height r))) [
@@ -78,7 +78,7 @@ module _ (p : Pool) (work : IsWorking p) where
         | inr z ↦ topped b k n (height (Node k n l r)) (height l) y.0 (let less = ltb-false (height l) (height r) z in omega (arith, less)) (spine l (word_of p (Body b 0)) y.1)
       ]
 
-  pub stands_low : (t : Tree) (b : ℕ) → Stands p b t → height t < 2 ^ 24
+  pub stands_low : (t : Tree) (b : ℕ) → TreeStands p b t → height t < 2 ^ 24
   stands_low t b y =
       let s = spine t b y in
       let most : length s.blocks ≤ total_of p.start.geometry = length-le_from_distinct_below s.blocks (total_of p.start.geometry) s.distinct (all_below p (height t) s.blocks s.under) in
@@ -184,17 +184,17 @@ born_grown a p q x =
 
 -- ---- the node with its two trees
 
-pub linked_stands : (p a b q : Pool) (c : Content) (s : Side) (trees : Pair) (m : Made) (near far : Tree) → IsMade c (1 + max (height near) (height far)) m p a → IsReferring m.block s trees.near a b → IsReferring m.block (other_side s) trees.far b q → Stands q trees.near near → Stands q trees.far far → Stands q m.block (node_by s c near far)
+pub linked_stands : (p a b q : Pool) (c : Content) (s : Side) (trees : Pair) (m : Made) (near far : Tree) → IsMade c (1 + max (height near) (height far)) m p a → IsReferring m.block s trees.near a b → IsReferring m.block (other_side s) trees.far b q → TreeStands q trees.near near → TreeStands q trees.far far → TreeStands q m.block (node_by s c near far)
 linked_stands p a b q c Left trees m near far made one two x y = (
   two.node _ _ _ (one.node _ _ _ made.node),
-  subst (λ z. Stands q z near) (sym (two.other ∙ one.names)) x,
-  subst (λ z. Stands q z far) (sym two.names) y,
+  subst (λ z. TreeStands q z near) (sym (two.other ∙ one.names)) x,
+  subst (λ z. TreeStands q z far) (sym two.names) y,
 )
 linked_stands p a b q c Right trees m near far made one two x y =
     let same : max (height near) (height far) ≡ max (height far) (height near) = omega arith in (
       subst (λ h. IsNode q m.block c.key c.number (1 + h)) same (two.node _ _ _ (one.node _ _ _ made.node)),
-      subst (λ z. Stands q z far) (sym two.names) y,
-      subst (λ z. Stands q z near) (sym (two.other ∙ one.names)) x,
+      subst (λ z. TreeStands q z far) (sym two.names) y,
+      subst (λ z. TreeStands q z near) (sym (two.other ∙ one.names)) x,
     )
 
 -- the first tree is its child still
@@ -204,7 +204,7 @@ near_kept b q n x y Right two e = two.other ∙ e
 
 -- the heights by which it was made are those of its trees
 pub linked_of : (p m a b q : Pool) (c : Content) (s : Side) (trees : Pair) (x y : ℕ) (n : Made) → IsWorking p → IsWorking m → IsWorking a → IsWorking b → m.start ≡ p.start → a.start ≡ p.start → b.start ≡ p.start → IsStill p m → IsMade c (1 + max x y) n m a → IsReferring n.block s trees.near a b → IsReferring n.block (other_side s) trees.far b q
-    → ((t : Tree) → Stands p trees.near t → x ≡ height t) → ((t : Tree) → Stands p trees.far t → y ≡ height t) → IsLinked c s trees n p q
+    → ((t : Tree) → TreeStands p trees.near t → x ≡ height t) → ((t : Tree) → TreeStands p trees.far t → y ≡ height t) → IsLinked c s trees n p q
 linked_of p m a b q c s trees x y n wp wm wa wb startm starta startb still made one two nears fars =
     let first : IsBorn n p a = still_born p m a wp wm startm n still made.born in
     let second : IsBorn n p b = born_refers p a b wp wa starta n s trees.near first one in
@@ -219,7 +219,7 @@ linked_of p m a b q c s trees x y n wp wm wa wb startm starta startb still made 
     }
 
 -- the heights of two trees that stand leave room for one more
-pub heights_fit : (p : Pool) → IsWorking p → (a b x y : ℕ) (t u : Tree) → Stands p a t → Stands p b u → x ≡ height t → y ≡ height u → 1 + max x y < 2 ^ 64
+pub heights_fit : (p : Pool) → IsWorking p → (a b x y : ℕ) (t u : Tree) → TreeStands p a t → TreeStands p b u → x ≡ height t → y ≡ height u → 1 + max x y < 2 ^ 64
 heights_fit p work a b x y t u s v e f =
     let l = stands_low p work t a s in
     let r = stands_low p work u b v in

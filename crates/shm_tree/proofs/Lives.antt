@@ -11,7 +11,7 @@ use Rattle.shm_graph.specs.Spots.{IsAt, block_spot, classes_in, is_in_body, see,
 use Rattle.shm_graph.proofs.Spots.{Fixed.fixed_is_at, Seeing.see_there, SpotPlaces.body_spot_at}
 use Rattle.shm_graph.proofs.Spots.{Spotting.{at_below, spot_before_bodies}, WordsAt.{block_header, no_head, page_class}}
 use Rattle.shm_plain.specs.Pools.{IsRun, Pool}
-use Rattle.shm_tree.specs.{Building.named_by, Holding.lives_below, Keeping.is_live}
+use Rattle.shm_tree.specs.{Building.root_block, Holding.lives_below, Keeping.is_live}
 
 -- ---- sums
 
@@ -118,7 +118,7 @@ module _ (p : Pool) (k : ℕ) (one : p.start.geometry.clients ≡ 1) (low : k < 
   unfolding spot_address
   root_below = at_below p.start.geometry (classes_in p.start.geometry p.words) (Root 0 k) root_there
 
-  pub root_read : IsRun p → named_by p k ≡ slice_index p.words (address p.start.geometry (place.Root 0 k))
+  pub root_read : IsRun p → root_block p k ≡ slice_index p.words (address p.start.geometry (place.Root 0 k))
   unfolding spot_address
   root_read run =
       let first : 0 < p.start.geometry.clients = omega (arith, one) in

@@ -6,8 +6,8 @@ use Rattle.std.specs.List.{Contains}
 use Rattle.shm_graph.specs.declared.spot.Spot.TheVariants.{Body}
 use Rattle.shm_plain.specs.Pools.{Pool}
 use Rattle.shm_count.specs.declared.answer.Made.{Made}
-use Rattle.shm_tree.specs.{Building.{IsBuilt, named_by}, Inserting.{is_part, outside}, Keeping.is_live}
-use Rattle.shm_tree.specs.{Living.{AreFewNew, AreLivesNodes, AreRootsTrees}, Standing.{Stands, weight, word_of}}
+use Rattle.shm_tree.specs.{Building.{IsBuilt, root_block}, Inserting.{is_part, outside}, Keeping.is_live}
+use Rattle.shm_tree.specs.{Living.{AreFewNew, AreLivesNodes, AreRootsTrees}, Standing.{TreeStands, weight, word_of}}
 use Rattle.shm_tree.specs.Trees.{Tree, Empty, Node}
 use Rattle.shm_tree.proofs.{Lights.{either, once, outside_new, part_weighs, weighs_live}, Ways.stands_one}
 
@@ -55,7 +55,7 @@ part_new f p z b (Node k n l r) e some =
     ]
 
 -- where a tree was built and each live block is a node of a tree that a root names
-pub lives_few : {n : ℕ} {m : Made} (p q : Pool) (i top : ℕ) (t u : Tree) → AreRootsTrees p → AreLivesNodes q → IsBuilt n m p q → Stands p top t → Stands q m.block u → weight (outside p top t) q m.block u ≤ i → AreFewNew i p q
+pub lives_few : {n : ℕ} {m : Made} (p q : Pool) (i top : ℕ) (t u : Tree) → AreRootsTrees p → AreLivesNodes q → IsBuilt n m p q → TreeStands p top t → TreeStands q m.block u → weight (outside p top t) q m.block u ≤ i → AreFewNew i p q
 lives_few {m = m} p q i top t u roots nodes built st su few =
     let f : ℕ → ℕ = outside p top t in
     let low = news_few f q m.block u in
@@ -66,18 +66,18 @@ lives_few {m = m} p q i top t u roots nodes built st su few =
         let w = nodes b live in
         elim (cases_eq w.0 m.root) [
           | inl e ↦
-              (let at : named_by q w.0 ≡ m.block = ap (named_by q) e ∙ built.rooted.names in
-              let same : w.2 ≡ u = stands_one q m.block w.2 u (subst (λ (d : ℕ). Stands q d w.2) at w.3) su in
+              (let at : root_block q w.0 ≡ m.block = ap (root_block q) e ∙ built.rooted.names in
+              let same : w.2 ≡ u = stands_one q m.block w.2 u (subst (λ (d : ℕ). TreeStands q d w.2) at w.3) su in
               let part : is_part q b m.block u ≡ true = subst (λ (v : Tree). is_part q b m.block v ≡ true) same (subst (λ (d : ℕ). is_part q b d w.2 ≡ true) at w.4) in
               let one : outside p top t b ≡ 1 = outside_new p p b top t (λ g. refl) st dead in
               part_new (outside p top t) q b m.block u part (λ none. omega (arith, one, none)))
           | inr ne ↦
-              (let same : named_by q w.0 ≡ named_by p w.0 = built.rooted.others w.0 ne in
+              (let same : root_block q w.0 ≡ root_block p w.0 = built.rooted.others w.0 ne in
               let old = roots w.0 w.1 in
-              let there : Stands q (named_by p w.0) old.0 = built.trees w.0 old.0 w.1 old.1 in
-              let is : w.2 ≡ old.0 = stands_one q (named_by p w.0) w.2 old.0 (subst (λ (d : ℕ). Stands q d w.2) same w.3) there in
-              let part : is_part q b (named_by p w.0) old.0 ≡ true = subst (λ (v : Tree). is_part q b (named_by p w.0) v ≡ true) is (subst (λ (d : ℕ). is_part q b d w.2 ≡ true) same w.4) in
-              let more = part_weighs q b (named_by p w.0) old.0 part in
+              let there : TreeStands q (root_block p w.0) old.0 = built.trees w.0 old.0 w.1 old.1 in
+              let is : w.2 ≡ old.0 = stands_one q (root_block p w.0) w.2 old.0 (subst (λ (d : ℕ). TreeStands q d w.2) same w.3) there in
+              let part : is_part q b (root_block p w.0) old.0 ≡ true = subst (λ (v : Tree). is_part q b (root_block p w.0) v ≡ true) is (subst (λ (d : ℕ). is_part q b d w.2 ≡ true) same w.4) in
+              let more = part_weighs q b (root_block p w.0) old.0 part in
               let kept = built.blocks (once b) w.0 old.0 w.1 old.1 in
-              absurd (true≢false (sym (weighs_live p b (named_by p w.0) old.0 old.1 (omega (arith, more, kept))) ∙ dead)))
+              absurd (true≢false (sym (weighs_live p b (root_block p w.0) old.0 old.1 (omega (arith, more, kept))) ∙ dead)))
         ]

@@ -7,9 +7,9 @@ use Rattle.std.specs.{Option.is_some, Result.IsErrAnd}
 use Rattle.shm_plain.specs.Pools.{Pool, memo_of}
 use Rattle.shm_count.specs.declared.answer.Made.{Made}
 use Rattle.shm_tree.specs.declared.{registers.Registers.Registers, stop.Stop.Stop, remove.Removed.Removed}
-use Rattle.shm_tree.specs.Building.{named_by}
-use Rattle.shm_tree.specs.Forests.{Calls, HasVersions, IsCleared, IsPruned, IsTaken, IsForest, IsFree, IsLeft, IsLopped, IsPut, IsSpare, IsTidy, KeepsNamed, KeepsRegisters, KeepsRoot, KeepsRoots, KeepsVersions, Moves, Stopped, block_in, is_over, root_at, version}
-use Rattle.shm_tree.specs.{Keeping.IsStill, Standing.{IsTree, Stands}, Inserting.IsRegistered}
+use Rattle.shm_tree.specs.Building.{root_block}
+use Rattle.shm_tree.specs.Forests.{CallLeaves, HasVersions, IsCleared, IsPruned, IsTaken, IsForest, IsFree, IsLeft, IsLopped, IsPut, IsSpare, IsTidy, KeepsNamed, KeepsRegisters, KeepsRoot, KeepsRoots, KeepsVersions, Moves, CallStopped, block_in, is_over, root_at, version}
+use Rattle.shm_tree.specs.{Keeping.IsStill, Standing.{IsTree, TreeStands}, Inserting.IsRegistered}
 use Rattle.shm_tree.specs.Removing.{IsKept, IsRemoved, IsWithout}
 use Rattle.shm_tree.specs.Trees.{Tree, Empty, Node, found, height, inserted, removed}
 use Rattle.shm_tree.specs.Working.{AreSameRoots, IfAlive, IfRefused, IsEmptied, IsOver, IsRooted, IsSameLatch, IsWorking, Went}
@@ -34,14 +34,14 @@ pub moves_done : {T : Type 0} {f g : Registers} {x y : ℕ} (a : T) → Went f.p
 moves_done a w x = record { went = w; forest = x; kept = tt; cause = tt; died = tt }
 
 -- a call on the pool stopped
-pub moves_stop : (S : Type 0) {T : Type 0} (f : Registers) (q : Pool) (b : Bool) {x y : ℕ} (e : Stop) → IsForest f → (b ≡ true → IsTidy (record { pool = q; roots = f.roots; tidy = b })) → Calls {T = S} (KeepsRoots f.roots) (Err e) f.pool q x y → Moves {T = T} (Err e) f (record { pool = q; roots = f.roots; tidy = b }) x y
+pub moves_stop : (S : Type 0) {T : Type 0} (f : Registers) (q : Pool) (b : Bool) {x y : ℕ} (e : Stop) → IsForest f → (b ≡ true → IsTidy (record { pool = q; roots = f.roots; tidy = b })) → CallLeaves {T = S} (KeepsRoots f.roots) (Err e) f.pool q x y → Moves {T = T} (Err e) f (record { pool = q; roots = f.roots; tidy = b }) x y
 moves_stop S f q b stop.Died x t c = record { went = c.went; forest = tt; kept = tt; cause = c.cause; died = c.died }
 moves_stop S f q b (stop.Full i j) x t c = record { went = c.went; forest = forest_over f q b x c.working (c.latch ∙ x.latch) c.kept t; kept = registers_over f q b c.kept; cause = c.cause; died = c.died }
 moves_stop S f q b (stop.CountFull i j) x t c = record { went = c.went; forest = forest_over f q b x c.working (c.latch ∙ x.latch) c.kept t; kept = registers_over f q b c.kept; cause = c.cause; died = c.died }
 moves_stop S f q b (stop.EraSpent i) x t c = record { went = c.went; forest = forest_over f q b x c.working (c.latch ∙ x.latch) c.kept t; kept = registers_over f q b c.kept; cause = c.cause; died = c.died }
 
 -- nothing was done, or no word step was left
-pub moves_still : (S : Type 0) {T : Type 0} {K : Pool → Pool → Type 0} (f : Registers) (q : Pool) {x y : ℕ} (e : Stop) → IsForest f → Calls {T = S} K (Err e) f.pool q x y → IfRefused {T = S} (Err e) (IsStill f.pool q) → Moves {T = T} (Err e) f (record { pool = q; roots = f.roots; tidy = f.tidy }) x y
+pub moves_still : (S : Type 0) {T : Type 0} {K : Pool → Pool → Type 0} (f : Registers) (q : Pool) {x y : ℕ} (e : Stop) → IsForest f → CallLeaves {T = S} K (Err e) f.pool q x y → IfRefused {T = S} (Err e) (IsStill f.pool q) → Moves {T = T} (Err e) f (record { pool = q; roots = f.roots; tidy = f.tidy }) x y
 moves_still S f q stop.Died x c still = record { went = c.went; forest = tt; kept = tt; cause = c.cause; died = c.died }
 moves_still S f q (stop.Full i j) x c still = moves_stop S f q f.tidy (stop.Full i j) x (λ t k lt free. still.roots k ∙ x.tidy t k lt free) (record { went = c.went; working = c.working; latch = c.latch; kept = λ r lt. root_still (root_at f r) still; cause = c.cause; died = c.died })
 moves_still S f q (stop.CountFull i j) x c still = moves_stop S f q f.tidy (stop.CountFull i j) x (λ t k lt free. still.roots k ∙ x.tidy t k lt free) (record { went = c.went; working = c.working; latch = c.latch; kept = λ r lt. root_still (root_at f r) still; cause = c.cause; died = c.died })
@@ -67,7 +67,7 @@ set_same ks at k r e lt = get_or-set_at ks at r k 0 e lt
 set_other : (ks : List ℕ) (at k r : ℕ) → r ≢ at → slice_index (slice_set ks at k) r ≡ slice_index ks r
 set_other ks at k r ne = get_or-set_other ks at r k 0 ne
 
-module _ (f : Registers) (q : Pool) (at k : ℕ) (x : IsForest f) (here : at < 12) (spare : IsSpare f k) (working : IsWorking q) (latch : (memo_of q 0).latch ≡ None) (kept : (j : ℕ) → (j < 16 → j ≢ root_at f at) → KeepsRoot f.pool q j) (others : (j : ℕ) → j ≢ root_at f at → named_by q j ≡ named_by f.pool j) (empty : root_at f at < 16 → named_by q (root_at f at) ≡ 0) where
+module _ (f : Registers) (q : Pool) (at k : ℕ) (x : IsForest f) (here : at < 12) (spare : IsSpare f k) (working : IsWorking q) (latch : (memo_of q 0).latch ≡ None) (kept : (j : ℕ) → (j < 16 → j ≢ root_at f at) → KeepsRoot f.pool q j) (others : (j : ℕ) → j ≢ root_at f at → root_block q j ≡ root_block f.pool j) (empty : root_at f at < 16 → root_block q (root_at f at) ≡ 0) where
   abbrev pub after : Registers
   after = record { pool = q; roots = slice_set f.roots at k; tidy = f.tidy }
 
@@ -113,12 +113,12 @@ module _ (f : Registers) (q : Pool) (at k : ℕ) (x : IsForest f) (here : at < 1
         ]
       ]
 
-  some_each : (r : ℕ) → r < 12 → root_at after r < 16 → named_by q (root_at after r) ≢ 0
+  some_each : (r : ℕ) → r < 12 → root_at after r < 16 → root_block q (root_at after r) ≢ 0
   some_each r lt lo none =
-      let same : named_by f.pool (root_at after r) ≡ 0 = sym (named_same (root_at after r) (keeps_each r lt) lo) ∙ none in
+      let same : root_block f.pool (root_at after r) ≡ 0 = sym (named_same (root_at after r) (keeps_each r lt) lo) ∙ none in
       elim (cases_eq r at) [
-        | inl e ↦ spare.some (subst (λ (j : ℕ). j < 16) (own r e) lo) (subst (λ (j : ℕ). named_by f.pool j ≡ 0) (own r e) same)
-        | inr ne ↦ x.some r lt (subst (λ (j : ℕ). j < 16) (other r ne) lo) (subst (λ (j : ℕ). named_by f.pool j ≡ 0) (other r ne) same)
+        | inl e ↦ spare.some (subst (λ (j : ℕ). j < 16) (own r e) lo) (subst (λ (j : ℕ). root_block f.pool j ≡ 0) (own r e) same)
+        | inr ne ↦ x.some r lt (subst (λ (j : ℕ). j < 16) (other r ne) lo) (subst (λ (j : ℕ). root_block f.pool j ≡ 0) (other r ne) same)
       ]
 
   -- a root that no register has
@@ -126,7 +126,7 @@ module _ (f : Registers) (q : Pool) (at k : ℕ) (x : IsForest f) (here : at < 1
   replaced_left j lt free = (
     (λ e. free at here (own at refl ∙ sym e)),
     elim (cases_eq j (root_at f at)) [
-      | inl e ↦ inl (ap (named_by q) e ∙ empty (subst (λ (i : ℕ). i < 16) e lt))
+      | inl e ↦ inl (ap (root_block q) e ∙ empty (subst (λ (i : ℕ). i < 16) e lt))
       | inr ne ↦ inr (
         (λ r lr is. elim (cases_eq r at) [
           | inl e ↦ ne (sym is ∙ ap (root_at f) e)
@@ -182,7 +182,7 @@ nothing_tree p = record { stands = block_none p 16 (lit≤ tt); search = tt; bal
 
 -- ---- a tree that was made in a root of its own
 
-module _ {y z : ℕ} (g : Registers) (q : Pool) (m : Made) (x : IsForest g) (tidy : IsTidy g) (c : Calls {T = Made} KeepsNamed (Ok m) g.pool q y z) (rooted : IsRooted m.root m.block g.pool q) (some : m.block ≢ 0) where
+module _ {y z : ℕ} (g : Registers) (q : Pool) (m : Made) (x : IsForest g) (tidy : IsTidy g) (c : CallLeaves {T = Made} KeepsNamed (Ok m) g.pool q y z) (rooted : IsRooted m.root m.block g.pool q) (some : m.block ≢ 0) where
   kept_each : KeepsRoots g.roots g.pool q
   kept_each = registers_named g x c.kept
 
@@ -199,14 +199,14 @@ module _ {y z : ℕ} (g : Registers) (q : Pool) (m : Made) (x : IsForest g) (tid
   made_spare =
       record {
         low = let l = rooted.low in omega arith;
-        free = λ lt r lr is. x.some r lr (subst (λ (k : ℕ). k < 16) (sym is) lt) (ap (named_by g.pool) is ∙ rooted.empty);
+        free = λ lt r lr is. x.some r lr (subst (λ (k : ℕ). k < 16) (sym is) lt) (ap (root_block g.pool) is ∙ rooted.empty);
         some = λ lt e. some (sym rooted.names ∙ e);
       }
 
   pub made_tree : (t : Tree) → IsTree q m.block t → IsTree q (block_in q m.root) t
   made_tree t s = subst (λ (b : ℕ). IsTree q b t) (sym (block_low q m.root rooted.low ∙ rooted.names)) s
 
-  pub made_alone : (k : ℕ) → k < 16 → k ≢ m.root → IsFree g.roots k → named_by q k ≡ 0
+  pub made_alone : (k : ℕ) → k < 16 → k ≢ m.root → IsFree g.roots k → root_block q k ≡ 0
   made_alone k lt ne free = rooted.others k ne ∙ tidy k lt free
 
 -- ---- what is among the roots of registers
@@ -221,7 +221,7 @@ taken_by ks k true long any e free = let l = any.1 in free any.0 (omega arith) (
 
 -- ---- a line that reads
 
-pub stopped_died : {p q : Pool} {x y : ℕ} (e : Stop) → Went p q x y → e ≡ stop.Died → Stopped p q e
+pub stopped_died : {p q : Pool} {x y : ℕ} (e : Stop) → Went p q x y → e ≡ stop.Died → CallStopped p q e
 stopped_died {p = p} {q = q} e w d = stopped_here e w.run w.start (cause_died p q e d)
 
 pub read_moves : {T : Type 0} {x y : ℕ} (f : Registers) (q : Pool) (o : Result T Stop) → IsForest f → Went f.pool q x y → IfOk o (λ v. IsWorking q) → IfOk o (λ v. IsSameLatch f.pool q) → IfOk o (λ v. IsStill f.pool q) → IfErr o (λ e. (e ≡ stop.Died) × (y ≡ 0)) → Moves o f (record { pool = q; roots = f.roots; tidy = f.tidy }) x y
@@ -235,8 +235,8 @@ read_died y (Ok v) d = tt
 read_died y (Err e) d = d.0
 
 -- a tree that was copied
-pub copied_tree : {p q : Pool} (k b : ℕ) (t : Tree) → k < 16 → ((u : Tree) → Stands p (named_by p k) u → Stands q b u) → IsTree p (block_in p k) t → IsTree q b t
-copied_tree {p = p} k b t lt f s = record { stands = f t (subst (λ (d : ℕ). Stands p d t) (block_low p k lt) s.stands); search = s.search; balanced = s.balanced }
+pub copied_tree : {p q : Pool} (k b : ℕ) (t : Tree) → k < 16 → ((u : Tree) → TreeStands p (root_block p k) u → TreeStands q b u) → IsTree p (block_in p k) t → IsTree q b t
+copied_tree {p = p} k b t lt f s = record { stands = f t (subst (λ (d : ℕ). TreeStands p d t) (block_low p k lt) s.stands); search = s.search; balanced = s.balanced }
 
 -- ---- what calls say of a result
 
@@ -244,11 +244,11 @@ pub copied_some : {b : ℕ} (o : Result Made Stop) → b ≢ 0 → IfOk o (λ m.
 copied_some (Ok m) some e = λ z. some (sym e ∙ z)
 copied_some (Err v) some e = tt
 
-pub emptied_others : {T : Type 0} (k : ℕ) (p q : Pool) (o : Result T Stop) → IfOk o (λ u. IsEmptied k p q) → IfOk o (λ u. (j : ℕ) → j ≢ k → named_by q j ≡ named_by p j)
+pub emptied_others : {T : Type 0} (k : ℕ) (p q : Pool) (o : Result T Stop) → IfOk o (λ u. IsEmptied k p q) → IfOk o (λ u. (j : ℕ) → j ≢ k → root_block q j ≡ root_block p j)
 emptied_others k p q (Ok u) e = λ j ne. e.others j ne
 emptied_others k p q (Err v) e = tt
 
-pub emptied_root : {T : Type 0} (A : Type 0) (k : ℕ) (p q : Pool) (o : Result T Stop) → IfOk o (λ u. IsEmptied k p q) → IfOk o (λ u. A → named_by q k ≡ 0)
+pub emptied_root : {T : Type 0} (A : Type 0) (k : ℕ) (p q : Pool) (o : Result T Stop) → IfOk o (λ u. IsEmptied k p q) → IfOk o (λ u. A → root_block q k ≡ 0)
 emptied_root A k p q (Ok u) e = λ a. e.root
 emptied_root A k p q (Err v) e = tt
 
@@ -256,14 +256,14 @@ pub put_done : {T : Type 0} (r k : ℕ) (f g h : Registers) (F : List Tree → T
 put_done r k f g h F (Ok u) on put = λ ts v. (let w = on ts v in put ts (F ts) w.0 w.1)
 put_done r k f g h F (Err e) on put = tt
 
-pub got_versions : (f : Registers) (q : Pool) (b : Bool) (at key : ℕ) (o : Result (Option ℕ) Stop) → at < 12 → IfOk o (λ v. (t : Tree) → Stands f.pool (block_in f.pool (root_at f at)) t → v ≡ found key t) → IfOk o (λ v. IsStill f.pool q) → IfOk o (λ v. (ts : List Tree) → HasVersions f ts → (v ≡ found key (version ts at)) × HasVersions (record { pool = q; roots = f.roots; tidy = b }) ts)
+pub got_versions : (f : Registers) (q : Pool) (b : Bool) (at key : ℕ) (o : Result (Option ℕ) Stop) → at < 12 → IfOk o (λ v. (t : Tree) → TreeStands f.pool (block_in f.pool (root_at f at)) t → v ≡ found key t) → IfOk o (λ v. IsStill f.pool q) → IfOk o (λ v. (ts : List Tree) → HasVersions f ts → (v ≡ found key (version ts at)) × HasVersions (record { pool = q; roots = f.roots; tidy = b }) ts)
 got_versions f q b at key (Ok v) lt is s = λ ts w. (is (version ts at) (w.each at lt).stands, versions_over f q b (λ r l. root_still (root_at f r) s) ts w)
 got_versions f q b at key (Err e) lt is s = tt
 
 -- a tree at a root's block is one of a register, or there is none
 pub registered : {p q : Pool} (k b : ℕ) (t : Tree) → k ≤ 16 → IsStill p q → b ≡ block_in p k → IsTree p (block_in p k) t → IsRegistered q b
 registered {p = p} {q = q} k b t le s e w =
-    let st : Stands q b t = subst (λ (d : ℕ). Stands q d t) (sym e) (s.trees (block_in p k) t w.stands) in
+    let st : TreeStands q b t = subst (λ (d : ℕ). TreeStands q d t) (sym e) (s.trees (block_in p k) t w.stands) in
     record {
       tree = (t, record { stands = st; search = w.search; balanced = w.balanced });
       named =
@@ -273,9 +273,9 @@ registered {p = p} {q = q} k b t le s e w =
           ];
     }
 
-pub planted_tree : {p q r s : Pool} (x y b k m : ℕ) (t : Tree) → IsStill p q → IsStill r s → b ≡ block_in p k → ((u : Tree) → Stands q b u → Stands r m (inserted x y u)) → IsTree p (block_in p k) t → IsTree s m (inserted x y t)
+pub planted_tree : {p q r s : Pool} (x y b k m : ℕ) (t : Tree) → IsStill p q → IsStill r s → b ≡ block_in p k → ((u : Tree) → TreeStands q b u → TreeStands r m (inserted x y u)) → IsTree p (block_in p k) t → IsTree s m (inserted x y t)
 planted_tree {p = p} {q = q} {r = r} {s = s} x y b k m t a c e f w =
-    let at : Stands q b t = subst (λ (d : ℕ). Stands q d t) (sym e) (a.trees (block_in p k) t w.stands) in
+    let at : TreeStands q b t = subst (λ (d : ℕ). TreeStands q d t) (sym e) (a.trees (block_in p k) t w.stands) in
     let well = (inserts_well x y t w.search w.balanced).0 in
     record { stands = c.trees m (inserted x y t) (f t at); search = well.search; balanced = well.balanced }
 
@@ -316,7 +316,7 @@ refused_when T (stop.CountFull b c) h = h (is_over_not (stop.CountFull b c) refl
 refused_when T (stop.EraSpent e) h = h (is_over_not (stop.EraSpent e) refl)
 
 -- a line was refused, and what it left is emptied, or that stopped
-pub undone_moves : {T : Type 0} {f g h : Registers} {x y z : ℕ} (e r : Stop) → IsForest f → e ≢ stop.Died → Moves {T = T} (Err e) f g x y → Went g.pool h.pool y z → (r ≢ stop.Died → IsForest h × KeepsRegisters g h) → (r ≡ e) ⊎ Stopped g.pool h.pool r → IsOver r z → Moves {T = T} (Err r) f h x z
+pub undone_moves : {T : Type 0} {f g h : Registers} {x y z : ℕ} (e r : Stop) → IsForest f → e ≢ stop.Died → Moves {T = T} (Err e) f g x y → Went g.pool h.pool y z → (r ≢ stop.Died → IsForest h × KeepsRegisters g h) → (r ≡ e) ⊎ CallStopped g.pool h.pool r → IsOver r z → Moves {T = T} (Err r) f h x z
 undone_moves {T = T} {f = f} {g = g} {h = h} e r w ne m went kept why end =
     let first : KeepsRegisters f g = refused_is T e ne m.kept in
     record {
@@ -325,7 +325,7 @@ undone_moves {T = T} {f = f} {g = g} {h = h} e r w ne m went kept why end =
       kept = refused_when T r (λ a. registers_then first (kept a).1);
       cause =
           elim why [
-            | inl eq ↦ subst (λ (v : Stop). Stopped f.pool h.pool v) (sym eq) (stopped_on e m.cause m.went.run m.went.start went.did)
+            | inl eq ↦ subst (λ (v : Stop). CallStopped f.pool h.pool v) (sym eq) (stopped_on e m.cause m.went.run m.went.start went.did)
             | inr s ↦ stopped_after r w.working.run m.went s
           ];
       died = end;
@@ -334,13 +334,13 @@ undone_moves {T = T} {f = f} {g = g} {h = h} e r w ne m went kept why end =
 -- ---- a key that is taken out
 
 -- no root changed, and all are as tidy as they were
-pub same_forest : {y z : ℕ} {T : Type 0} {a : T} (g : Registers) (q : Pool) → IsForest g → IsTidy g → Calls {T = T} KeepsNamed (Ok a) g.pool q y z → AreSameRoots g.pool q → IsForest (record { pool = q; roots = g.roots; tidy = true })
+pub same_forest : {y z : ℕ} {T : Type 0} {a : T} (g : Registers) (q : Pool) → IsForest g → IsTidy g → CallLeaves {T = T} KeepsNamed (Ok a) g.pool q y z → AreSameRoots g.pool q → IsForest (record { pool = q; roots = g.roots; tidy = true })
 same_forest g q x tidy c same = forest_over g q true x c.working (c.latch ∙ x.latch) (registers_named g x c.kept) (λ e k lt free. same k ∙ tidy k lt free)
 
-pub same_versions : {y z : ℕ} {T : Type 0} {a : T} (g : Registers) (q : Pool) → IsForest g → Calls {T = T} KeepsNamed (Ok a) g.pool q y z → KeepsVersions g (record { pool = q; roots = g.roots; tidy = true })
+pub same_versions : {y z : ℕ} {T : Type 0} {a : T} (g : Registers) (q : Pool) → IsForest g → CallLeaves {T = T} KeepsNamed (Ok a) g.pool q y z → KeepsVersions g (record { pool = q; roots = g.roots; tidy = true })
 same_versions g q x c = versions_over g q true (registers_named g x c.kept)
 
-pub same_kept : {y z : ℕ} {T : Type 0} {a : T} (g : Registers) (q : Pool) → IsForest g → Calls {T = T} KeepsNamed (Ok a) g.pool q y z → KeepsRegisters g (record { pool = q; roots = g.roots; tidy = true })
+pub same_kept : {y z : ℕ} {T : Type 0} {a : T} (g : Registers) (q : Pool) → IsForest g → CallLeaves {T = T} KeepsNamed (Ok a) g.pool q y z → KeepsRegisters g (record { pool = q; roots = g.roots; tidy = true })
 same_kept g q x c = registers_over g q true (registers_named g x c.kept)
 
 -- nothing is left of a tree
@@ -348,7 +348,7 @@ pub cleared_tree : (p : Pool) (t : Tree) → t ≡ Empty → IsTree p (block_in 
 cleared_tree p t e = subst (IsTree p (block_in p 16)) (sym e) (nothing_tree p)
 
 -- what a call left that was done, whatever it answered
-pub calls_ok : {S T : Type 0} {K : Pool → Pool → Type 0} {p q : Pool} {x y : ℕ} {a : T} (b : S) → Calls {T = T} K (Ok a) p q x y → Calls {T = S} K (Ok b) p q x y
+pub calls_ok : {S T : Type 0} {K : Pool → Pool → Type 0} {p q : Pool} {x y : ℕ} {a : T} (b : S) → CallLeaves {T = T} K (Ok a) p q x y → CallLeaves {T = S} K (Ok b) p q x y
 calls_ok b c = record { went = c.went; working = c.working; latch = c.latch; kept = c.kept; cause = tt; died = tt }
 
 -- a removal after which nothing is left of the tree
@@ -376,7 +376,7 @@ pub removed_named : (x : ℕ) (t : Tree) (o : Option Removed) (p q : Pool) → I
 removed_named x t None p q h = named_still h.1
 removed_named x t (Some w) p q h = kept_named (3 * height t) w.tree p q h.kept
 
-none_empty : (p : Pool) (t : Tree) → Stands p 0 t → t ≡ Empty
+none_empty : (p : Pool) (t : Tree) → TreeStands p 0 t → t ≡ Empty
 none_empty p Empty s = refl
 none_empty p (Node k n l r) s = absurd (s.0.some refl)
 
@@ -385,10 +385,10 @@ some_found None ne = absurd (ne refl)
 some_found (Some n) ne = refl
 
 module _ (p q r s : Pool) (x b k : ℕ) (a : IsStill p q) (c : IsStill r s) (e : b ≡ block_in p k) (first : (t : Tree) × IsTree p (block_in p k) t) where
-  at : (t : Tree) → IsTree p (block_in p k) t → Stands q b t
-  at t w = subst (λ (d : ℕ). Stands q d t) (sym e) (a.trees (block_in p k) t w.stands)
+  at : (t : Tree) → IsTree p (block_in p k) t → TreeStands q b t
+  at t w = subst (λ (d : ℕ). TreeStands q d t) (sym e) (a.trees (block_in p k) t w.stands)
 
-  taken_is : (o : Option Made) → ((t : Tree) → Stands q b t → IsWithout x (3 * height t) t o q r) → IsTaken x k o p s
+  taken_is : (o : Option Made) → ((t : Tree) → TreeStands q b t → IsWithout x (3 * height t) t o q r) → IsTaken x k o p s
   taken_is None f =
       record {
         roots = λ j. c.roots j ∙ ((f first.0 (at first.0 first.1)).kept.1 j ∙ a.roots j);
@@ -407,7 +407,7 @@ module _ (p q r s : Pool) (x b k : ℕ) (a : IsStill p q) (c : IsStill r s) (e :
             record { stands = c.trees m.block (removed x t) (f t (at t w)).stands; search = well.search; balanced = well.balanced });
       }
 
-  pub pruned_is : (o : Option Removed) → ((t : Tree) → Stands q b t → IsRemoved x t o q r) → IsPruned x k o p s
+  pub pruned_is : (o : Option Removed) → ((t : Tree) → TreeStands q b t → IsRemoved x t o q r) → IsPruned x k o p s
   pruned_is None f =
       record {
         roots = λ j. c.roots j ∙ ((f first.0 (at first.0 first.1)).1.roots j ∙ a.roots j);

@@ -16,19 +16,19 @@ use Rattle.shm_count.specs.declared.answer.Made.{Made}
 use Rattle.shm_tree.proofs.{Eras.spent_stays, Lights.{once, part_weighs, weighs_live, either, or_first, or_true}}
 use Rattle.shm_tree.proofs.{Living.lives_few, Falls.{body_inside, lives_fall}}
 use Rattle.shm_tree.proofs.Nodes.{IsCalm, body_names, calm_first, calm_held, names, root_is, root_names, working_calm}
-use Rattle.shm_tree.specs.{Building.{IsBuilt, named_by}, Falling.AreFalling, Inserting.{is_part, outside}}
+use Rattle.shm_tree.specs.{Building.{IsBuilt, root_block}, Falling.AreFalling, Inserting.{is_part, outside}}
 use Rattle.shm_tree.specs.{Keeping.is_live, Living.{AreFewNew, AreLivesNodes, AreLivesTrees, AreRootsTrees, KeepsLives}}
-use Rattle.shm_tree.specs.{Standing.{Stands, weight, word_of}, Trees.{Tree, Empty, Node}}
+use Rattle.shm_tree.specs.{Standing.{TreeStands, weight, word_of}, Trees.{Tree, Empty, Node}}
 use Rattle.shm_tree.specs.Working.{IsSpent, IsWorking, Went}
 
 -- ---- nodes of trees
 
-pub top_part : (q : Pool) (b a : ℕ) (t : Tree) → Stands q a t → a ≡ b → b ≢ 0 → is_part q b a t ≡ true
+pub top_part : (q : Pool) (b a : ℕ) (t : Tree) → TreeStands q a t → a ≡ b → b ≢ 0 → is_part q b a t ≡ true
 top_part q b a Empty s e some = absurd (some (sym e ∙ s))
 top_part q b a (Node k n l r) s e some = or_first (b == a) (is_part q b (word_of q (Body a 0)) l || is_part q b (word_of q (Body a 1)) r) (eq-eqb b a (sym e))
 
 -- a child of a node of a tree is one too
-pub part_child : (q : Pool) (d b i : ℕ) → i < 2 → word_of q (Body d i) ≡ b → b ≢ 0 → (a : ℕ) (t : Tree) → Stands q a t → is_part q d a t ≡ true → is_part q b a t ≡ true
+pub part_child : (q : Pool) (d b i : ℕ) → i < 2 → word_of q (Body d i) ≡ b → b ≢ 0 → (a : ℕ) (t : Tree) → TreeStands q a t → is_part q d a t ≡ true → is_part q b a t ≡ true
 part_child q d b i low child some a Empty s e = absurd (true≢false (sym e))
 part_child q d b i low child some a (Node k n l r) s e =
     let left : Bool = is_part q b (word_of q (Body a 0)) l in
@@ -147,11 +147,11 @@ module _ (q : Pool) (calm : IsCalm q) (falling : AreFalling q) (counted : (b : �
 
 -- ---- nodes of trees that roots name
 
-pub part_stands : (q : Pool) (z b : ℕ) (t : Tree) → Stands q b t → is_part q z b t ≡ true → (k n : ℕ) × (l r : Tree) × Stands q z (Node k n l r)
+pub part_stands : (q : Pool) (z b : ℕ) (t : Tree) → TreeStands q b t → is_part q z b t ≡ true → (k n : ℕ) × (l r : Tree) × TreeStands q z (Node k n l r)
 part_stands q z b Empty st e = absurd (true≢false (sym e))
 part_stands q z b (Node k n l r) st e =
     elim (either (z == b) (is_part q z (word_of q (Body b 0)) l || is_part q z (word_of q (Body b 1)) r) e) [
-      | inl y ↦ (k, n, l, r, subst (λ (d : ℕ). Stands q d (Node k n l r)) (sym (eqb-true z b y)) st)
+      | inl y ↦ (k, n, l, r, subst (λ (d : ℕ). TreeStands q d (Node k n l r)) (sym (eqb-true z b y)) st)
       | inr y ↦ elim (either (is_part q z (word_of q (Body b 0)) l) (is_part q z (word_of q (Body b 1)) r) y) [
         | inl x ↦ part_stands q z (word_of q (Body b 0)) l st.1 x
         | inr x ↦ part_stands q z (word_of q (Body b 1)) r st.2 x
@@ -179,21 +179,21 @@ module _ (q : Pool) (work : IsWorking q) (none : (memo_of q 0).dying ≡ []) (fa
 
   -- a tree that a root names, of which it is a node
   abbrev Found : ℕ → Type 0
-  Found b = (j : ℕ) × (j < 16) × (t : Tree) × Stands q (named_by q j) t × (is_part q b (named_by q j) t ≡ true)
+  Found b = (j : ℕ) × (j < 16) × (t : Tree) × TreeStands q (root_block q j) t × (is_part q b (root_block q j) t ≡ true)
 
   found_root : (k b : ℕ) → k < 16 → b ≢ 0 → names q (Root 0 k) ≡ b → Found b
   found_root k b low some e =
-      let is : named_by q k ≡ b = root_is q calm k ∙ (sym (root_names q calm k) ∙ e) in
+      let is : root_block q k ≡ b = root_is q calm k ∙ (sym (root_names q calm k) ∙ e) in
       let t = roots k low in
-      (k, low, t.0, t.1, top_part q b (named_by q k) t.0 t.1 is some)
+      (k, low, t.0, t.1, top_part q b (root_block q k) t.0 t.1 is some)
 
   found_body : (d i b : ℕ) → b ≢ 0 → names q (Body d i) ≡ b → is_live q d ≡ true → Found d → Found b
   found_body d i b some e live f =
-      let node = part_stands q d (named_by q f.0) f.2 f.3 f.4 in
+      let node = part_stands q d (root_block q f.0) f.2 f.3 f.4 in
       let two : tag_refs q.start.geometry.wide (word_of q (Tag d)) ≡ 2 = node.4.0.refs in
       let low = (body_inside q d i (λ z. some (sym e ∙ z))).1 in
       let child : word_of q (Body d i) ≡ b = sym (body_names q calm d i live low) ∙ e in
-      (f.0, f.1, f.2, f.3, part_child q d b i (omega (arith, low, two)) child some (named_by q f.0) f.2 f.3 f.4)
+      (f.0, f.1, f.2, f.3, part_child q d b i (omega (arith, low, two)) child some (root_block q f.0) f.2 f.3 f.4)
 
   pub falling_nodes : AreLivesNodes q
   falling_nodes b live = upward q calm falling all_counted Found found_root found_body b live
@@ -201,11 +201,11 @@ module _ (q : Pool) (work : IsWorking q) (none : (memo_of q 0).dying ≡ []) (fa
 -- what roots name are live blocks
 roots_trees : (p : Pool) → IsWorking p → AreLivesTrees p → AreRootsTrees p
 roots_trees p work trees j low =
-    elim (cases_eq (named_by p j) 0) [
+    elim (cases_eq (root_block p j) 0) [
       | inl e ↦ (Empty, e)
       | inr ne ↦
           (let calm = working_calm p work in
-          trees (named_by p j) (target_counted p.start.geometry _ _ (calm_held p calm) (Root 0 j) (named_by p j) ne (root_names p calm j ∙ sym (root_is p calm j))).0)
+          trees (root_block p j) (target_counted p.start.geometry _ _ (calm_held p calm) (Root 0 j) (root_block p j) ne (root_names p calm j ∙ sym (root_is p calm j))).0)
     ]
 
 pub lives_nodes : (q : Pool) → IsWorking q → (memo_of q 0).dying ≡ [] → AreLivesTrees q → AreLivesNodes q
@@ -213,7 +213,7 @@ lives_nodes q work none trees = falling_nodes q work none (lives_fall q work tre
 
 -- ---- how many blocks came to be live
 
-pub lives_fresh : {n : ℕ} {m : Made} (p q : Pool) (i top : ℕ) (t u : Tree) → IsWorking p → IsWorking q → (IsSpent (memo_of q 0) → ⊥) → AreLivesTrees p → KeepsLives p q → IsBuilt n m p q → Stands p top t → Stands q m.block u → weight (outside p top t) q m.block u ≤ i → AreFewNew i p q
+pub lives_fresh : {n : ℕ} {m : Made} (p q : Pool) (i top : ℕ) (t u : Tree) → IsWorking p → IsWorking q → (IsSpent (memo_of q 0) → ⊥) → AreLivesTrees p → KeepsLives p q → IsBuilt n m p q → TreeStands p top t → TreeStands q m.block u → weight (outside p top t) q m.block u ≤ i → AreFewNew i p q
 lives_fresh p q i top t u wp wq calm trees rests built st su few =
     let none : (memo_of q 0).dying ≡ [] = elim wq.dying [ inl e ↦ e | inr s ↦ absurd (calm s) ] in
     let later : AreLivesTrees q = λ b live. rests calm b live (elim (cases_Bool (is_live p b)) [ inl l ↦ inr (trees b l) | inr dead ↦ inl dead ]) in
@@ -224,7 +224,7 @@ pub lives_stay : {n x y : ℕ} {m : Made} (p q : Pool) → IsWorking p → IsWor
 lives_stay p q wp wq went calm trees built b live =
     let none : (memo_of p 0).dying ≡ [] = elim wp.dying [ inl e ↦ e | inr s ↦ absurd (calm (spent_stays p q wp wq went s)) ] in
     let w = lives_nodes p wp none trees b live in
-    let there : Stands q (named_by p w.0) w.2 = built.trees w.0 w.2 w.1 w.3 in
-    let some = part_weighs p b (named_by p w.0) w.2 w.4 in
+    let there : TreeStands q (root_block p w.0) w.2 = built.trees w.0 w.2 w.1 w.3 in
+    let some = part_weighs p b (root_block p w.0) w.2 w.4 in
     let same = built.blocks (once b) w.0 w.2 w.1 w.3 in
-    weighs_live q b (named_by p w.0) w.2 there (omega (arith, some, same))
+    weighs_live q b (root_block p w.0) w.2 there (omega (arith, some, same))

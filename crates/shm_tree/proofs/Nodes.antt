@@ -13,8 +13,9 @@ use Rattle.shm_graph.proofs.States.HomeTarget.{covered_left}
 use Rattle.shm_plain.specs.{Calls.Did, Pools.{IsRun, Pool, memo_of, pool}}
 use Rattle.shm_count.specs.Roots.{root_word}
 use Rattle.shm_tree.specs.Keeping.{HasMade, IsStill, KeepsNode, KeepsNodes, KeepsTrees, is_alloc, is_live, made_in}
-use Rattle.shm_tree.specs.{Standing.{IsNode, Stands, word_of}, Trees.{Empty, Node}, Working.{AreSameRoots, IsWorking}}
-use Rattle.shm_tree.proofs.Frames.{HasPlain, Unfreed, Unlived, Untouched, life_kept, plain_kept, target_kept}
+use Rattle.shm_tree.specs.{Standing.{IsNode, TreeStands, word_of}, Trees.{Empty, Node}}
+use Rattle.shm_tree.specs.Working.{AreSameRoots, IsWorking}
+use Rattle.shm_tree.proofs.Frames.{HasPlain, Unfreed, Unlived, UntouchedBy, life_kept, plain_kept, target_kept}
 use Rattle.shm_tree.proofs.Turns.{did_keeps, did_then}
 
 -- ---- one pool
@@ -93,8 +94,8 @@ from_started P p q start h = subst (λ (s : Start). P (pool s q.words q.accounts
 -- events that leave a node
 pub record AreMild (b : ℕ) (es : List Event) : Type 0 where
   pub freed : AllByRecursion (Unfreed b) es
-  pub left : AllByRecursion (Untouched (Body b 0)) es
-  pub right : AllByRecursion (Untouched (Body b 1)) es
+  pub left : AllByRecursion (UntouchedBy (Body b 0)) es
+  pub right : AllByRecursion (UntouchedBy (Body b 1)) es
 
 module _ (p : Pool) (es : List Event) (cp : IsCalm p) (ws : List ℕ) (accs : List Account) (ms : List Move) where
   abbrev q : Pool
@@ -117,13 +118,13 @@ module _ (p : Pool) (es : List Event) (cp : IsCalm p) (ws : List ℕ) (accs : Li
         }
 
     -- it names what it named
-    names_there : (s : Spot) → AllByRecursion (Untouched s) es → names q s ≡ names p s
-    names_there s good = did_keeps 0 p q es cp.run cq.run refl did (Untouched s) refl (λ w v. targets p.start.geometry w v s ≡ names p s) (target_kept p.start.geometry 0 s (names p s)) good refl
+    names_there : (s : Spot) → AllByRecursion (UntouchedBy s) es → names q s ≡ names p s
+    names_there s good = did_keeps 0 p q es cp.run cq.run refl did (UntouchedBy s) refl (λ w v. targets p.start.geometry w v s ≡ names p s) (target_kept p.start.geometry 0 s (names p s)) good refl
 
-    home_there : AllByRecursion (Untouched (Home 0)) es → word_of q (Home 0) ≡ word_of p (Home 0)
+    home_there : AllByRecursion (UntouchedBy (Home 0)) es → word_of q (Home 0) ≡ word_of p (Home 0)
     home_there good = sym (home_names q cq) ∙ (names_there (Home 0) good ∙ home_names p cp)
 
-    child_there : (b k n h i : ℕ) → i < 2 → AllByRecursion (Unfreed b) es → AllByRecursion (Untouched (Body b i)) es → IsNode p b k n h → word_of q (Body b i) ≡ word_of p (Body b i)
+    child_there : (b k n h i : ℕ) → i < 2 → AllByRecursion (Unfreed b) es → AllByRecursion (UntouchedBy (Body b i)) es → IsNode p b k n h → word_of q (Body b i) ≡ word_of p (Body b i)
     child_there b k n h i low free good x =
         let y = node_there b k n h free x in
         let before : i < tag_refs p.start.geometry.wide (see p.start.geometry p.words (Tag b)) = let e = x.refs in omega arith in
@@ -157,11 +158,11 @@ module _ (p q : Pool) (es : List Event) (cp : IsCalm p) (cq : IsCalm q) (start :
   content_kept b k n h free x = from_started (λ z. IsNode z b k n h) p q start (node_there p es cp q.words q.accounts q.turns calm_started did_started b k n h free x)
 
   -- a child of it
-  pub child_kept : (b k n h i : ℕ) → i < 2 → AllByRecursion (Unfreed b) es → AllByRecursion (Untouched (Body b i)) es → IsNode p b k n h → word_of q (Body b i) ≡ word_of p (Body b i)
+  pub child_kept : (b k n h i : ℕ) → i < 2 → AllByRecursion (Unfreed b) es → AllByRecursion (UntouchedBy (Body b i)) es → IsNode p b k n h → word_of q (Body b i) ≡ word_of p (Body b i)
   child_kept b k n h i low free good x = from_started (λ z. word_of z (Body b i) ≡ word_of p (Body b i)) p q start (child_there p es cp q.words q.accounts q.turns calm_started did_started b k n h i low free good x)
 
   -- the home that no event changes
-  pub home_kept : AllByRecursion (Untouched (Home 0)) es → word_of q (Home 0) ≡ word_of p (Home 0)
+  pub home_kept : AllByRecursion (UntouchedBy (Home 0)) es → word_of q (Home 0) ≡ word_of p (Home 0)
   home_kept good = from_started (λ z. word_of z (Home 0) ≡ word_of p (Home 0)) p q start (home_there p es cp q.words q.accounts q.turns calm_started did_started good)
 
   -- a block that is neither made nor freed is live or not as it was
@@ -174,7 +175,7 @@ pub trees_kept : (p q : Pool) → KeepsNodes p q → KeepsTrees p q
 trees_kept p q keep b Empty s = s
 trees_kept p q keep b (Node k n l r) s =
     let y = keep b k n _ s.0 in
-    (y.node, subst (λ x. Stands q x l) (sym y.left) (trees_kept p q keep (word_of p (Body b 0)) l s.1), subst (λ x. Stands q x r) (sym y.right) (trees_kept p q keep (word_of p (Body b 1)) r s.2))
+    (y.node, subst (λ x. TreeStands q x l) (sym y.left) (trees_kept p q keep (word_of p (Body b 0)) l s.1), subst (λ x. TreeStands q x r) (sym y.right) (trees_kept p q keep (word_of p (Body b 1)) r s.2))
 
 -- ---- calls without an event
 

@@ -7,7 +7,7 @@ use Rattle.shm_plain.specs.Pools.{Pool}
 use Rattle.shm_tree.specs.declared.line.{TreeAnswer.TreeAnswer, TreeLine.TreeLine, TreeTurn.TreeTurn}
 use Rattle.shm_tree.specs.{declared.{registers.Registers.Registers, stop.Stop.Stop}, CutShort.{IsCutShort, IsWordless}}
 use Rattle.shm_tree.specs.{Falling.AreFalling, ForestCalls.RanLine}
-use Rattle.shm_tree.specs.Forests.{DoesLine, DoesTurn, HasVersions, IsCaused, IsForest, IsInRange, IsLost, IsOwn, IsReading, IsSwept, IsUnspent, KeepsRegisters, Moves, Stopped, is_died, turn_by, turn_of}
+use Rattle.shm_tree.specs.Forests.{DoesLine, DoesTurn, HasVersions, IsCaused, IsForest, IsInRange, IsLost, IsOwn, IsReading, IsSwept, IsUnspent, KeepsRegisters, Moves, CallStopped, is_died, turn_by, turn_of}
 use Rattle.shm_tree.specs.{Keeping.AreSameLives, Living.{AreFewNew, AreLivesTrees}, Trees.Tree}
 use Rattle.shm_tree.specs.Costing.{Costs, CostsLine, EndsLine, FewLine, FewSet, IfEnded, IfStopped, SpendsLine, call_steps, line_steps, made_most, new_most, sweep_steps}
 use Rattle.shm_tree.specs.Working.{IfAlive, IfRefused, Went}
@@ -35,7 +35,7 @@ own_caused p q (answers.Full s b) h = absurd h
 own_caused p q (answers.CountFull b c) h = absurd h
 own_caused p q (answers.EraSpent e) h = absurd h
 
-pub outcome_caused : (p q : Pool) (o : Result TreeAnswer Stop) → IfOk o IsOwn → IfErr o (λ e. Stopped p q e) → IsCaused p q (turn_by o)
+pub outcome_caused : (p q : Pool) (o : Result TreeAnswer Stop) → IfOk o IsOwn → IfErr o (λ e. CallStopped p q e) → IsCaused p q (turn_by o)
 outcome_caused p q (Ok a) h s = own_caused p q a h
 outcome_caused p q (Err stop.Died) h s = tt
 outcome_caused p q (Err (stop.Full i j)) h s = s

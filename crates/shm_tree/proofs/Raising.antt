@@ -5,10 +5,10 @@ use Rattle.shm_graph.specs.declared.spot.Spot.TheVariants.{Body}
 use Rattle.shm_plain.specs.Pools.{IsRun, Pool}
 use Rattle.shm_count.specs.declared.answer.Made.{Made}
 use Rattle.shm_tree.specs.declared.node.{Content.Content, Side.{Side, TheVariants.{Left, Right}}}
-use Rattle.shm_tree.specs.Building.{IsCheap, IsHeld, IsRebuilt, StandsOf, joined_by, named_by}
+use Rattle.shm_tree.specs.Building.{IsCheap, IsHeld, IsRebuilt, StandsOf, joined_by, root_block}
 use Rattle.shm_tree.specs.Keeping.{IsStill, KeepsTrees, child_of, node_by, other_side}
 use Rattle.shm_tree.specs.Raising.{IsCheapAt, IsOverAt, StandsAgain, WeighsAgain, content_or, side_of}
-use Rattle.shm_tree.specs.{Sharing.{CountsTop, IsOver, WeighsJoined}, Standing.{Stands, weight, word_of}}
+use Rattle.shm_tree.specs.{Sharing.{CountsTop, IsOver, WeighsJoined}, Standing.{TreeStands, weight, word_of}}
 use Rattle.shm_tree.specs.Trees.{Tree, Empty, Node}
 use Rattle.shm_tree.proofs.{Building.{made_more, tree_still}, Nodes.made_then}
 use Rattle.shm_tree.proofs.{Rotations.{child_kept, content_is, node_of, parts}, Sharings.{some_high, top_kept}}
@@ -32,11 +32,11 @@ rebuilt_after {n = n} {p = p} {q = q} {r = r} o hp hq start a b =
       names = b.names;
       left = b.left;
       others = λ j h i. b.others j h i ∙ a.roots j;
-      trees = λ j t low i s. subst (λ (k : ℕ). Stands r k t) (a.roots j) (b.trees j t low i (subst (λ (k : ℕ). Stands q k t) (sym (a.roots j)) (a.trees (named_by p j) t s)));
+      trees = λ j t low i s. subst (λ (k : ℕ). TreeStands r k t) (a.roots j) (b.trees j t low i (subst (λ (k : ℕ). TreeStands q k t) (sym (a.roots j)) (a.trees (root_block p j) t s)));
       blocks =
           λ f j t low i s.
-          (let there : Stands q (named_by q j) t = subst (λ (d : ℕ). Stands q d t) (sym (a.roots j)) (a.trees (named_by p j) t s) in
-          subst (λ (d : ℕ). weight f r d t ≡ weight f q d t) (a.roots j) (b.blocks f j t low i there) ∙ weight_nodes f p q a.nodes (named_by p j) t s);
+          (let there : TreeStands q (root_block q j) t = subst (λ (d : ℕ). TreeStands q d t) (sym (a.roots j)) (a.trees (root_block p j) t s) in
+          subst (λ (d : ℕ). weight f r d t ≡ weight f q d t) (a.roots j) (b.blocks f j t low i there) ∙ weight_nodes f p q a.nodes (root_block p j) t s);
       made = made_more (0 + n) n p r (made_then 0 n p q r hp hq start a.made b.made) (omega arith);
     }
 
@@ -47,12 +47,12 @@ sided true k n l r = refl
 sided false k n l r = refl
 
 -- the tree on the other side
-other_stands : {p q : Pool} (x node k n : ℕ) (l w : Tree) (s : Side) → s ≡ side_of x k → KeepsTrees p q → Stands p node (Node k n l w) → Stands q (child_of q node (other_side s)) (cond (nat_lt x k) w l)
+other_stands : {p q : Pool} (x node k n : ℕ) (l w : Tree) (s : Side) → s ≡ side_of x k → KeepsTrees p q → TreeStands p node (Node k n l w) → TreeStands q (child_of q node (other_side s)) (cond (nat_lt x k) w l)
 other_stands {p = p} {q = q} x node k n l w s is keeps sn =
     let d : Content = record { key = k; number = n } in
     let near : Tree = cond (nat_lt x k) l w in
     let far : Tree = cond (nat_lt x k) w l in
-    let here : Stands q node (node_by s d near far) = subst (λ (e : Side). Stands q node (node_by e d near far)) (sym is) (subst (Stands q node) (sided (nat_lt x k) k n l w) (keeps node (Node k n l w) sn)) in
+    let here : TreeStands q node (node_by s d near far) = subst (λ (e : Side). TreeStands q node (node_by e d near far)) (sym is) (subst (TreeStands q node) (sided (nat_lt x k) k n l w) (keeps node (Node k n l w) sn)) in
     (parts q node s d near far here).far
 
 pub again_up : {p q : Pool} (r : Pool) (x node below m : ℕ) (o : Option Content) (own c : Content) (s : Side) → node ≢ 0 → c ≡ content_or o own → s ≡ side_of x own.key → own.key ≡ word_of p (Body node 2) → own.number ≡ word_of p (Body node 3) → KeepsTrees p q
@@ -63,7 +63,7 @@ again_up r x node below m o own c s some told side key number keeps b (Node k n 
     let i : s ≡ side_of x k = side ∙ ap (λ (e : Content). side_of x e.key) is in
     let far : Tree = cond (nat_lt x k) w l in
     let made = b u far (keeps below u su) (other_stands x node k n l w s i keeps sn) in
-    subst (λ (e : Content). Stands r m (joined_by (side_of x k) e u far)) (told ∙ ap (content_or o) is) (subst (λ (e : Side). Stands r m (joined_by e c u far)) i made)
+    subst (λ (e : Content). TreeStands r m (joined_by (side_of x k) e u far)) (told ∙ ap (content_or o) is) (subst (λ (e : Side). TreeStands r m (joined_by e c u far)) i made)
 
 -- few blocks were made for it
 pub cheap_up : {p q r : Pool} (x node below : ℕ) (own : Content) (s : Side) → IsRun p → IsRun q → q.start ≡ p.start → s ≡ side_of x own.key → own.key ≡ word_of p (Body node 2) → IsStill p q → IsCheap (record { near = below; far = child_of q node (other_side s) }) q r → IsCheapAt x node below p r

@@ -8,8 +8,8 @@ use Rattle.shm_graph.specs.declared.memo.{Look.Look, Memo.Memo, Op.{Op, TheVaria
 use Rattle.shm_graph.specs.{declared.spot.Spot.{Spot, TheVariants.{Home, Root}}, Ops.{cover, cover_of}}
 use Rattle.shm_graph.specs.Reach.{in_slot, in_slots, is_reached, named_blocks, not_zero, reached_blocks, roots_below, shown}
 use Rattle.shm_graph.specs.Views.{own_word}
-use Rattle.shm_laws.proofs.Keep.{Contains-filter, filter_from}
-use Rattle.shm_steps.proofs.Reaching.{home_reached, look_reached, root_reached}
+use Rattle.kind_laws.proofs.Lists.{Contains-filter, filter_from}
+use Rattle.kind_parts.proofs.Reaching.{home_reached, look_reached, root_reached}
 use Rattle.shm_count.specs.{Proved.Retaining.{named_reached, named_same}, Tear.Memos.is_slot_word}
 
 -- the looks came to be more

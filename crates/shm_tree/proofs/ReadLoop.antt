@@ -6,7 +6,7 @@ use Rattle.shm_script.specs.declared.fault.{ParseStop.ParseStop, TraceKind.TheVa
 use Rattle.shm_script.specs.{Drafts.{Stops, StopsAt}, Faults.{fault_at, limit_fault}}
 use Rattle.shm_script.specs.declared.fault.ParseStop.TheVariants as stop
 use Rattle.shm_script.proofs.Cuts.{some_piece}
-use Rattle.shm_tree.specs.Scripts.{Drafted, Scripted, draft_none, drafted_line, may_end, read_or, reading, script_of}
+use Rattle.shm_tree.specs.Scripts.{Drafted, TreeScripted, draft_none, drafted_line, may_end, read_or, reading, script_of}
 
 pub reading_more : (d : Drafted) (at : ℕ) (line : List ℕ) (p : ℕ → Bool) (xs : List ℕ) → reading d at (line ∷ slice_split p xs) ≡ read_or at (drafted_line d line) (λ e. reading e (at + 1) (slice_split p xs))
 unfolding reading
@@ -18,7 +18,7 @@ pub reading_end : (d : Drafted) (at : ℕ) (rest : List ℕ) → reading d at (r
 unfolding reading
 reading_end d at rest = refl
 
-module _ (d : Drafted) (at : ℕ) (line rest others : List ℕ) (all : Result Scripted TraceFault) (cut : slice_split (λ b. b == 10) rest ≡ line ∷ slice_split (λ b. b == 10) others) (so_far : reading d at (slice_split (λ b. b == 10) rest) ≡ all) where
+module _ (d : Drafted) (at : ℕ) (line rest others : List ℕ) (all : Result TreeScripted TraceFault) (cut : slice_split (λ b. b == 10) rest ≡ line ∷ slice_split (λ b. b == 10) others) (so_far : reading d at (slice_split (λ b. b == 10) rest) ≡ all) where
   steps : all ≡ read_or at (drafted_line d line) (λ e. reading e (at + 1) (slice_split (λ b. b == 10) others))
   steps = sym so_far ∙ ap (reading d at) cut ∙ reading_more d at line (λ b. b == 10) others
 
@@ -29,7 +29,7 @@ module _ (d : Drafted) (at : ℕ) (line rest others : List ℕ) (all : Result Sc
   pub take_goes : (e : Drafted) → drafted_line d line ≡ Ok e → reading e (at + 1) (slice_split (λ b. b == 10) others) ≡ all
   take_goes e h = sym (steps ∙ ap (λ r. read_or at r (λ e. reading e (at + 1) (slice_split (λ b. b == 10) others))) h)
 
-module _ (d : Drafted) (at : ℕ) (rest : List ℕ) (all : Result Scripted TraceFault) (cut : slice_split (λ b. b == 10) rest ≡ rest ∷ []) (so_far : reading d at (slice_split (λ b. b == 10) rest) ≡ all) where
+module _ (d : Drafted) (at : ℕ) (rest : List ℕ) (all : Result TreeScripted TraceFault) (cut : slice_split (λ b. b == 10) rest ≡ rest ∷ []) (so_far : reading d at (slice_split (λ b. b == 10) rest) ≡ all) where
   last : all ≡ cond (may_end d.place rest) (Ok d.script) (Err (fault_at at Syntax))
   last = sym so_far ∙ ap (reading d at) cut ∙ reading_end d at rest
 

@@ -2,8 +2,8 @@
 use Rattle.std.proofs.Common.{◌≡◌, ◌≢◌, ℕ, ◌<◌, ◌≤◌, Bool, true, false, refl, sym, ap, ◌∙◌, subst}
 use Rattle.std.specs.{Prelude.{Option, None, Some, Result, Ok}, List.AllByRecursion}
 use Rattle.shm_graph.specs.{declared.{ask.Me.Me, spot.Spot.{Spot, TheVariants.Body}}, Asks.Trail, Tells.happens_along}
-use Rattle.shm_calls.specs.declared.{calls.Calls.Calls, or.Or.TheVariants.{First, Second}}
-use Rattle.shm_calls.specs.CallsControl.{called_on, calls_control, calls_does, calls_of, planned}
+use Rattle.plans.specs.declared.{calls.Calls.Calls, or.Or.TheVariants.{First, Second}}
+use Rattle.plans.specs.CallsControl.{called_on, calls_control, calls_does, calls_of, planned}
 use Rattle.shm_plain.specs.{Calls.{Did, Ran}, Pools.{Pool, memo_of}}
 use Rattle.shm_count.specs.declared.point.Aim.{Aim, TheVariants.{Up, Down, Change}}
 use Rattle.shm_ref.specs.declared.{answer.SetFault.SetFault, set_ref.{SetPoint.SetPoint, SetState.SetState}}
@@ -39,7 +39,7 @@ module _ (b k to : ℕ) where
     pub word : m.word ≡ k
     pub target : m.to ≡ to
 
-  abbrev SetIs : Calls SetState SetCall (Result (Unit {0}) SetFault) SetAnswer → Type 0
+  abbrev SetIs : Calls SetState SetCall → Type 0
   SetIs m = PlanIs m.plan × CallIs m.call
 
   -- ---- they stay
@@ -80,7 +80,7 @@ module _ (b k to : ℕ) where
   called_is m c None h is = (h, is)
   called_is m c (Some a) h is = planned_is c (set_after m a) (set_turns m a) (plan_stays m a h) is
 
-  set_stays : (m : Calls SetState SetCall (Result (Unit {0}) SetFault) SetAnswer) (n : ℕ) → SetIs m → SetIs ((calls_control set_parts set_steered).after m n)
+  set_stays : (m : Calls SetState SetCall) (n : ℕ) → SetIs m → SetIs ((calls_control set_parts set_steered).after m n)
   set_stays m n h = called_is m.plan (set_parts.after m.call n) (set_parts.turns m.call n) h.0 (call_stays m.call n h.1)
 
   -- ---- what they tell

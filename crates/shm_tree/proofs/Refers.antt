@@ -18,7 +18,7 @@ use Rattle.shm_ref.specs.declared.answer.SetFault.TheVariants as fault
 use Rattle.shm_ref.proofs.SetKeeps.{set_lasts}
 use Rattle.shm_tree.specs.{declared.node.Side.{Side, TheVariants.{Left, Right}}, Bounds.refer_steps, Causes.SetRefused}
 use Rattle.shm_tree.specs.Keeping.{IsPart, IsReferring, IsStill, KeepsNode, child_of, made_in, other_side, side_word}
-use Rattle.shm_tree.specs.{Standing.{IsNode, Stands, word_of}, Trees.{Tree, Empty, Node}}
+use Rattle.shm_tree.specs.{Standing.{IsNode, TreeStands, word_of}, Trees.{Tree, Empty, Node}}
 use Rattle.shm_tree.specs.Working.{AreSameRoots, IsSameLatch, IsWorking, Reaches}
 use Rattle.shm_tree.proofs.Alive.{IsHomeless, IsOn, after, before, homeless_is, homeless_none, known_word, still, works}
 use Rattle.shm_tree.proofs.Firsts.{first_tells}
@@ -28,13 +28,13 @@ use Rattle.shm_tree.proofs.Shares.{queues_quiet, within_self}
 
 -- ---- trees of which a block is no node
 
-pub others_stand : (p q : Pool) (b : ℕ) → ((d k n h : ℕ) → d ≢ b → IsNode p d k n h → KeepsNode p q d k n h) → (t : Tree) (d : ℕ) → (IsPart p b d t → ⊥) → Stands p d t → Stands q d t
+pub others_stand : (p q : Pool) (b : ℕ) → ((d k n h : ℕ) → d ≢ b → IsNode p d k n h → KeepsNode p q d k n h) → (t : Tree) (d : ℕ) → (IsPart p b d t → ⊥) → TreeStands p d t → TreeStands q d t
 others_stand p q b keep Empty d not y = y
 others_stand p q b keep (Node k n l r) d not y =
     let x = keep d k n _ (λ e. not (inl (sym e))) y.0 in (
       x.node,
-      subst (λ z. Stands q z l) (sym x.left) (others_stand p q b keep l (word_of p (Body d 0)) (λ h. not (inr (inl h))) y.1),
-      subst (λ z. Stands q z r) (sym x.right) (others_stand p q b keep r (word_of p (Body d 1)) (λ h. not (inr (inr h))) y.2),
+      subst (λ z. TreeStands q z l) (sym x.left) (others_stand p q b keep l (word_of p (Body d 0)) (λ h. not (inr (inl h))) y.1),
+      subst (λ z. TreeStands q z r) (sym x.right) (others_stand p q b keep r (word_of p (Body d 1)) (λ h. not (inr (inr h))) y.2),
     )
 
 module _ (p q : Pool) (es : List Event) (on : IsOn p q es) (b : ℕ) (s : Side) (to : ℕ) (k n h : ℕ) (node : IsNode p b k n h) (empty : child_of p b s ≡ 0) where

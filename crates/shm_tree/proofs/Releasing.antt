@@ -4,8 +4,8 @@ use Rattle.std.specs.{Prelude.{IfErr, IfOk, None, Some}, Result.IsErrAnd}
 use Rattle.shm_words.specs.declared.geometry.Geometry.{Geometry}
 use Rattle.shm_plain.specs.Pools.{Pool, memo_of}
 use Rattle.shm_tree.specs.{declared.stop.Stop.Stop, Building.{Builds, IsCut}, Costing.{Costs, Spends}}
-use Rattle.shm_tree.specs.{Forests.{Calls, KeepsNamed, block_in}, Keeping.HasMade, Living.KeepsLives}
-use Rattle.shm_tree.specs.{Releasing.{IsGivenBack, IsHeldBack, Releases}, Spending.HasSpent, Standing.Stands}
+use Rattle.shm_tree.specs.{Forests.{CallLeaves, KeepsNamed, block_in}, Keeping.HasMade, Living.KeepsLives}
+use Rattle.shm_tree.specs.{Releasing.{IsGivenBack, IsHeldBack, Releases}, Spending.HasSpent, Standing.TreeStands}
 use Rattle.shm_tree.specs.{Trees.Tree, Working.{DiedIn, IfAlive, IfRefused, IsSameLatch, IsUnderWay, IsWorking, Went}}
 use Rattle.shm_tree.specs.declared.stop.Stop.TheVariants as stop
 use Rattle.shm_tree.proofs.{Answering.alive_died, Building.{Looked, alive_any, alive_kept, alive_refused, went_on}}
@@ -26,8 +26,8 @@ pub record Entered (k b : ℕ) (p q : Pool) (x y : ℕ) : Type 0 where
 pub entered : (k b : ℕ) {p m q : Pool} {x y z : ℕ} → IsWorking p → Quiet p m x y → (memo_of m 0).latch ≡ Some 0 → x ≡ y + 2 → Looked m q y z → b ≡ block_in m k → y ≤ z + 1 → Entered k b p q x z
 entered k b wp a held two l named one = record { quiet = quiet_then wp a (quiet l.went l.working l.still); held = l.latch ∙ held; named = named ∙ (root_still k a.still).same; few = omega (arith, two, one) }
 
-pub entered_stands : {k b : ℕ} {p q : Pool} {x y : ℕ} → Entered k b p q x y → (t : Tree) → Stands p (block_in p k) t → Stands q b t
-entered_stands {k = k} {p = p} {q = q} n t st = subst (λ (d : ℕ). Stands q d t) (sym n.named) (n.quiet.still.trees (block_in p k) t st)
+pub entered_stands : {k b : ℕ} {p q : Pool} {x y : ℕ} → Entered k b p q x y → (t : Tree) → TreeStands p (block_in p k) t → TreeStands q b t
+entered_stands {k = k} {p = p} {q = q} n t st = subst (λ (d : ℕ). TreeStands q d t) (sym n.named) (n.quiet.still.trees (block_in p k) t st)
 
 -- ---- how it is given back
 
@@ -70,7 +70,7 @@ module _ {T : Type 0} {n i k d : ℕ} {p q r s : Pool} {x y z w : ℕ} (a : Resu
 
   module _ (lp : (memo_of p 0).latch ≡ None) (kept : IfOk a (λ v. KeepsNamed q r)) where
     -- the call was refused, and the latch is given back
-    stopped : (e : Stop) → e ≢ stop.Died → IsGivenBack r s z w × (Err e ≡ a) → Calls {T = T} KeepsNamed (Err e) p s x w
+    stopped : (e : Stop) → e ≢ stop.Died → IsGivenBack r s z w × (Err e ≡ a) → CallLeaves {T = T} KeepsNamed (Err e) p s x w
     stopped e alive g =
         let c = g.0 in
         let h : Builds {T = T} n i (Err e) q r y z = subst (λ (u : Result T Stop). Builds n i u q r y z) (sym g.1) b in
@@ -84,7 +84,7 @@ module _ {T : Type 0} {n i k d : ℕ} {p q r s : Pool} {x y z w : ℕ} (a : Resu
           died = λ d. absurd (alive d);
         }
 
-    pub released_calls : (o : Result T Stop) → Releases a o r s z w → Calls KeepsNamed o p s x w
+    pub released_calls : (o : Result T Stop) → Releases a o r s z w → CallLeaves KeepsNamed o p s x w
     released_calls (Ok v) rel =
         let c = rel.given.0 in
         record {

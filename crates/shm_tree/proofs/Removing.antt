@@ -6,10 +6,10 @@ use Rattle.shm_graph.specs.{declared.spot.Spot.TheVariants.Body, References.{one
 use Rattle.shm_plain.specs.Pools.{IsRun, Pool}
 use Rattle.shm_count.specs.declared.answer.Made.{Made}
 use Rattle.shm_tree.specs.{declared.node.{Content.Content, Side.{Side, TheVariants.{Left, Right}}}, Bounds.fall_steps}
-use Rattle.shm_tree.specs.Building.{IsAtHand, IsBuilt, IsCut, IsHeld, IsRebuilt, block_of, named_by, rooms}
+use Rattle.shm_tree.specs.Building.{IsAtHand, IsBuilt, IsCut, IsHeld, IsRebuilt, block_of, root_block, rooms}
 use Rattle.shm_tree.specs.{Inserting.IsRegistered, Keeping.{IsShared, IsStill, child_of}, Living.KeepsLives}
 use Rattle.shm_tree.specs.{Removing.{IsKept, StandsMoved, content_in, rest, side_tree}, Spending.HasSpent}
-use Rattle.shm_tree.specs.{Standing.{Stands, weight, word_of}, Trees.{Tree, Empty, Node, IsSearch, found}}
+use Rattle.shm_tree.specs.{Standing.{TreeStands, weight, word_of}, Trees.{Tree, Empty, Node, IsSearch, found}}
 use Rattle.shm_tree.specs.Ways.{IsEnd, IsLast, IsPlace, IsSome, down}
 use Rattle.shm_tree.specs.Working.{AreSameRoots, IsSameLatch, IsWorking, Went}
 use Rattle.shm_tree.proofs.Building.{built_after, built_cut, made_more, none_stands, root_reached, rooms_rooted, still_cut, cut_then}
@@ -31,7 +31,7 @@ kept_share {m = m} {p = p} {q = q} b is some s =
     record {
       rooted = record { low = s.rooted.low; empty = s.rooted.empty; names = s.rooted.names ∙ sym is; others = s.rooted.others };
       some = λ e. some (sym is ∙ e);
-      trees = λ j t low h. s.trees (named_by p j) t h;
+      trees = λ j t low h. s.trees (root_block p j) t h;
       blocks = blocks_nodes s.nodes;
       made = s.made;
     }
@@ -47,15 +47,15 @@ kept_after n p q r None hp hq start a h =
     (let c = cut_then hp hq start (still_cut a) h.0 in record { trees = c.trees; roots = c.roots; blocks = c.blocks; made = made_more (0 + n) n p r c.made (omega arith) }, λ k. h.1 k ∙ a.roots k)
 kept_after n p q r (Some m) hp hq start a h = built_after hp hq start a h
 
-pub kept_held : (n : ℕ) (p q : Pool) (o : Option Made) (u : Tree) → IsKept n o p q → Stands q (block_of o) u → IfSome o (IsHeld q)
+pub kept_held : (n : ℕ) (p q : Pool) (o : Option Made) (u : Tree) → IsKept n o p q → TreeStands q (block_of o) u → IfSome o (IsHeld q)
 kept_held n p q None u h st = tt
 kept_held n p q (Some m) u h st = built_held u h st
 
-same_below : (p q : Pool) (n : ℕ) → AreSameRoots p q → sum_below n (λ j. one_if (named_by q j == 0)) ≡ sum_below n (λ j. one_if (named_by p j == 0))
+same_below : (p q : Pool) (n : ℕ) → AreSameRoots p q → sum_below n (λ j. one_if (root_block q j == 0)) ≡ sum_below n (λ j. one_if (root_block p j == 0))
 same_below p q zero h = refl
 same_below p q (suc n) h =
     let a = same_below p q n h in
-    let e : one_if (named_by q n == 0) ≡ one_if (named_by p n == 0) = ap (λ (x : ℕ). one_if (x == 0)) (h n) in
+    let e : one_if (root_block q n == 0) ≡ one_if (root_block p n == 0) = ap (λ (x : ℕ). one_if (x == 0)) (h n) in
     omega arith
 
 same_rooms : (p q : Pool) → AreSameRoots p q → rooms q ≡ rooms p
@@ -68,11 +68,11 @@ kept_rooms n p q None h room = let same = same_rooms p q h.1 in omega (arith, sa
 kept_rooms n p q (Some m) h room = let less = rooms_rooted h.rooted in omega (arith, less, room)
 
 -- what a root names stands once calls were cut, and is at hand
-pub cut_stands : {p q : Pool} {b n : ℕ} (t : Tree) → IsRegistered p b → IsCut n p q → Stands p b t → Stands q b t
+pub cut_stands : {p q : Pool} {b n : ℕ} (t : Tree) → IsRegistered p b → IsCut n p q → TreeStands p b t → TreeStands q b t
 cut_stands {p = p} {q = q} {b = b} t g h s =
     elim (cases_eq b 0) [
       | inl e ↦ none_stands p q b t e s
-      | inr d ↦ (let k = g.named d in subst (λ (d : ℕ). Stands q d t) k.2 (h.trees k.0 t k.1 (subst (λ (d : ℕ). Stands p d t) (sym k.2) s)))
+      | inr d ↦ (let k = g.named d in subst (λ (d : ℕ). TreeStands q d t) k.2 (h.trees k.0 t k.1 (subst (λ (d : ℕ). TreeStands p d t) (sym k.2) s)))
     ]
 
 pub cut_at_hand : {p q : Pool} {b n : ℕ} → IsRegistered p b → IsCut n p q → IsWorking q → IsAtHand q b
@@ -85,23 +85,23 @@ cut_at_hand {p = p} {q = q} {b = b} g h w =
 pub kept_up : (n : ℕ) {m : Made} {p q r s : Pool} (o : Option Made) → IsRun p → IsRun q → q.start ≡ p.start → IsRun r → r.start ≡ q.start → IsKept n o p q → IsStill q r → IsRebuilt 3 o m r s → IsBuilt (n + 3) m p s
 kept_up n (Some low) hp hq start hr onward a i b = built_up hp hq start hr onward a i b
 kept_up n {m = m} {p = p} {q = q} {r = r} {s = s} None hp hq start hr onward a i b =
-    let same : (j : ℕ) → named_by r j ≡ named_by p j = λ j. i.roots j ∙ a.1 j in
+    let same : (j : ℕ) → root_block r j ≡ root_block p j = λ j. i.roots j ∙ a.1 j in
     let all = cut_then hp hq start a.0 (still_cut i) in
     record {
       rooted = record { low = b.low; empty = sym (same m.root) ∙ b.empty; names = b.names; others = λ j h. b.others j h tt ∙ same j };
       some = b.some;
-      trees = λ j t h st. subst (λ (k : ℕ). Stands s k t) (same j) (b.trees j t h tt (subst (λ (k : ℕ). Stands r k t) (sym (same j)) (all.trees j t h st)));
+      trees = λ j t h st. subst (λ (k : ℕ). TreeStands s k t) (same j) (b.trees j t h tt (subst (λ (k : ℕ). TreeStands r k t) (sym (same j)) (all.trees j t h st)));
       blocks =
           λ f j t h st.
-          (let there : Stands q (named_by p j) t = a.0.trees j t h st in
-          let more : weight f s (named_by p j) t ≡ weight f r (named_by p j) t = subst (λ (k : ℕ). weight f s k t ≡ weight f r k t) (same j) (b.blocks f j t h tt (subst (λ (k : ℕ). Stands r k t) (sym (same j)) (i.trees (named_by p j) t there))) in
-          more ∙ (weight_nodes f q r i.nodes (named_by p j) t there ∙ a.0.blocks f j t h st));
+          (let there : TreeStands q (root_block p j) t = a.0.trees j t h st in
+          let more : weight f s (root_block p j) t ≡ weight f r (root_block p j) t = subst (λ (k : ℕ). weight f s k t ≡ weight f r k t) (same j) (b.blocks f j t h tt (subst (λ (k : ℕ). TreeStands r k t) (sym (same j)) (i.trees (root_block p j) t there))) in
+          more ∙ (weight_nodes f q r i.nodes (root_block p j) t there ∙ a.0.blocks f j t h st));
       made = made_more ((n + 0) + 3) (n + 3) p s (made_then (n + 0) 3 p r s hp hr (onward ∙ start) all.made b.made) (omega arith);
     }
 
 -- ---- the lowest level
 
-pub side_stands : (p : Pool) (b : ℕ) (s : Side) (t : Tree) → b ≢ 0 → Stands p b t → Stands p (child_of p b s) (side_tree s t)
+pub side_stands : (p : Pool) (b : ℕ) (s : Side) (t : Tree) → b ≢ 0 → TreeStands p b t → TreeStands p (child_of p b s) (side_tree s t)
 side_stands p b s Empty some st = absurd (some st)
 side_stands p b Left (Node k n l r) some st = st.1
 side_stands p b Right (Node k n l r) some st = st.2
@@ -115,12 +115,12 @@ pub record Falling (x a e d : ℕ) (top : ℕ) (o : Option Made) (p q : Pool) (u
   pub latch : IsSameLatch p q
   pub low : d ≤ e
   pub kept : IsKept (3 * (e - d)) o p q
-  pub way : (t : Tree) → Stands p top t → IsWay x a e t
-  pub stands : (t : Tree) → Stands p top t → Stands q (block_of o) (rest x a t d)
+  pub way : (t : Tree) → TreeStands p top t → IsWay x a e t
+  pub stands : (t : Tree) → TreeStands p top t → TreeStands q (block_of o) (rest x a t d)
   pub rests : KeepsLives p q
 
 -- a node stands at a block
-pub some_block : (p : Pool) (b : ℕ) (t : Tree) → Stands p b t → IsSome t → b ≢ 0
+pub some_block : (p : Pool) (b : ℕ) (t : Tree) → TreeStands p b t → IsSome t → b ≢ 0
 some_block p b Empty st some = absurd some
 some_block p b (Node k n l r) st some = st.0.some
 
@@ -137,27 +137,27 @@ pub way_found : {x a e : ℕ} (t : Tree) → IsWay x a e t → found x t ≢ Non
 way_found {x = x} {a = a} t w = let low = w.low in λ none. found_here x (down x t a) w.here (w.deep a (omega (arith, low))) (sym (down_found x t a w.on) ∙ none)
 
 -- the way of a key, and where its lowest node stands
-pub lowest_way : {p q r : Pool} {top : ℕ} (x a e node b : ℕ) → IsRegistered p top → a ≤ e → ((t : Tree) → Stands p top t → IsPlace q node x a t) → ((y : ℕ) (u : Tree) → Stands q node u → IsSearch u → IsEnd y u → IsLast r b y (e - a) u) → (t : Tree) → Stands p top t → IsWay x a e t × Stands r b (down x t e)
+pub lowest_way : {p q r : Pool} {top : ℕ} (x a e node b : ℕ) → IsRegistered p top → a ≤ e → ((t : Tree) → TreeStands p top t → IsPlace q node x a t) → ((y : ℕ) (u : Tree) → TreeStands q node u → IsSearch u → IsEnd y u → IsLast r b y (e - a) u) → (t : Tree) → TreeStands p top t → IsWay x a e t × TreeStands r b (down x t e)
 lowest_way {p = p} {r = r} {top = top} x a e node b g le place last t st =
     let i = tree_is p top g.tree.0 t g.tree.1 st in
     let d = down_tree x t a i.search i.balanced in
     let w = place t st in
     let l = last x (down x t a) w.stands d.0 w.end in
     let is : a + (e - a) ≡ e = omega (arith, le) in
-    (way_is x a e t le d.0 w.on w.end l.deep l.end, subst (Stands r b) (sym (down_more x t a (e - a)) ∙ ap (down x t) is) l.stands)
+    (way_is x a e t le d.0 w.on w.end l.deep l.end, subst (TreeStands r b) (sym (down_more x t a (e - a)) ∙ ap (down x t) is) l.stands)
 
 -- a tree that got a further root
 pub moved_none : (p : Pool) (b : ℕ) → b ≡ 0 → StandsMoved b 0 p p
-moved_none p b e = λ t st. subst (λ (k : ℕ). Stands p k t) e st
+moved_none p b e = λ t st. subst (λ (k : ℕ). TreeStands p k t) e st
 
 pub moved_share : {p q : Pool} (k b m : ℕ) → m ≡ b → IsShared k b p q → StandsMoved b m p q
-moved_share {p = p} {q = q} k b m is s = λ t st. subst (λ (d : ℕ). Stands q d t) (sym is) (s.trees b t st)
+moved_share {p = p} {q = q} k b m is s = λ t st. subst (λ (d : ℕ). TreeStands q d t) (sym is) (s.trees b t st)
 
 -- after calls that read
 pub moved_after : {p q : Pool} (r : Pool) (top from b : ℕ) → IsStill p q → from ≡ top → StandsMoved from b q r → StandsMoved top b p r
-moved_after {p = p} r top from b still is m = λ t st. m t (still.trees from t (subst (λ (k : ℕ). Stands p k t) (sym is) st))
+moved_after {p = p} r top from b still is m = λ t st. m t (still.trees from t (subst (λ (k : ℕ). TreeStands p k t) (sym is) st))
 
 -- the content that was read of a tree's node
-pub content_read : (p : Pool) (b : ℕ) (c : Content) (t : Tree) → b ≢ 0 → c.key ≡ word_of p (Body b 2) → c.number ≡ word_of p (Body b 3) → Stands p b t → c ≡ content_in t
+pub content_read : (p : Pool) (b : ℕ) (c : Content) (t : Tree) → b ≢ 0 → c.key ≡ word_of p (Body b 2) → c.number ≡ word_of p (Body b 3) → TreeStands p b t → c ≡ content_in t
 content_read p b c Empty some key number st = absurd (some st)
 content_read p b c (Node k n l r) some key number st = content_is (key ∙ st.0.key) (number ∙ st.0.number)

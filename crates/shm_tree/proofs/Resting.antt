@@ -8,7 +8,8 @@ use Rattle.shm_count.specs.declared.answer.Made.{Made}
 use Rattle.shm_tree.specs.{declared.{node.{Content.Content, Pair.Pair, Side.Side}, stop.Stop.Stop}, Building.Builds}
 use Rattle.shm_tree.specs.{Living.KeepsLives, Changing.Changes}
 use Rattle.shm_tree.specs.Keeping.{HasTree, IsDropped, IsLinked, IsStill, is_live, node_by}
-use Rattle.shm_tree.specs.{Standing.{Stands, word_of}, Trees.{Tree, Empty, Node}, Working.{IsSpent, IsWorking, Went}}
+use Rattle.shm_tree.specs.{Standing.{TreeStands, word_of}, Trees.{Tree, Empty, Node}}
+use Rattle.shm_tree.specs.Working.{IsSpent, IsWorking, Went}
 use Rattle.shm_tree.proofs.{Eras.spent_stays, Nodes.{body_names, names, working_calm}, Weights.node_left}
 
 pub rests_then : (p q r : Pool) {x y : ℕ} → IsWorking q → IsWorking r → Went q r x y → KeepsLives p q → KeepsLives q r → KeepsLives p r
@@ -38,25 +39,25 @@ rests_linked {c = c} {s = s} {m = m} {q = q} l near far calm d live before =
 
 module _ (k : ℕ) (p q : Pool) (work : IsWorking q) (d : IsDropped k p q) where
   -- a tree that a word names
-  tree_left : (t : Tree) (b : ℕ) (s : Spot) → names q s ≡ b → Stands p b t → Stands q b t
+  tree_left : (t : Tree) (b : ℕ) (s : Spot) → names q s ≡ b → TreeStands p b t → TreeStands q b t
   tree_left Empty b s e y = y
   tree_left (Node i n l r) b s e y =
       let kept = node_left k p q work d b i n _ s e y.0 in
       let two = kept.node.refs in (
         kept.node,
-        tree_left l (word_of q (Body b 0)) (Body b 0) (body_names q (working_calm q work) b 0 kept.node.live (omega (arith, two))) (subst (λ (z : ℕ). Stands p z l) (sym kept.left) y.1),
-        tree_left r (word_of q (Body b 1)) (Body b 1) (body_names q (working_calm q work) b 1 kept.node.live (omega (arith, two))) (subst (λ (z : ℕ). Stands p z r) (sym kept.right) y.2),
+        tree_left l (word_of q (Body b 0)) (Body b 0) (body_names q (working_calm q work) b 0 kept.node.live (omega (arith, two))) (subst (λ (z : ℕ). TreeStands p z l) (sym kept.left) y.1),
+        tree_left r (word_of q (Body b 1)) (Body b 1) (body_names q (working_calm q work) b 1 kept.node.live (omega (arith, two))) (subst (λ (z : ℕ). TreeStands p z r) (sym kept.right) y.2),
       )
 
   -- a tree at a live block
-  tree_live : (t : Tree) (b : ℕ) → is_live q b ≡ true → (Contains (memo_of q 0).dying b → ⊥) → Stands p b t → Stands q b t
+  tree_live : (t : Tree) (b : ℕ) → is_live q b ≡ true → (Contains (memo_of q 0).dying b → ⊥) → TreeStands p b t → TreeStands q b t
   tree_live Empty b live counted y = y
   tree_live (Node i n l r) b live counted y =
       let kept = d.nodes b i n _ live counted y.0 in
       let two = kept.node.refs in (
         kept.node,
-        tree_left l (word_of q (Body b 0)) (Body b 0) (body_names q (working_calm q work) b 0 kept.node.live (omega (arith, two))) (subst (λ (z : ℕ). Stands p z l) (sym kept.left) y.1),
-        tree_left r (word_of q (Body b 1)) (Body b 1) (body_names q (working_calm q work) b 1 kept.node.live (omega (arith, two))) (subst (λ (z : ℕ). Stands p z r) (sym kept.right) y.2),
+        tree_left l (word_of q (Body b 0)) (Body b 0) (body_names q (working_calm q work) b 0 kept.node.live (omega (arith, two))) (subst (λ (z : ℕ). TreeStands p z l) (sym kept.left) y.1),
+        tree_left r (word_of q (Body b 1)) (Body b 1) (body_names q (working_calm q work) b 1 kept.node.live (omega (arith, two))) (subst (λ (z : ℕ). TreeStands p z r) (sym kept.right) y.2),
       )
 
   pub rests_dropped : KeepsLives p q

@@ -6,7 +6,7 @@ use Rattle.shm_plain.specs.Pools.{Pool}
 use Rattle.shm_tree.specs.declared.node.{Content.Content, Pair.Pair, Side.{Side, TheVariants.{Left, Right}}}
 use Rattle.shm_tree.specs.Building.{StandsOf, StandsTurned, StandsTurnedTwice, from_far, joined_by}
 use Rattle.shm_tree.specs.Keeping.{HasNode, HasTree, KeepsNodes, KeepsTrees, child_of, node_by, other_side}
-use Rattle.shm_tree.specs.{Standing.{Stands, word_of}, Working.IsWorking, Trees.{Tree, Empty, Node, height, joined}}
+use Rattle.shm_tree.specs.{Standing.{TreeStands, word_of}, Working.IsWorking, Trees.{Tree, Empty, Node, height, joined}}
 
 -- a content is its key and its number
 pub content_is : {c d : Content} → c.key ≡ d.key → c.number ≡ d.number → c ≡ d
@@ -25,10 +25,10 @@ other_twice Right = refl
 pub record Parts (p : Pool) (b : ℕ) (s : Side) (c : Content) (x y : Tree) : Type 0 where
   pub key : word_of p (Body b 2) ≡ c.key
   pub number : word_of p (Body b 3) ≡ c.number
-  pub near : Stands p (child_of p b s) x
-  pub far : Stands p (child_of p b (other_side s)) y
+  pub near : TreeStands p (child_of p b s) x
+  pub far : TreeStands p (child_of p b (other_side s)) y
 
-pub parts : (p : Pool) (b : ℕ) (s : Side) (c : Content) (x y : Tree) → Stands p b (node_by s c x y) → Parts p b s c x y
+pub parts : (p : Pool) (b : ℕ) (s : Side) (c : Content) (x y : Tree) → TreeStands p b (node_by s c x y) → Parts p b s c x y
 parts p b Left c x y h = record { key = h.0.key; number = h.0.number; near = h.1; far = h.2 }
 parts p b Right c x y h = record { key = h.0.key; number = h.0.number; near = h.2; far = h.1 }
 
@@ -39,7 +39,7 @@ pub record Shaped (s : Side) (t : Tree) : Type 0 where
   pub far : Tree
   pub is : t ≡ node_by s content near far
 
-pub shaped : (p : Pool) (b : ℕ) (s : Side) (t : Tree) → b ≢ 0 → Stands p b t → Shaped s t
+pub shaped : (p : Pool) (b : ℕ) (s : Side) (t : Tree) → b ≢ 0 → TreeStands p b t → Shaped s t
 shaped p b s Empty some h = absurd (some h)
 shaped p b Left (Node k n l r) some h = record { content = record { key = k; number = n }; near = l; far = r; is = refl }
 shaped p b Right (Node k n l r) some h = record { content = record { key = k; number = n }; near = r; far = l; is = refl }
@@ -64,7 +64,7 @@ child_kept p q b Right k n = (k b n.0 n.1 n.2 n.3).right
 -- ---- heights
 
 -- no tree of some height stands at 0
-pub tall_some : (p : Pool) (b h : ℕ) → HasTree p b → ((t : Tree) → Stands p b t → h ≡ height t) → 0 < h → b ≢ 0
+pub tall_some : (p : Pool) (b h : ℕ) → HasTree p b → ((t : Tree) → TreeStands p b t → h ≡ height t) → 0 < h → b ≢ 0
 tall_some p b h (Empty, s) is tall e = let z = is Empty s in absurd (omega arith)
 tall_some p b h (Node k n l r, s) is tall e = s.0.some e
 
@@ -101,30 +101,30 @@ joined_flat Right c x y h l = test_false (height x + 1) (height y) _ _ l ∙ tes
 
 -- ---- what stands once nodes were made
 
-pub rotated_once : (p q r : Pool) (s : Side) (c : Content) (trees : Pair) (m : ℕ) → trees.far ≢ 0 → KeepsTrees p q → ((y z : Tree) → Stands p (child_of p trees.far s) y → Stands p (child_of p trees.far (other_side s)) z → height y ≤ height z) → StandsTurned c s trees m q r → StandsOf (from_far s c) trees m p r
+pub rotated_once : (p q r : Pool) (s : Side) (c : Content) (trees : Pair) (m : ℕ) → trees.far ≢ 0 → KeepsTrees p q → ((y z : Tree) → TreeStands p (child_of p trees.far s) y → TreeStands p (child_of p trees.far (other_side s)) z → height y ≤ height z) → StandsTurned c s trees m q r → StandsOf (from_far s c) trees m p r
 rotated_once p q r s c trees m some keeps low b x t sx st =
     let h = shaped p trees.far s t some st in
     let y = h.near in
     let z = h.far in
-    let st' = subst (Stands p trees.far) h.is st in
+    let st' = subst (TreeStands p trees.far) h.is st in
     let w = parts p trees.far s h.content y z st' in
     let e = ap (from_far s c x) h.is ∙ far_single s c h.content x y z (low y z w.near w.far) in
-    subst (Stands r m) (sym e) (b x y z h.content (keeps _ x sx) (keeps _ (node_by s h.content y z) st'))
+    subst (TreeStands r m) (sym e) (b x y z h.content (keeps _ x sx) (keeps _ (node_by s h.content y z) st'))
 
-pub rotated_twice : (p q r : Pool) (s : Side) (c : Content) (trees : Pair) (m : ℕ) → trees.far ≢ 0 → child_of p trees.far s ≢ 0 → KeepsTrees p q → ((y z : Tree) → Stands p (child_of p trees.far s) y → Stands p (child_of p trees.far (other_side s)) z → height z < height y) → StandsTurnedTwice c s trees m q r → StandsOf (from_far s c) trees m p r
+pub rotated_twice : (p q r : Pool) (s : Side) (c : Content) (trees : Pair) (m : ℕ) → trees.far ≢ 0 → child_of p trees.far s ≢ 0 → KeepsTrees p q → ((y z : Tree) → TreeStands p (child_of p trees.far s) y → TreeStands p (child_of p trees.far (other_side s)) z → height z < height y) → StandsTurnedTwice c s trees m q r → StandsOf (from_far s c) trees m p r
 rotated_twice p q r s c trees m some deep keeps high b x t sx st =
     let h = shaped p trees.far s t some st in
     let z = h.far in
-    let w = parts p trees.far s h.content h.near z (subst (Stands p trees.far) h.is st) in
+    let w = parts p trees.far s h.content h.near z (subst (TreeStands p trees.far) h.is st) in
     let g = shaped p (child_of p trees.far s) s h.near deep w.near in
     let is : t ≡ node_by s h.content (node_by s g.content g.near g.far) z = h.is ∙ ap (λ (o : Tree). node_by s h.content o z) g.is in
     let taller : height z < height (node_by s g.content g.near g.far) = subst (λ (o : Tree). height z < height o) g.is (high h.near z w.near w.far) in
     let e = ap (from_far s c x) is ∙ far_double s c h.content g.content x g.near g.far z taller in
-    subst (Stands r m) (sym e) (b x g.near g.far z h.content g.content (keeps _ x sx) (keeps _ (node_by s h.content (node_by s g.content g.near g.far) z) (subst (Stands p trees.far) is st)))
+    subst (TreeStands r m) (sym e) (b x g.near g.far z h.content g.content (keeps _ x sx) (keeps _ (node_by s h.content (node_by s g.content g.near g.far) z) (subst (TreeStands p trees.far) is st)))
 
 -- by the heights of two trees, a node of them stands that is balanced again
-pub joined_stands : (f : Tree → Tree → Tree) (p q r : Pool) (s : Side) (c : Content) (trees : Pair) (m : ℕ) → KeepsTrees p q → ((x y : Tree) → Stands p trees.near x → Stands p trees.far y → joined_by s c x y ≡ f x y) → StandsOf f trees m q r → StandsOf (joined_by s c) trees m p r
-joined_stands f p q r s c trees m keeps same b x y sx sy = subst (Stands r m) (sym (same x y sx sy)) (b x y (keeps _ x sx) (keeps _ y sy))
+pub joined_stands : (f : Tree → Tree → Tree) (p q r : Pool) (s : Side) (c : Content) (trees : Pair) (m : ℕ) → KeepsTrees p q → ((x y : Tree) → TreeStands p trees.near x → TreeStands p trees.far y → joined_by s c x y ≡ f x y) → StandsOf f trees m q r → StandsOf (joined_by s c) trees m p r
+joined_stands f p q r s c trees m keeps same b x y sx sy = subst (TreeStands r m) (sym (same x y sx sy)) (b x y (keeps _ x sx) (keeps _ y sy))
 
 -- the same trees as seen from the other side
 pub seen_back : (f : Tree → Tree → Tree) (trees : Pair) (m : ℕ) (q r : Pool) → StandsOf f (record { near = trees.far; far = trees.near }) m q r → StandsOf (λ x y. f y x) trees m q r

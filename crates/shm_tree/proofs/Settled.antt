@@ -3,10 +3,10 @@ use Rattle.std.proofs.Common.{◌≡◌, ℕ, ◌<◌, true, List, [], refl, sym
 use Rattle.std.proofs.lemmas.Bool.{cases_Bool}
 use Rattle.std.specs.Prelude.{slice_index}
 use Rattle.shm_plain.specs.Pools.{memo_of}
-use Rattle.shm_tree.specs.{declared.registers.Registers.Registers, Building.named_by, Falling.AreFalling}
+use Rattle.shm_tree.specs.{declared.registers.Registers.Registers, Building.root_block, Falling.AreFalling}
 use Rattle.shm_tree.specs.Forests.{IsForest, IsTidy, IsUnspent, KeepsRegisters, block_in, root_at, version}
 use Rattle.shm_tree.specs.{Inserting.is_part, Keeping.{AreSameLives, is_live}}
-use Rattle.shm_tree.specs.{Living.{AreLivesNodes, AreLivesTrees, AreRootsTrees}, Standing.Stands}
+use Rattle.shm_tree.specs.{Living.{AreLivesNodes, AreLivesTrees, AreRootsTrees}, Standing.TreeStands}
 use Rattle.shm_tree.specs.Trees.{Tree, Empty, Node}
 use Rattle.shm_tree.proofs.{Forests.block_low, Lights.{once, part_weighs, weighs_live}}
 use Rattle.shm_tree.proofs.{Named.{falling_nodes, part_stands}, Spares.owner, Ways.stands_one}
@@ -20,8 +20,8 @@ module _ (f : Registers) (x : IsForest f) (tidy : IsTidy f) (calm : IsUnspent f)
       elim (owner f.roots j x.long) [
         | inl o ↦
             (let t : Tree = version x.versions.0 o.0 in
-            let same : block_in f.pool (root_at f o.0) ≡ named_by f.pool j = ap (block_in f.pool) o.2 ∙ block_low f.pool j low in
-            (t, subst (λ (b : ℕ). Stands f.pool b t) same (x.versions.1.each o.0 o.1).stands))
+            let same : block_in f.pool (root_at f o.0) ≡ root_block f.pool j = ap (block_in f.pool) o.2 ∙ block_low f.pool j low in
+            (t, subst (λ (b : ℕ). TreeStands f.pool b t) same (x.versions.1.each o.0 o.1).stands))
         | inr free ↦ (Empty, tidy j low free)
       ]
 
@@ -33,21 +33,21 @@ module _ (f : Registers) (x : IsForest f) (tidy : IsTidy f) (calm : IsUnspent f)
   pub settled_trees : AreLivesTrees f.pool
   settled_trees b live =
       let n = settled_nodes b live in
-      let t = part_stands f.pool b (named_by f.pool n.0) n.2 n.3 n.4 in
+      let t = part_stands f.pool b (root_block f.pool n.0) n.2 n.3 n.4 in
       (Node t.0 t.1 t.2 t.3, t.4)
 
   -- a live block is a node of a register's tree
-  pub settled_owner : (b : ℕ) → is_live f.pool b ≡ true → (r : ℕ) × (r < 12) × (t : Tree) × Stands f.pool (block_in f.pool (root_at f r)) t × (is_part f.pool b (block_in f.pool (root_at f r)) t ≡ true)
+  pub settled_owner : (b : ℕ) → is_live f.pool b ≡ true → (r : ℕ) × (r < 12) × (t : Tree) × TreeStands f.pool (block_in f.pool (root_at f r)) t × (is_part f.pool b (block_in f.pool (root_at f r)) t ≡ true)
   settled_owner b live =
       let n = settled_nodes b live in
       elim (owner f.roots n.0 x.long) [
         | inl o ↦
-            (let same : named_by f.pool n.0 ≡ block_in f.pool (root_at f o.0) = sym (ap (block_in f.pool) o.2 ∙ block_low f.pool n.0 n.1) in
-            (o.0, o.1, n.2, subst (λ (d : ℕ). Stands f.pool d n.2) same n.3, subst (λ (d : ℕ). is_part f.pool b d n.2 ≡ true) same n.4))
-        | inr free ↦ absurd (unnamed n.2 (subst (λ (d : ℕ). Stands f.pool d n.2) (tidy n.0 n.1 free) n.3) n.4)
+            (let same : root_block f.pool n.0 ≡ block_in f.pool (root_at f o.0) = sym (ap (block_in f.pool) o.2 ∙ block_low f.pool n.0 n.1) in
+            (o.0, o.1, n.2, subst (λ (d : ℕ). TreeStands f.pool d n.2) same n.3, subst (λ (d : ℕ). is_part f.pool b d n.2 ≡ true) same n.4))
+        | inr free ↦ absurd (unnamed n.2 (subst (λ (d : ℕ). TreeStands f.pool d n.2) (tidy n.0 n.1 free) n.3) n.4)
       ]
     where
-      unnamed : (t : Tree) → Stands f.pool 0 t → is_part f.pool b (named_by f.pool (settled_nodes b live).0) t ≡ true → ⊥
+      unnamed : (t : Tree) → TreeStands f.pool 0 t → is_part f.pool b (root_block f.pool (settled_nodes b live).0) t ≡ true → ⊥
       unnamed Empty st e = true≢false (sym e)
       unnamed (Node k i l r) st e = st.0.some refl
 
@@ -70,8 +70,8 @@ module _ (f g : Registers) (xf : IsForest f) (xg : IsForest g) (tf : IsTidy f) (
       let root : root_at g o.0 ≡ root_at f o.0 = ap (λ (ks : List ℕ). slice_index ks o.0) kept.same in
       let here : block_in g.pool (root_at g o.0) ≡ at = ap (block_in g.pool) root ∙ k.same in
       let t : Tree = version xf.versions.0 o.0 in
-      let st : Stands f.pool at t = (xf.versions.1.each o.0 o.1).stands in
-      let there : Stands g.pool at o.2 = subst (λ (d : ℕ). Stands g.pool d o.2) here o.3 in
+      let st : TreeStands f.pool at t = (xf.versions.1.each o.0 o.1).stands in
+      let there : TreeStands g.pool at o.2 = subst (λ (d : ℕ). TreeStands g.pool d o.2) here o.3 in
       let one : o.2 ≡ t = stands_one g.pool at o.2 t there (k.trees t st) in
       let part : is_part g.pool b at t ≡ true = subst (λ (u : Tree). is_part g.pool b at u ≡ true) one (subst (λ (d : ℕ). is_part g.pool b d o.2 ≡ true) here o.4) in
       let same = k.blocks (once b) t st in

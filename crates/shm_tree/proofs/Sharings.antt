@@ -5,20 +5,21 @@ use Rattle.shm_graph.specs.declared.spot.Spot.TheVariants.{Body}
 use Rattle.shm_plain.specs.Pools.{Pool}
 use Rattle.shm_count.specs.declared.answer.Made.{Made}
 use Rattle.shm_tree.specs.declared.node.{Content.Content, Pair.Pair, Side.{Side, TheVariants.{Left, Right}}}
-use Rattle.shm_tree.specs.{declared.stop.Stop.Stop, Building.{IsBuilt, IsHeld, StandsOf, from_far, joined_by, named_by}}
+use Rattle.shm_tree.specs.declared.stop.Stop.{Stop}
+use Rattle.shm_tree.specs.Building.{IsBuilt, IsHeld, StandsOf, from_far, joined_by, root_block}
 use Rattle.shm_tree.specs.Keeping.{IsDropped, IsLinked, IsStill, KeepsNode, child_of, node_by, other_side}
 use Rattle.shm_tree.specs.Sharing.{CountsTop, IsFresh, IsOver, WeighsCrowned, WeighsFar, WeighsJoined, WeighsRaised, WeighsTurned, WeighsTurnedTwice}
-use Rattle.shm_tree.specs.{Standing.{Stands, weight, word_of}, Trees.{Tree, height}, Working.{IsEmptied, IsWorking}}
+use Rattle.shm_tree.specs.{Standing.{TreeStands, weight, word_of}, Trees.{Tree, height}, Working.{IsEmptied, IsWorking}}
 use Rattle.shm_tree.proofs.Answering.{height_none}
 use Rattle.shm_tree.proofs.Rotations.{child_kept, content_is, far_double, far_single, joined_far, joined_flat, joined_near, node_of, node_other, parts, shaped}
 use Rattle.shm_tree.proofs.{Ways.stands_one, Weights.{node_root, weigh_link, weigh_sides, weight_nodes, weight_root}}
 
-pub weighs_once : (p q r : Pool) (s : Side) (c : Content) (trees : Pair) (m : ℕ) → trees.far ≢ 0 → IsStill p q → ((y z : Tree) → Stands p (child_of p trees.far s) y → Stands p (child_of p trees.far (other_side s)) z → height y ≤ height z) → WeighsTurned c s trees m q r → WeighsFar c s trees m p r
+pub weighs_once : (p q r : Pool) (s : Side) (c : Content) (trees : Pair) (m : ℕ) → trees.far ≢ 0 → IsStill p q → ((y z : Tree) → TreeStands p (child_of p trees.far s) y → TreeStands p (child_of p trees.far (other_side s)) z → height y ≤ height z) → WeighsTurned c s trees m q r → WeighsFar c s trees m p r
 weighs_once p q r s c trees m some still low b f x t count top sx st =
     let h = shaped p trees.far s t some st in
     let y : Tree = h.near in
     let z : Tree = h.far in
-    let st' : Stands p trees.far (node_by s h.content y z) = subst (Stands p trees.far) h.is st in
+    let st' : TreeStands p trees.far (node_by s h.content y z) = subst (TreeStands p trees.far) h.is st in
     let w = parts p trees.far s h.content y z st' in
     let is : from_far s c x t ≡ node_by s h.content (node_by s c x y) z = ap (from_far s c x) h.is ∙ far_single s c h.content x y z (low y z w.near w.far) in
     let one = b f x y z h.content count (still.trees trees.near x sx) (still.trees trees.far (node_by s h.content y z) st') in
@@ -29,14 +30,14 @@ weighs_once p q r s c trees m some still low b f x t count top sx st =
     let k = top.top in
     omega (arith, one, a, d, i, j, k)
 
-pub weighs_twice : (p q r : Pool) (s : Side) (c : Content) (trees : Pair) (m : ℕ) → trees.far ≢ 0 → child_of p trees.far s ≢ 0 → IsStill p q → ((y z : Tree) → Stands p (child_of p trees.far s) y → Stands p (child_of p trees.far (other_side s)) z → height z < height y) → WeighsTurnedTwice c s trees m q r → WeighsFar c s trees m p r
+pub weighs_twice : (p q r : Pool) (s : Side) (c : Content) (trees : Pair) (m : ℕ) → trees.far ≢ 0 → child_of p trees.far s ≢ 0 → IsStill p q → ((y z : Tree) → TreeStands p (child_of p trees.far s) y → TreeStands p (child_of p trees.far (other_side s)) z → height z < height y) → WeighsTurnedTwice c s trees m q r → WeighsFar c s trees m p r
 weighs_twice p q r s c trees m some deep still high b f x t count top sx st =
     let h = shaped p trees.far s t some st in
     let z : Tree = h.far in
-    let w = parts p trees.far s h.content h.near z (subst (Stands p trees.far) h.is st) in
+    let w = parts p trees.far s h.content h.near z (subst (TreeStands p trees.far) h.is st) in
     let g = shaped p (child_of p trees.far s) s h.near deep w.near in
     let is : t ≡ node_by s h.content (node_by s g.content g.near g.far) z = h.is ∙ ap (λ (o : Tree). node_by s h.content o z) g.is in
-    let st' : Stands p trees.far (node_by s h.content (node_by s g.content g.near g.far) z) = subst (Stands p trees.far) is st in
+    let st' : TreeStands p trees.far (node_by s h.content (node_by s g.content g.near g.far) z) = subst (TreeStands p trees.far) is st in
     let taller : height z < height (node_by s g.content g.near g.far) = subst (λ (o : Tree). height z < height o) g.is (high h.near z w.near w.far) in
     let e : from_far s c x t ≡ node_by s g.content (node_by s c x g.near) (node_by s h.content g.far z) = ap (from_far s c x) is ∙ far_double s c h.content g.content x g.near g.far z taller in
     let one = b f x g.near g.far z h.content g.content count (still.trees trees.near x sx) (still.trees trees.far _ st') in
@@ -50,10 +51,10 @@ weighs_twice p q r s c trees m some deep still high b f x t count top sx st =
     omega (arith, one, a, d, i, j, k, l, o)
 
 -- after calls that read
-pub top_kept : (f : ℕ → ℕ) (p q : Pool) (s : Side) (b : ℕ) (t : Tree) → b ≢ 0 → Stands p b t → IsStill p q → CountsTop f p s b → CountsTop f q s b
+pub top_kept : (f : ℕ → ℕ) (p q : Pool) (s : Side) (b : ℕ) (t : Tree) → b ≢ 0 → TreeStands p b t → IsStill p q → CountsTop f p s b → CountsTop f q s b
 top_kept f p q s b t some st still top =
     let h = shaped p b s t some st in
-    let w = parts p b s h.content h.near h.far (subst (Stands p b) h.is st) in
+    let w = parts p b s h.content h.near h.far (subst (TreeStands p b) h.is st) in
     let node = node_of p b some (t, st) in
     let near : child_of q b s ≡ child_of p b s = child_kept p q b s still.nodes node in
     let far : child_of q b (other_side s) ≡ child_of p b (other_side s) = child_kept p q b (other_side s) still.nodes node in
@@ -61,8 +62,8 @@ top_kept f p q s b t some st still top =
       top = top.top;
       high =
           λ y z sy sz lt.
-          (let ys : h.near ≡ y = stands_one q (child_of p b s) h.near y (still.trees _ h.near w.near) (subst (λ (k : ℕ). Stands q k y) near sy) in
-          let zs : h.far ≡ z = stands_one q (child_of p b (other_side s)) h.far z (still.trees _ h.far w.far) (subst (λ (k : ℕ). Stands q k z) far sz) in
+          (let ys : h.near ≡ y = stands_one q (child_of p b s) h.near y (still.trees _ h.near w.near) (subst (λ (k : ℕ). TreeStands q k y) near sy) in
+          let zs : h.far ≡ z = stands_one q (child_of p b (other_side s)) h.far z (still.trees _ h.far w.far) (subst (λ (k : ℕ). TreeStands q k z) far sz) in
           let i : height h.near ≡ height y = ap height ys in
           let j : height h.far ≡ height z = ap height zs in
           ap f near ∙ top.high h.near h.far w.near w.far (omega (arith, i, j, lt)));
@@ -70,10 +71,10 @@ top_kept f p q s b t some st still top =
 
 -- ---- by the heights of two trees
 
-pub some_high : (p : Pool) (b : ℕ) (t : Tree) → Stands p b t → 0 < height t → b ≢ 0
+pub some_high : (p : Pool) (b : ℕ) (t : Tree) → TreeStands p b t → 0 < height t → b ≢ 0
 some_high p b t s tall e = absurd (let none = height_none p b t e s in omega (arith, none, tall))
 
-pub weighs_far : (p q r : Pool) (s : Side) (c : Content) (trees : Pair) (m : ℕ) → IsStill p q → ((x y : Tree) → Stands p trees.near x → Stands p trees.far y → height x + 1 < height y) → WeighsFar c s trees m q r → WeighsJoined c s trees m p r
+pub weighs_far : (p q r : Pool) (s : Side) (c : Content) (trees : Pair) (m : ℕ) → IsStill p q → ((x y : Tree) → TreeStands p trees.near x → TreeStands p trees.far y → height x + 1 < height y) → WeighsFar c s trees m q r → WeighsJoined c s trees m p r
 weighs_far p q r s c trees m still high b f x y count up down sx sy =
     let lt : height x + 1 < height y = high x y sx sy in
     let top = top_kept f p q s trees.far y (some_high p trees.far y sy (omega (arith, lt))) sy still (up lt) in
@@ -83,7 +84,7 @@ weighs_far p q r s c trees m still high b f x y count up down sx sy =
     let i : weight f r m (joined_by s c x y) ≡ weight f r m (from_far s c x y) = ap (λ (u : Tree). weight f r m u) (joined_far s c x y lt) in
     omega (arith, one, a, d, i)
 
-pub weighs_near : (p q r : Pool) (s : Side) (c : Content) (trees : Pair) (m : ℕ) → IsStill p q → ((x y : Tree) → Stands p trees.near x → Stands p trees.far y → height y + 1 < height x) → WeighsFar c (other_side s) (record { near = trees.far; far = trees.near }) m q r → WeighsJoined c s trees m p r
+pub weighs_near : (p q r : Pool) (s : Side) (c : Content) (trees : Pair) (m : ℕ) → IsStill p q → ((x y : Tree) → TreeStands p trees.near x → TreeStands p trees.far y → height y + 1 < height x) → WeighsFar c (other_side s) (record { near = trees.far; far = trees.near }) m q r → WeighsJoined c s trees m p r
 weighs_near p q r s c trees m still high b f x y count up down sx sy =
     let lt : height y + 1 < height x = high x y sx sy in
     let top = top_kept f p q (other_side s) trees.near x (some_high p trees.near x sx (omega (arith, lt))) sx still (down lt) in
@@ -93,7 +94,7 @@ weighs_near p q r s c trees m still high b f x y count up down sx sy =
     let i : weight f r m (joined_by s c x y) ≡ weight f r m (from_far (other_side s) c y x) = ap (λ (u : Tree). weight f r m u) (joined_near s c x y lt) in
     omega (arith, one, a, d, i)
 
-pub weighs_flat : (p q r : Pool) (s : Side) (c : Content) (trees : Pair) (m : Made) → IsStill p q → ((x y : Tree) → Stands p trees.near x → Stands p trees.far y → (height x ≤ height y + 1) × (height y ≤ height x + 1)) → IsLinked c s trees m q r → WeighsJoined c s trees m.block p r
+pub weighs_flat : (p q r : Pool) (s : Side) (c : Content) (trees : Pair) (m : Made) → IsStill p q → ((x y : Tree) → TreeStands p trees.near x → TreeStands p trees.far y → (height x ≤ height y + 1) × (height y ≤ height x + 1)) → IsLinked c s trees m q r → WeighsJoined c s trees m.block p r
 weighs_flat p q r s c trees m still flat b f x y count up down sx sy =
     let h = flat x y sx sy in
     let one = weigh_link f x y b (still.trees trees.near x sx) (still.trees trees.far y sy) in
@@ -114,8 +115,8 @@ pub weighs_single : (p q r : Pool) (s : Side) (c top : Content) (trees grand : P
 weighs_single p q r s c top trees grand m still key number near_is far_is b f x y z d count sx sn =
     let w = parts p trees.far s d y z sn in
     let is : top ≡ d = content_is (key ∙ w.key) (number ∙ w.number) in
-    let sy : Stands p grand.near y = subst (λ (k : ℕ). Stands p k y) (sym near_is) w.near in
-    let sz : Stands p grand.far z = subst (λ (k : ℕ). Stands p k z) (sym far_is) w.far in
+    let sy : TreeStands p grand.near y = subst (λ (k : ℕ). TreeStands p k y) (sym near_is) w.near in
+    let sz : TreeStands p grand.far z = subst (λ (k : ℕ). TreeStands p k z) (sym far_is) w.far in
     let one = b f x y z count (still.trees trees.near x sx) (still.trees grand.near y sy) (still.trees grand.far z sz) in
     let a = weight_nodes f p q still.nodes trees.near x sx in
     let e = weight_nodes f p q still.nodes grand.near y sy in
@@ -131,15 +132,15 @@ pub weighs_double : (p t u v r : Pool) (s : Side) (c top outer : Content) (trees
     → WeighsCrowned top s (record { content = c; trees = record { near = trees.near; far = pair.near } }) (record { content = outer; trees = record { near = grand.far; far = pair.far } }) m v r → WeighsTurnedTwice c s trees m p r
 weighs_double p t u v r s c top outer trees grand pair m pt tu pv some key number near far okey onumber near_is far_is b f x y z w d e count sx sn =
     let up = parts p trees.far s d (node_by s e y z) w sn in
-    let sg : Stands p grand.near (node_by s e y z) = subst (λ (k : ℕ). Stands p k (node_by s e y z)) (sym near_is) up.near in
-    let sw : Stands p grand.far w = subst (λ (k : ℕ). Stands p k w) (sym far_is) up.far in
+    let sg : TreeStands p grand.near (node_by s e y z) = subst (λ (k : ℕ). TreeStands p k (node_by s e y z)) (sym near_is) up.near in
+    let sw : TreeStands p grand.far w = subst (λ (k : ℕ). TreeStands p k w) (sym far_is) up.far in
     let here = parts p grand.near s e y z sg in
     let top_is : top ≡ e = content_is (key ∙ here.key) (number ∙ here.number) in
     let node = node_of p grand.near some (node_by s e y z, sg) in
     let near_p : pair.near ≡ child_of p grand.near s = near ∙ child_kept p t grand.near s pt.nodes node in
     let far_p : pair.far ≡ child_of p grand.near (other_side s) = far ∙ child_kept p t grand.near (other_side s) pt.nodes node in
-    let sy : Stands p pair.near y = subst (λ (k : ℕ). Stands p k y) (sym near_p) here.near in
-    let sz : Stands p pair.far z = subst (λ (k : ℕ). Stands p k z) (sym far_p) here.far in
+    let sy : TreeStands p pair.near y = subst (λ (k : ℕ). TreeStands p k y) (sym near_p) here.near in
+    let sz : TreeStands p pair.far z = subst (λ (k : ℕ). TreeStands p k z) (sym far_p) here.far in
     let out = parts u trees.far s d (node_by s e y z) w (tu.trees trees.far _ (pt.trees trees.far _ sn)) in
     let outer_is : outer ≡ d = content_is (okey ∙ out.key) (onumber ∙ out.number) in
     let one = b f x y w z count (pv.trees trees.near x sx) (pv.trees pair.near y sy) (pv.trees grand.far w sw) (pv.trees pair.far z sz) in
@@ -162,8 +163,8 @@ weighs_double p t u v r s c top outer trees grand pair m pt tu pv some key numbe
 
 pub weighs_after : (p q r : Pool) (s : Side) (c : Content) (trees others : Pair) (m : ℕ) → IsStill p q → others.near ≡ trees.near → others.far ≡ trees.far → WeighsJoined c s others m q r → WeighsJoined c s trees m p r
 weighs_after p q r s c trees others m still near far b f x y count up down sx sy =
-    let qx : Stands q others.near x = subst (λ (k : ℕ). Stands q k x) (sym near) (still.trees trees.near x sx) in
-    let qy : Stands q others.far y = subst (λ (k : ℕ). Stands q k y) (sym far) (still.trees trees.far y sy) in
+    let qx : TreeStands q others.near x = subst (λ (k : ℕ). TreeStands q k x) (sym near) (still.trees trees.near x sx) in
+    let qy : TreeStands q others.far y = subst (λ (k : ℕ). TreeStands q k y) (sym far) (still.trees trees.far y sy) in
     let one =
     b f x y count
     (λ lt. subst (CountsTop f q s) (sym far) (top_kept f p q s trees.far y (some_high p trees.far y sy (omega (arith, lt))) sy still (up lt)))
@@ -175,7 +176,7 @@ weighs_after p q r s c trees others m still near far b f x y count up down sx sy
 
 pub over_after : (p q r : Pool) (s : Side) (trees others : Pair) (m : ℕ) → IsStill p q → others.near ≡ trees.near → others.far ≡ trees.far → IsOver others s m q r → IsOver trees s m p r
 over_after p q r s trees others m still near far b x y sx sy n =
-    b x y (subst (λ (k : ℕ). Stands q k x) (sym near) (still.trees trees.near x sx)) (subst (λ (k : ℕ). Stands q k y) (sym far) (still.trees trees.far y sy)) n ∙ near
+    b x y (subst (λ (k : ℕ). TreeStands q k x) (sym near) (still.trees trees.near x sx)) (subst (λ (k : ℕ). TreeStands q k y) (sym far) (still.trees trees.far y sy)) n ∙ near
 
 side_kept : {p q : Pool} {b k n h : ℕ} (s : Side) → KeepsNode p q b k n h → child_of q b s ≡ child_of p b s
 side_kept Left y = y.left
@@ -183,9 +184,9 @@ side_kept Right y = y.right
 
 module _ (p q r : Pool) (n : ℕ) (w m : Made) (held : IsHeld p w) (b : IsBuilt n m p q) (gone : IsEmptied w.root q r) (left : IsDropped w.root q r) (work : IsWorking r) where
   ne : m.root ≢ w.root
-  ne e = held.some (sym held.names ∙ (ap (named_by p) (sym e) ∙ b.rooted.empty))
+  ne e = held.some (sym held.names ∙ (ap (root_block p) (sym e) ∙ b.rooted.empty))
 
-  named : named_by r m.root ≡ m.block
+  named : root_block r m.root ≡ m.block
   named = gone.others m.root ne ∙ b.rooted.names
 
   module _ (s : Side) (c : Content) (trees : Pair) (stands : StandsOf (joined_by s c) trees m.block p q) where

@@ -6,12 +6,12 @@ use Rattle.shm_graph.specs.declared.spot.Spot.TheVariants.{Body}
 use Rattle.shm_plain.specs.Pools.{IsRun, Pool}
 use Rattle.shm_tree.specs.declared.registers.Registers.{Registers}
 use Rattle.shm_tree.specs.{Forests.{HasVersions, IsForest, block_at, block_in, root_at, version}, Holding.HasSearch}
-use Rattle.shm_tree.specs.{Standing.{Stands, word_of}, Trees.{Tree, Empty, Node, size}}
+use Rattle.shm_tree.specs.{Standing.{TreeStands, word_of}, Trees.{Tree, Empty, Node, size}}
 use Rattle.shm_tree.proofs.{Fitting.size_small, NodeWords.node_word, Ways.{height_at, height_at_is, stands_node}}
 
 -- what was counted of a tree
 abbrev pub Sized : Pool → ℕ → ℕ → Type 0
-Sized p b n = (t : Tree) → Stands p b t → n ≡ size t
+Sized p b n = (t : Tree) → TreeStands p b t → n ≡ size t
 
 pub none_sized : (p : Pool) (b : ℕ) → b ≡ 0 → Sized p b 0
 none_sized p b none Empty st = omega arith
@@ -43,31 +43,31 @@ module _ (p : Pool) (b : ℕ) (run : IsRun p) (tree : HasSearch p b) (some : b �
 module _ (p : Pool) (b x y : ℕ) (c : Children p b x y) where
   pub left_search : HasSearch p b → b ≢ 0 → HasSearch p x
   left_search (Empty, st, se) some = absurd (some st)
-  left_search (Node k n l r, (m, hl, hr), (lk, kr, sl, sr)) some = (l, subst (λ (z : ℕ). Stands p z l) c.left hl, sl)
+  left_search (Node k n l r, (m, hl, hr), (lk, kr, sl, sr)) some = (l, subst (λ (z : ℕ). TreeStands p z l) c.left hl, sl)
 
   pub right_search : HasSearch p b → b ≢ 0 → HasSearch p y
   right_search (Empty, st, se) some = absurd (some st)
-  right_search (Node k n l r, (m, hl, hr), (lk, kr, sl, sr)) some = (r, subst (λ (z : ℕ). Stands p z r) c.right hr, sr)
+  right_search (Node k n l r, (m, hl, hr), (lk, kr, sl, sr)) some = (r, subst (λ (z : ℕ). TreeStands p z r) c.right hr, sr)
 
   pub left_lower : HasSearch p b → b ≢ 0 → height_at p x < height_at p b
   left_lower (Empty, st, se) some = absurd (some st)
   left_lower (Node k n l r, (m, hl, hr), se) some =
-      let i = height_at_is p x l (subst (λ (z : ℕ). Stands p z l) c.left hl) in
+      let i = height_at_is p x l (subst (λ (z : ℕ). TreeStands p z l) c.left hl) in
       let j = height_at_is p b (Node k n l r) (m, hl, hr) in
       omega (arith, i, j)
 
   pub right_lower : HasSearch p b → b ≢ 0 → height_at p y < height_at p b
   right_lower (Empty, st, se) some = absurd (some st)
   right_lower (Node k n l r, (m, hl, hr), se) some =
-      let i = height_at_is p y r (subst (λ (z : ℕ). Stands p z r) c.right hr) in
+      let i = height_at_is p y r (subst (λ (z : ℕ). TreeStands p z r) c.right hr) in
       let j = height_at_is p b (Node k n l r) (m, hl, hr) in
       omega (arith, i, j)
 
   pub node_sized : (i j : ℕ) → b ≢ 0 → Sized p x i → Sized p y j → Sized p b (1 + i + j)
   node_sized i j some left right Empty st = absurd (some st)
   node_sized i j some left right (Node k n l r) (m, hl, hr) =
-      let a = left l (subst (λ (z : ℕ). Stands p z l) c.left hl) in
-      let d = right r (subst (λ (z : ℕ). Stands p z r) c.right hr) in
+      let a = left l (subst (λ (z : ℕ). TreeStands p z l) c.left hl) in
+      let d = right r (subst (λ (z : ℕ). TreeStands p z r) c.right hr) in
       omega (arith, a, d)
 
 pub sized_small : (p : Pool) (b n : ℕ) → IsRun p → HasSearch p b → Sized p b n → n < 2 ^ 24
@@ -92,4 +92,4 @@ module _ (f : Registers) (r k b : ℕ) (h : IsForest f) (low : r < 12) (root : k
   register_search = subst (λ (x : ℕ). HasSearch f.pool x) block_is (forest_tree f r h low)
 
   pub register_sized : (n : ℕ) → Sized f.pool b n → (ts : List Tree) → HasVersions f ts → n ≡ size (version ts r)
-  register_sized n sized ts v = sized (version ts r) (subst (λ (x : ℕ). Stands f.pool x (version ts r)) block_is (v.each r low).stands)
+  register_sized n sized ts v = sized (version ts r) (subst (λ (x : ℕ). TreeStands f.pool x (version ts r)) block_is (v.each r low).stands)

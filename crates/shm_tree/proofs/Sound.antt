@@ -8,8 +8,8 @@ use Rattle.shm_script.specs.{Faults.fault_at, Text.{ended, spaced}}
 use Rattle.shm_script.proofs.{Cuts.some_piece, FitTexts.either, LineTexts.join_blanks, Lists.all_push}
 use Rattle.shm_tree.specs.declared.{line.TreeLine.TreeLine, shape.RawTree.RawTree, judge.TreePlace.TreePlace}
 use Rattle.shm_tree.specs.{declared.judge.FitTree.FitTree, Shapes.{shape_from, shape_of}}
-use Rattle.shm_tree.specs.Scripts.{Drafted, Scripted, draft_after, draft_none, drafted, drafted_line, fit_of, judged, may_end, may_stand, ranged, read_or, reading, script_of}
-use Rattle.shm_tree.specs.ScriptTexts.{IsScript, LineFits, Spells, life_spelled, line_ended, text_of}
+use Rattle.shm_tree.specs.Scripts.{Drafted, TreeScripted, draft_after, draft_none, drafted, drafted_line, fit_of, judged, may_end, may_stand, ranged, read_or, reading, script_of}
+use Rattle.shm_tree.specs.ScriptTexts.{IsScript, LineFits, SpellsScript, life_spelled, line_ended, text_of}
 use Rattle.shm_tree.specs.declared.judge.TreePlace.TheVariants as place
 use Rattle.shm_tree.specs.declared.judge.FitTree.TheVariants as fit
 use Rattle.shm_tree.proofs.LineTexts.{FitIn, fit_text, line_told, stands}
@@ -53,8 +53,8 @@ Reads place.Body d text = IsScript d.script × (text ≡ text_of d.script)
 
 tree_grows : (p : TreePlace) (d : Drafted) (text : List ℕ) (n : ℕ) → Reads p d text → stands p (fit.Tree n) ≡ true → FitIn (fit.Tree n) → Reads place.Tree (draft_after d (fit.Tree n)) (text ++ ended (fit_text (fit.Tree n)))
 tree_grows place.Start d text n (s, e) h r =
-    let life : d.script.life ≡ None = ap (λ (x : Scripted). x.life) s in
-    let lines : d.script.lines ≡ [] = ap (λ (x : Scripted). x.lines) s in (
+    let life : d.script.life ≡ None = ap (λ (x : TreeScripted). x.life) s in
+    let lines : d.script.lines ≡ [] = ap (λ (x : TreeScripted). x.lines) s in (
       record { some = r.0; few = r.1; life = rw life tt; lines = rw lines tt },
       rw (e, life, lines) (sym (append-nil (ended (fit_text (fit.Tree n))))),
       life,
@@ -72,7 +72,7 @@ life_grows place.Tree d text n (s, e, life, lines) h r =
     )
 life_grows place.Body d text n s h r = absurd cc
 
-more_lines : (s : Scripted) (l : TreeLine) → text_of s ++ line_ended l ≡ text_of (record s { lines = s.lines ++ l ∷ [] })
+more_lines : (s : TreeScripted) (l : TreeLine) → text_of s ++ line_ended l ≡ text_of (record s { lines = s.lines ++ l ∷ [] })
 more_lines s l =
     let front : List ℕ = ended (codes "tree" ++ spaced s.segments) in
     append_assoc front (life_spelled s.life ++ flat_map line_ended s.lines) (line_ended l)
@@ -104,7 +104,7 @@ end_is place.Tree d text (b ∷ rest) s h = absurd cc
 end_is place.Body d text [] s h = (s.0, append-nil text ∙ s.1)
 end_is place.Body d text (b ∷ rest) s h = absurd cc
 
-last_is : (d : Drafted) (text rest : List ℕ) (fault : TraceFault) (s : Scripted) → Reads d.place d text → cond (may_end d.place rest) (Ok d.script) (Err fault) ≡ Ok s → IsScript s × (text ++ rest ≡ text_of s)
+last_is : (d : Drafted) (text rest : List ℕ) (fault : TraceFault) (s : TreeScripted) → Reads d.place d text → cond (may_end d.place rest) (Ok d.script) (Err fault) ≡ Ok s → IsScript s × (text ++ rest ≡ text_of s)
 last_is d text rest fault s r h = elim (either (may_end d.place rest) _ _ _ h) [
   | inl y ↦
       let same : d.script ≡ s = cc in
@@ -116,11 +116,11 @@ drafted_is : (d e : Drafted) (r : Result FitTree TraceKind) → drafted d r ≡ 
 drafted_is d e (Ok f) h = (f, refl, cc)
 drafted_is d e (Err k) h = absurd (err_ok _ e h)
 
-read_is : (at : ℕ) (r : Result Drafted TraceKind) (behind : Drafted → Result Scripted TraceFault) (s : Scripted) → read_or at r behind ≡ Ok s → (e : Drafted) × (r ≡ Ok e) × (behind e ≡ Ok s)
+read_is : (at : ℕ) (r : Result Drafted TraceKind) (behind : Drafted → Result TreeScripted TraceFault) (s : TreeScripted) → read_or at r behind ≡ Ok s → (e : Drafted) × (r ≡ Ok e) × (behind e ≡ Ok s)
 read_is at (Ok e) behind s h = (e, refl, h)
 read_is at (Err k) behind s h = absurd (err_ok _ s h)
 
-lines_are : (pieces : List (List ℕ)) (line : List ℕ) (d : Drafted) (at : ℕ) (text : List ℕ) (s : Scripted) → Reads d.place d text → reading d at (line ∷ pieces) ≡ Ok s → IsScript s × (text ++ join_with_byte 10 (line ∷ pieces) ≡ text_of s)
+lines_are : (pieces : List (List ℕ)) (line : List ℕ) (d : Drafted) (at : ℕ) (text : List ℕ) (s : TreeScripted) → Reads d.place d text → reading d at (line ∷ pieces) ≡ Ok s → IsScript s × (text ++ join_with_byte 10 (line ∷ pieces) ≡ text_of s)
 unfolding reading
 lines_are [] line d at text s r h = last_is d text line (fault_at at Syntax) s r h
 lines_are (next ∷ others) line d at text s r h =
@@ -135,14 +135,14 @@ lines_are (next ∷ others) line d at text s r h =
           ∙ more.1,
     )
 
-bytes_are : (bytes : List ℕ) (s : Scripted) → reading draft_none 1 (slice_split (λ b. b == 10) bytes) ≡ Ok s → IsScript s × (bytes ≡ text_of s)
+bytes_are : (bytes : List ℕ) (s : TreeScripted) → reading draft_none 1 (slice_split (λ b. b == 10) bytes) ≡ Ok s → IsScript s × (bytes ≡ text_of s)
 bytes_are bytes s h =
     let some = some_piece (λ b. b == 10) bytes in
     let read = lines_are some.1 some.0 draft_none 1 [] s (refl, refl) (sym (ap (reading draft_none 1) some.2) ∙ h) in
     (read.0, sym (join_with_byte-slice_split 10 bytes) ∙ ap (join_with_byte 10) some.2 ∙ read.1)
 
 -- what is read of bytes is a script, in its one spelling
-pub script_sound : (bytes : List ℕ) (s : Scripted) → script_of bytes ≡ Ok s → Spells bytes s
+pub script_sound : (bytes : List ℕ) (s : TreeScripted) → script_of bytes ≡ Ok s → SpellsScript bytes s
 script_sound bytes s h = elim (either (ltb 1048576 (length bytes)) _ _ _ h) [
   | inl y ↦ absurd (err_ok _ s y.1)
   | inr n ↦ let b = bytes_are bytes s n.1 in (b.0, b.1, ltb-false _ _ n.0)

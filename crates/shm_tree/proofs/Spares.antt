@@ -4,7 +4,8 @@ use Rattle.std.proofs.lemmas.Bool.{cases_Bool, cases_eq, cond-false, cond-true, 
 use Rattle.std.specs.Prelude.{slice_index}
 use Rattle.shm_graph.specs.References.{one_if, sum_below}
 use Rattle.shm_plain.specs.Pools.{Pool}
-use Rattle.shm_tree.specs.{declared.registers.Registers.Registers, Building.{named_by, rooms}, Forests.{IsFree, IsTidy}}
+use Rattle.shm_tree.specs.{declared.registers.Registers.Registers, Building.{root_block, rooms}}
+use Rattle.shm_tree.specs.Forests.{IsFree, IsTidy}
 
 abbrev among : List ℕ → ℕ → Bool
 among [] k = false
@@ -71,17 +72,17 @@ owner xs k long =
       | inr e ↦ inr (λ r lt. none_at xs k e r (omega (arith, lt, long)))
     ]
 
-empty_or_used : (p : Pool) (xs : List ℕ) → length xs ≡ 12 → ((k : ℕ) → k < 16 → IsFree xs k → named_by p k ≡ 0) → (k : ℕ) → k < 16 → 1 ≤ one_if (named_by p k == 0) + one_if (among xs k)
+empty_or_used : (p : Pool) (xs : List ℕ) → length xs ≡ 12 → ((k : ℕ) → k < 16 → IsFree xs k → root_block p k ≡ 0) → (k : ℕ) → k < 16 → 1 ≤ one_if (root_block p k == 0) + one_if (among xs k)
 empty_or_used p xs long tidy k lt = by (among xs k) refl
   where
-    by : (b : Bool) → among xs k ≡ b → 1 ≤ one_if (named_by p k == 0) + one_if b
+    by : (b : Bool) → among xs k ≡ b → 1 ≤ one_if (root_block p k == 0) + one_if b
     by true e = omega arith
     by false e =
         let none = tidy k lt (λ r lr. none_at xs k e r (omega arith)) in
-        let one : one_if (named_by p k == 0) ≡ 1 = ap one_if (eq-eqb (named_by p k) 0 none) in
+        let one : one_if (root_block p k == 0) ≡ 1 = ap one_if (eq-eqb (root_block p k) 0 none) in
         omega arith
 
-all_counted : (p : Pool) (xs : List ℕ) → length xs ≡ 12 → ((k : ℕ) → k < 16 → IsFree xs k → named_by p k ≡ 0) → (n : ℕ) → n ≤ 16 → n ≤ sum_below n (λ k. one_if (named_by p k == 0)) + used xs n
+all_counted : (p : Pool) (xs : List ℕ) → length xs ≡ 12 → ((k : ℕ) → k < 16 → IsFree xs k → root_block p k ≡ 0) → (n : ℕ) → n ≤ 16 → n ≤ sum_below n (λ k. one_if (root_block p k == 0)) + used xs n
 all_counted p xs long tidy zero le = lit≤ tt
 all_counted p xs long tidy (suc n) le = let a = all_counted p xs long tidy n (omega arith) in let b = empty_or_used p xs long tidy n (omega arith) in omega arith
 

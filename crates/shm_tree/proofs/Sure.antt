@@ -5,10 +5,10 @@ use Rattle.shm_graph.specs.declared.{ask.{Ask.{Ask, TheVariants.{Exchange, Load,
 use Rattle.shm_graph.specs.{declared.spot.Spot.Spot, Asks.{Trail, at_of, call_before, failed_by, seen_of, words_after}}
 use Rattle.shm_graph.specs.{Blocks.classes, Laws.{Control, Ends, Frame, Outcome, Stands}, Mapped.{OnTheWay, mapped}}
 use Rattle.shm_graph.specs.Spots.{spot_at}
-use Rattle.shm_calls.specs.declared.{calls.Calls.Calls, or.Or.{Or, TheVariants.{First, Second}}, word.Word.Word}
-use Rattle.shm_calls.specs.{CallsControl.{answered, called_on, calls_control, planned}, CallsFit.CallsFits}
-use Rattle.shm_calls.specs.{Either.{OrFits, or_control}, Proved.Either.told_outcome, Plans.Planned}
-use Rattle.shm_calls.specs.Words.{WordFits, word_control}
+use Rattle.plans.specs.declared.{calls.Calls.Calls, or.Or.{Or, TheVariants.{First, Second}}, word.Word.Word}
+use Rattle.plans.specs.{CallsControl.{answered, called_on, calls_control, planned}, CallsFit.CallsFits}
+use Rattle.plans.specs.{Either.{OrFits, or_control}, Proved.Either.told_outcome, Plans.Planned}
+use Rattle.plans.specs.Words.{WordFits, word_control}
 
 -- of a machine: what it knows of the words where nobody else steps
 module _ {S A : Type 0} (k : Control S A) (knows : S → (Spot → ℕ) → Type 0) where
@@ -86,7 +86,7 @@ ends_more call u t (before, e) = (before ++ u, e ∙ sym (append_assoc before u 
 
 module _ {P C B A : Type 0} (k : Control C B) (q : Planned P C B A) (knows : C → (Spot → ℕ) → Type 0) where
   -- what a machine of calls knows of the words: what its call does
-  abbrev pub calls_know : Calls P C A B → (Spot → ℕ) → Type 0
+  abbrev pub calls_know : Calls P C → (Spot → ℕ) → Type 0
   calls_know m w = knows m.call w
 
   -- its parts are sure, and a call begins with what it knows of the words, whatever these are

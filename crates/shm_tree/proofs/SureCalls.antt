@@ -2,9 +2,9 @@
 use Rattle.std.proofs.Common.{ℕ, ◌+◌, ◌≤◌, true, false, refl, List, arith}
 use Rattle.std.specs.Prelude.{Result, Ok, Err}
 use Rattle.shm_graph.specs.{declared.spot.Spot.{Spot, TheVariants.{Body, Root}}, Asks.IsWithin, Events.Event}
-use Rattle.shm_plain.specs.{Calls.{Ran, Took}, Pools.{Pool, memo_of}}
-use Rattle.shm_calls.specs.{CallsControl.{calls_control, calls_of}, Either.{OrFits, or_control}}
-use Rattle.shm_calls.specs.Words.{WordFits, word_control}
+use Rattle.shm_plain.specs.{Calls.{Ran, TookSteps}, Pools.{Pool, memo_of}}
+use Rattle.plans.specs.{CallsControl.{calls_control, calls_of}, Either.{OrFits, or_control}}
+use Rattle.plans.specs.Words.{WordFits, word_control}
 use Rattle.shm_count.specs.declared.{answer.ShareFault.ShareFault, point.Aim.TheVariants.Up}
 use Rattle.shm_count.specs.declared.up_root.RootingPoint.{RootingPoint, TheVariants.{Era, Look, Step}}
 use Rattle.shm_count.specs.{declared.up_root.RootingState.RootingState, Roots.member}
@@ -63,7 +63,7 @@ rooting_sure = record { parts = λ m. parts m m.point; begins = λ m w. begins m
     begins m Look w = refl
     begins m Step w = first_knows (Up m.block) m.me.geometry.wide m.era w
 
-pub share_most : (n : ℕ) (p r : Pool) (b x y : ℕ) → IsWorking p → ShareMay (rooting (member p.start.geometry 0) b) (memo_of p 0) → Took (calls_control rooting_parts rooting_steered) 0 p (calls_of rooting_steered (rooting (member p.start.geometry 0) b)) r → Ran 0 true true p r x y → IsWithin n (memo_of r 0).call → x ≤ y + n
+pub share_most : (n : ℕ) (p r : Pool) (b x y : ℕ) → IsWorking p → ShareMay (rooting (member p.start.geometry 0) b) (memo_of p 0) → TookSteps (calls_control rooting_parts rooting_steered) 0 p (calls_of rooting_steered (rooting (member p.start.geometry 0) b)) r → Ran 0 true true p r x y → IsWithin n (memo_of r 0).call → x ≤ y + n
 share_most n p r b x y h may t ran most = plan_most rooting_parts rooting_plan rooting_laws ShareMay (λ m a. Unit {0}) share_task rooting_knows rooting_sure n p r (rooting (member p.start.geometry 0) b) x y h refl may t ran most
 
 -- ---- the setting of a reference
@@ -92,7 +92,7 @@ set_sure = record { parts = parts; begins = λ m w. begins m m.point w }
     begins m set.Change w = tt
     begins m set.Tear w = tt
 
-pub set_most : (n : ℕ) (p r : Pool) (b i c x y : ℕ) → IsWorking p → SetMay (setting (member p.start.geometry 0) b i c) (memo_of p 0) → Took (calls_control set_parts set_steered) 0 p (calls_of set_steered (setting (member p.start.geometry 0) b i c)) r → Ran 0 true true p r x y → IsWithin n (memo_of r 0).call → x ≤ y + n
+pub set_most : (n : ℕ) (p r : Pool) (b i c x y : ℕ) → IsWorking p → SetMay (setting (member p.start.geometry 0) b i c) (memo_of p 0) → TookSteps (calls_control set_parts set_steered) 0 p (calls_of set_steered (setting (member p.start.geometry 0) b i c)) r → Ran 0 true true p r x y → IsWithin n (memo_of r 0).call → x ≤ y + n
 set_most n p r b i c x y h may t ran most = plan_most set_parts set_plan set_laws SetMay (λ m a. Unit {0}) set_task set_knows set_sure n p r (setting (member p.start.geometry 0) b i c) x y h refl may t ran most
 
 -- ---- a drop of a root
@@ -115,12 +115,12 @@ drop_sure = record { parts = parts; begins = λ m w. begins m m.point w }
     begins m drop.Lower w = tt
     begins m drop.Tear w = tt
 
-pub drop_most : (n : ℕ) (p r : Pool) (k x y : ℕ) → IsWorking p → DropMay (dropping (member p.start.geometry 0) k) (memo_of p 0) → Took (calls_control drop_parts drop_steered) 0 p (calls_of drop_steered (dropping (member p.start.geometry 0) k)) r → Ran 0 true true p r x y → IsWithin n (memo_of r 0).call → x ≤ y + n
+pub drop_most : (n : ℕ) (p r : Pool) (k x y : ℕ) → IsWorking p → DropMay (dropping (member p.start.geometry 0) k) (memo_of p 0) → TookSteps (calls_control drop_parts drop_steered) 0 p (calls_of drop_steered (dropping (member p.start.geometry 0) k)) r → Ran 0 true true p r x y → IsWithin n (memo_of r 0).call → x ≤ y + n
 drop_most n p r k x y h may t ran most = plan_most drop_parts drop_plan drop_laws DropMay (λ m a. Unit {0}) drop_task drop_knows drop_sure n p r (dropping (member p.start.geometry 0) k) x y h refl may t ran most
 
 -- ---- how many word steps each takes at most
 
-pub share_within : (p r : Pool) (b x y : ℕ) (es : List Event) (a : Result ℕ ShareFault) → IsWorking p → ShareMay (rooting (member p.start.geometry 0) b) (memo_of p 0) → Took (calls_control rooting_parts rooting_steered) 0 p (calls_of rooting_steered (rooting (member p.start.geometry 0) b)) r → Ran 0 true true p r x y
+pub share_within : (p r : Pool) (b x y : ℕ) (es : List Event) (a : Result ℕ ShareFault) → IsWorking p → ShareMay (rooting (member p.start.geometry 0) b) (memo_of p 0) → TookSteps (calls_control rooting_parts rooting_steered) 0 p (calls_of rooting_steered (rooting (member p.start.geometry 0) b)) r → Ran 0 true true p r x y
     → UpRootLeaves (member p.start.geometry 0) b (memo_of p 0) (memo_of r 0) (memo_of r 0).call es a → x ≤ y + share_steps p.start.geometry
 share_within p r b x y es a h may t ran l =
     share_most (share_steps p.start.geometry) p r b x y h may t ran (within a l)

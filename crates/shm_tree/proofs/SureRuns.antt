@@ -11,11 +11,12 @@ use Rattle.shm_graph.specs.Runs.{Held, Leads, State, account_entered, changed, f
 use Rattle.shm_graph.specs.{Spots.{classes_in, see, spot_at}, Tells.{GoesOn, machine_steps}, Views.view, Whole.fits_now}
 use Rattle.shm_graph.proofs.Machines.{Composing.outcome_none, Wholes.{whole_inside, whole_keeps}}
 use Rattle.shm_graph.proofs.{Runs.{CallEventsOf.memo_here, Lists.see-words_set}, Spots.Seeing.{classes-see, see-spot}}
-use Rattle.shm_plain.specs.{Calls.{Ran, Took, state_of, words}, Pools.{Pool, memo_of, pool, readied}, Tracks.kind_next}
+use Rattle.shm_plain.specs.{Calls.{Ran, TookSteps, state_of, words}, Pools.{Pool, memo_of, pool, readied}}
+use Rattle.shm_plain.specs.Tracks.{kind_next}
 use Rattle.shm_plain.proofs.OwnTurns.{leads_after}
-use Rattle.shm_calls.specs.{declared.calls.Calls.Calls, CallsControl.{calls_control, calls_of}}
-use Rattle.shm_calls.specs.{CallsFit.{CallsFits, CallsGives}, Proved.CallsKeep.{calls_begin, calls_laws}}
-use Rattle.shm_calls.specs.{Plans.{PlanLaws, Planned}, Tasks.TaskLaws}
+use Rattle.plans.specs.{declared.calls.Calls.Calls, CallsControl.{calls_control, calls_of}}
+use Rattle.plans.specs.{CallsFit.{CallsFits, CallsGives}, Proved.CallsKeep.{calls_begin, calls_laws}}
+use Rattle.plans.specs.{Plans.{PlanLaws, Planned}, Tasks.TaskLaws}
 use Rattle.shm_count.specs.Roots.{member}
 use Rattle.shm_tree.specs.Working.{IsWorking}
 use Rattle.shm_tree.proofs.{Nodes.{calm_held, working_calm}, Sure.{AreSure, CallsSure, IsSure, calls_know, calls_sure}}
@@ -111,11 +112,11 @@ module _ {P C B A : Type 0} (k : Control C B) (q : Planned P C B A) (laws : Plan
       }
 
   -- no exchange of it failed
-  pub plan_whole : (p r : Pool) (s : P) (x y : ℕ) → IsWorking p → q.steered.me s ≡ member p.start.geometry 0 → may s (memo_of p 0) → Took (calls_control k q.steered) 0 p (calls_of q.steered s) r → Ran 0 true true p r x y → failed (memo_of r 0).call ≡ 0
+  pub plan_whole : (p r : Pool) (s : P) (x y : ℕ) → IsWorking p → q.steered.me s ≡ member p.start.geometry 0 → may s (memo_of p 0) → TookSteps (calls_control k q.steered) 0 p (calls_of q.steered s) r → Ran 0 true true p r x y → failed (memo_of r 0).call ≡ 0
   plan_whole p r s x y h me m t ran =
       let g : Geometry = p.start.geometry in
-      let c : Control (Calls P C A B) A = calls_control k q.steered in
-      let z : Calls P C A B = calls_of q.steered s in
+      let c : Control (Calls P C) A = calls_control k q.steered in
+      let z : Calls P C = calls_of q.steered s in
       let new = tasks.new s (memo_of p 0) m in
       let fresh : c.fresh z ≡ true = rw (new.first, new.fresh) refl in
       let same : readied p 0 ≡ p = ready_same p h.work.acts in
@@ -134,7 +135,7 @@ module _ {P C B A : Type 0} (k : Control C B) (q : Planned P C B A) (laws : Plan
       ready_same u e = ap (λ (b : Bool). pool u.start u.words (cond b u.accounts (changed (account_entered (kind_next (memo_of u 0))) u.accounts 0)) (cond b u.turns (u.turns ++ Begins 0 (kind_next (memo_of u 0)) ∷ []))) e
 
   -- so that it took as many word steps as it is within
-  pub plan_most : (n : ℕ) (p r : Pool) (s : P) (x y : ℕ) → IsWorking p → q.steered.me s ≡ member p.start.geometry 0 → may s (memo_of p 0) → Took (calls_control k q.steered) 0 p (calls_of q.steered s) r → Ran 0 true true p r x y → IsWithin n (memo_of r 0).call → x ≤ y + n
+  pub plan_most : (n : ℕ) (p r : Pool) (s : P) (x y : ℕ) → IsWorking p → q.steered.me s ≡ member p.start.geometry 0 → may s (memo_of p 0) → TookSteps (calls_control k q.steered) 0 p (calls_of q.steered s) r → Ran 0 true true p r x y → IsWithin n (memo_of r 0).call → x ≤ y + n
   plan_most n p r s x y h me m t ran most =
       let whole = plan_whole p r s x y h me m t ran in
       let spent = ran.spent refl refl in

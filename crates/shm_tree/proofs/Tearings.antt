@@ -11,7 +11,7 @@ use Rattle.shm_count.specs.Tear.Events.Walk.{Fell, Freed, Kept}
 use Rattle.shm_count.proofs.TearWalks.{walk_stopped}
 use Rattle.shm_ref.specs.{DropRoot.{Control.dropping, DropLeaves}, Proved.Leaving.frees-append, Lefts.RootEvents}
 use Rattle.shm_ref.proofs.RefusedDrops.{spent_emptied}
-use Rattle.shm_tree.specs.{Keeping.IsStill, Standing.{IsNode, Stands, weight, word_of}, Tearing.{HasTorn, IsGone}}
+use Rattle.shm_tree.specs.{Keeping.IsStill, Standing.{IsNode, TreeStands, weight, word_of}, Tearing.{HasTorn, IsGone}}
 use Rattle.shm_tree.specs.{Trees.{Tree, Empty, Node}, Working.IsWorking}
 use Rattle.shm_tree.proofs.{Alive.{IsOn, before}, Drops.{torn_gone, torn_loses}, Losses.lost_named}
 use Rattle.shm_tree.proofs.{Nodes.{IsCalm, body_names, body_past, names}, Turns.did_then}
@@ -51,18 +51,18 @@ module _ (p : Pool) (calm : IsCalm p) (f : ℕ → ℕ) (es : List Event) (named
   tree_whole b (Node k m l r) = omega arith
 
   -- by which word it is that named a block that fell
-  fell_by : (i b t n c : ℕ) (k m h : ℕ) (l r : Tree) → IsNode p b k m h → Stands p (word_of p (Body b 0)) l → Stands p (word_of p (Body b 1)) r → (names p (Body b i) ≡ t) × (t ≢ 0) → n ≤ i → ((u : Tree) → Stands p t u → c ≤ weight f p t u)
+  fell_by : (i b t n c : ℕ) (k m h : ℕ) (l r : Tree) → IsNode p b k m h → TreeStands p (word_of p (Body b 0)) l → TreeStands p (word_of p (Body b 1)) r → (names p (Body b i) ≡ t) × (t ≢ 0) → n ≤ i → ((u : Tree) → TreeStands p t u → c ≤ weight f p t u)
       → c + from_word (weight f p (word_of p (Body b 0)) l) (weight f p (word_of p (Body b 1)) r) (i + 1) ≤ from_word (weight f p (word_of p (Body b 0)) l) (weight f p (word_of p (Body b 1)) r) n
   fell_by zero b t n c k m h l r node left right (is, some) low most =
       let two = node.refs in
       let e : t ≡ word_of p (Body b 0) = sym is ∙ body_names p calm b 0 node.live (omega (arith, two)) in
-      let few : c ≤ weight f p (word_of p (Body b 0)) l = subst (λ z. (u : Tree) → Stands p z u → c ≤ weight f p z u) e most l left in
+      let few : c ≤ weight f p (word_of p (Body b 0)) l = subst (λ z. (u : Tree) → TreeStands p z u → c ≤ weight f p z u) e most l left in
       let sum = fell_first (weight f p (word_of p (Body b 0)) l) (weight f p (word_of p (Body b 1)) r) n low in
       omega (arith, few, sum)
   fell_by (suc zero) b t n c k m h l r node left right (is, some) low most =
       let two = node.refs in
       let e : t ≡ word_of p (Body b 1) = sym is ∙ body_names p calm b 1 node.live (omega (arith, two)) in
-      let few : c ≤ weight f p (word_of p (Body b 1)) r = subst (λ z. (u : Tree) → Stands p z u → c ≤ weight f p z u) e most r right in
+      let few : c ≤ weight f p (word_of p (Body b 1)) r = subst (λ z. (u : Tree) → TreeStands p z u → c ≤ weight f p z u) e most r right in
       let sum = fell_second (weight f p (word_of p (Body b 0)) l) (weight f p (word_of p (Body b 1)) r) n low in
       omega (arith, few, sum)
   fell_by (suc (suc j)) b t n c k m h l r node left right (is, some) low most =
@@ -70,7 +70,7 @@ module _ (p : Pool) (calm : IsCalm p) (f : ℕ → ℕ) (es : List Event) (named
       absurd (some (sym is ∙ body_past p calm b (suc (suc j)) node.live (omega (arith, two))))
 
   -- a walk over a tree frees at most what weighs in it
-  walk_weighs : (x : Walk) (n b : ℕ) (t : Tree) → Stands p b t → b ≢ 0 → InOrder n x → ((e : Event) → Contains (events_of 0 b x) e → Contains es e) → frees (events_of 0 b x) ≤ tree_from n b t
+  walk_weighs : (x : Walk) (n b : ℕ) (t : Tree) → TreeStands p b t → b ≢ 0 → InOrder n x → ((e : Event) → Contains (events_of 0 b x) e → Contains es e) → frees (events_of 0 b x) ≤ tree_from n b t
   walk_weighs Freed n b Empty y some o among = absurd (some y)
   walk_weighs Freed n b (Node k m l r) y some o among =
       let one = gone b (among (Free 0 b) (0, omega arith, refl)) in
@@ -86,7 +86,7 @@ module _ (p : Pool) (calm : IsCalm p) (f : ℕ → ℕ) (es : List Event) (named
       let ys : List Event = events_of 0 b rest in
       let first : List Event = Down 0 (Body b i) t ∷ [] in
       let is = named (Body b i) t (among (Down 0 (Body b i) t) (0, omega arith, refl)) in
-      let most : (u : Tree) → Stands p t u → frees xs ≤ weight f p t u = λ u z. (let v = walk_weighs inner 0 t u z is.1 o.1 (λ e c. among e (Contains-append_right first (xs ++ ys) e (Contains-append_left xs ys e c))) in let w = tree_whole t u in omega (arith, v, w)) in
+      let most : (u : Tree) → TreeStands p t u → frees xs ≤ weight f p t u = λ u z. (let v = walk_weighs inner 0 t u z is.1 o.1 (λ e c. among e (Contains-append_right first (xs ++ ys) e (Contains-append_left xs ys e c))) in let w = tree_whole t u in omega (arith, v, w)) in
       let more = walk_weighs rest (i + 1) b (Node k m l r) y some o.2 (λ e c. among e (Contains-append_right first (xs ++ ys) e (Contains-append_right xs ys e c))) in
       let sum = fell_by i b t n (frees xs) k m _ l r y.0 y.1 y.2 is o.0 most in
       let both = frees-append xs ys in
@@ -100,7 +100,7 @@ frees_left (v ∷ vs) = let e = frees_left vs in omega (arith, e)
 
 module _ (p q : Pool) (es : List Event) (on : IsOn p q es) (k x : ℕ) (ds : List Event) (vs : List Visit) (told : es ≡ Down 0 (Root 0 k) x ∷ ds) (left : All (λ (v : Visit). Contains (memo_of q 0).dying v.block) vs) where
   -- blocks were torn down from x on
-  walked : (walk : Walks 0 x ds vs) (f : ℕ → ℕ) (t : Tree) → Stands p x t → x ≢ 0 → ((b : ℕ) → IsGone q b → f b ≡ 1) → frees ds + length vs ≤ weight f p x t
+  walked : (walk : Walks 0 x ds vs) (f : ℕ → ℕ) (t : Tree) → TreeStands p x t → x ≢ 0 → ((b : ℕ) → IsGone q b → f b ≡ 1) → frees ds + length vs ≤ weight f p x t
   walked walk f t y some all =
       let (z, order, is) = walk_stopped 0 x ds vs walk in
       let whole : List Event = ds ++ frees_of 0 vs in
@@ -148,7 +148,7 @@ module _ (p q : Pool) (es : List Event) (on : IsOn p q es) (k : ℕ) where
         nodes = λ f t y all. by f t all (root_word 0 r0 k) h.events y;
       }
     where
-      by : (f : ℕ → ℕ) (t : Tree) → ((b : ℕ) → IsGone q b → f b ≡ 1) → (x : ℕ) → RootEvents 0 k x es → Stands p x t → frees es ≤ weight f p x t
+      by : (f : ℕ → ℕ) (t : Tree) → ((b : ℕ) → IsGone q b → f b ≡ 1) → (x : ℕ) → RootEvents 0 k x es → TreeStands p x t → frees es ≤ weight f p x t
       by f t all zero none y = let e = ap frees none in omega (arith, e)
       by f t all (suc x) (ds, told, inl none) y = let e = ap frees told in let d = ap frees none in omega (arith, e, d)
       by f t all (suc x) (ds, told, inr walk) y =

@@ -9,7 +9,7 @@ use Rattle.shm_graph.specs.{Spots.same_spot, Views.targets}
 use Rattle.shm_graph.proofs.States.Holders.{held_live_not_zero}
 use Rattle.shm_plain.specs.{Calls.Did, Pools.{IsRun, Pool}}
 use Rattle.shm_count.specs.declared.answer.Made.{Made}
-use Rattle.shm_tree.specs.{Falling.IsUnnamed, Keeping.{HasTree, IsBorn, is_live}, Standing.Stands}
+use Rattle.shm_tree.specs.{Falling.IsUnnamed, Keeping.{HasTree, IsBorn, is_live}, Standing.TreeStands}
 use Rattle.shm_tree.specs.Trees.{Tree, Empty, Node}
 use Rattle.shm_tree.proofs.{Alive.{IsOn, after, before}, Falls.Ups, Nodes.{IsCalm, calm_held, from_started}}
 use Rattle.shm_tree.proofs.Turns.{StepsKeep, did_keeps}
@@ -24,7 +24,7 @@ dead_unnamed p calm b some dead d i names =
 pub tree_other : (p : Pool) (b c : ℕ) → b ≢ 0 → is_live p b ≡ false → HasTree p c → c ≢ b
 tree_other p b c some dead (t, st) = other t st
   where
-    other : (u : Tree) → Stands p c u → c ≢ b
+    other : (u : Tree) → TreeStands p c u → c ≢ b
     other Empty none e = some (sym e ∙ none)
     other (Node k n l r) st e = true≢false (sym st.0.live ∙ subst (λ (x : ℕ). is_live p x ≡ false) (sym e) dead)
 

@@ -13,7 +13,7 @@ use Rattle.shm_count.specs.declared.answer.ShareFault.TheVariants as share
 use Rattle.shm_ref.specs.{DropRoot.{Control.dropping, DropLeaves}, SetRef.Control.setting}
 use Rattle.shm_ref.specs.SetRef.{SetLeaves, SetSpent, aim_of, taken_events, SetSpent.{AtStep, AtTear}}
 use Rattle.shm_ref.specs.declared.answer.SetFault.TheVariants as set
-use Rattle.shm_tree.specs.{Causes.{StopCause, Within}, Forests.Stopped, Working.IsSpent}
+use Rattle.shm_tree.specs.{Causes.{StopCause, Within}, Forests.CallStopped, Working.IsSpent}
 use Rattle.shm_tree.specs.declared.stop.Stop.TheVariants as stop
 use Rattle.shm_tree.proofs.Turns.{did_leads}
 
@@ -107,7 +107,7 @@ within_never L p q run who start low says w =
     ]
 
 -- a line of a client that has made few word steps wasn't refused since the own era is spent
-pub few_never : (p q : Pool) (e : ℕ) → IsRun q → q.start ≡ p.start → IsOfOne p.start → steps_made (memo_of q 0) ≤ 2 ^ 46 → Stopped p q (stop.EraSpent e) → ⊥
+pub few_never : (p q : Pool) (e : ℕ) → IsRun q → q.start ≡ p.start → IsOfOne p.start → steps_made (memo_of q 0) ≤ 2 ^ 46 → CallStopped p q (stop.EraSpent e) → ⊥
 few_never p q e run start one few s = by s.cause
   where
     who : 0 < s.at.start.geometry.clients

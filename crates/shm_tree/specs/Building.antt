@@ -6,29 +6,29 @@ use Rattle.shm_count.specs.{declared.answer.Made.Made, Roots.root_word}
 use Rattle.shm_tree.specs.declared.{balance.Plan.Plan, node.{Content.Content, Pair.Pair, Side.Side}}
 use Rattle.shm_tree.specs.{declared.{node.Side.TheVariants.{Left, Right}, stop.Stop.Stop}, Causes.StopCause}
 use Rattle.shm_tree.specs.{Keeping.{HasMade, HasTree, node_by, other_side}, Spending.HasSpent}
-use Rattle.shm_tree.specs.{Standing.{Stands, weight}, Trees.{Tree, AreNear, from_left, from_right, height, joined}}
+use Rattle.shm_tree.specs.{Standing.{TreeStands, weight}, Trees.{Tree, AreNear, from_left, from_right, height, joined}}
 use Rattle.shm_tree.specs.Working.{DiedIn, IfAlive, IfRefused, IsReached, IsRooted, IsSameLatch, IsWorking, Went}
 
 -- what a root names
-abbrev pub named_by : Pool → ℕ → ℕ
-named_by p k = root_word 0 (memo_of p 0) k
+abbrev pub root_block : Pool → ℕ → ℕ
+root_block p k = root_word 0 (memo_of p 0) k
 
 -- how many of the 16 roots are empty
 unfoldable pub rooms : Pool → ℕ
-rooms p = sum_below 16 (λ k. one_if (named_by p k == 0))
+rooms p = sum_below 16 (λ k. one_if (root_block p k == 0))
 
 -- each tree that a root names stands where it stood
 abbrev pub KeepsRooted : Pool → Pool → Type 0
-KeepsRooted p q = (j : ℕ) (t : Tree) → j < 16 → Stands p (named_by p j) t → Stands q (named_by p j) t
+KeepsRooted p q = (j : ℕ) (t : Tree) → j < 16 → TreeStands p (root_block p j) t → TreeStands q (root_block p j) t
 
 -- each tree that a root names has the blocks that it had
 abbrev pub KeepsBlocks : Pool → Pool → Type 0
-KeepsBlocks p q = (f : ℕ → ℕ) (j : ℕ) (t : Tree) → j < 16 → Stands p (named_by p j) t → weight f q (named_by p j) t ≡ weight f p (named_by p j) t
+KeepsBlocks p q = (f : ℕ → ℕ) (j : ℕ) (t : Tree) → j < 16 → TreeStands p (root_block p j) t → weight f q (root_block p j) t ≡ weight f p (root_block p j) t
 
 -- The work stopped: what roots named they name still, and it stands, of the same blocks; at most n blocks were made
 pub record IsCut (n : ℕ) (p q : Pool) : Type 0 where
   pub trees : KeepsRooted p q
-  pub roots : (k : ℕ) → named_by p k ≢ 0 → named_by q k ≡ named_by p k
+  pub roots : (k : ℕ) → root_block p k ≢ 0 → root_block q k ≡ root_block p k
   pub blocks : KeepsBlocks p q
   pub made : HasMade n p q
 
@@ -64,19 +64,19 @@ block_of (Some w) = w.block
 pub record IsHeld (p : Pool) (w : Made) : Type 0 where
   pub low : w.root < 16
   pub some : w.block ≢ 0
-  pub names : named_by p w.root ≡ w.block
+  pub names : root_block p w.root ≡ w.block
   pub tree : HasTree p w.block
 
 -- a tree was built: a root that was empty names it; the root of the tree below, if there is one, is empty; no other root changed, and what they name stands, of the same blocks
 pub record IsRebuilt (n : ℕ) (below : Option Made) (m : Made) (p q : Pool) : Type 0 where
   pub low : m.root < 16
   pub some : m.block ≢ 0
-  pub empty : named_by p m.root ≡ 0
-  pub names : named_by q m.root ≡ m.block
-  pub left : IfSome below (λ w. named_by q w.root ≡ 0)
-  pub others : (j : ℕ) → j ≢ m.root → IsOther below j → named_by q j ≡ named_by p j
-  pub trees : (j : ℕ) (t : Tree) → j < 16 → IsOther below j → Stands p (named_by p j) t → Stands q (named_by p j) t
-  pub blocks : (f : ℕ → ℕ) (j : ℕ) (t : Tree) → j < 16 → IsOther below j → Stands p (named_by p j) t → weight f q (named_by p j) t ≡ weight f p (named_by p j) t
+  pub empty : root_block p m.root ≡ 0
+  pub names : root_block q m.root ≡ m.block
+  pub left : IfSome below (λ w. root_block q w.root ≡ 0)
+  pub others : (j : ℕ) → j ≢ m.root → IsOther below j → root_block q j ≡ root_block p j
+  pub trees : (j : ℕ) (t : Tree) → j < 16 → IsOther below j → TreeStands p (root_block p j) t → TreeStands q (root_block p j) t
+  pub blocks : (f : ℕ → ℕ) (j : ℕ) (t : Tree) → j < 16 → IsOther below j → TreeStands p (root_block p j) t → weight f q (root_block p j) t ≡ weight f p (root_block p j) t
   pub made : HasMade n p q
 
 -- ---- the trees that are built
@@ -97,28 +97,28 @@ IsAtHand p b = HasTree p b × IsReached p b
 
 -- at q there stands at b what comes of the two trees that stand at p
 abbrev pub StandsOf : (Tree → Tree → Tree) → Pair → ℕ → Pool → Pool → Type 0
-StandsOf f trees b p q = (near far : Tree) → Stands p trees.near near → Stands p trees.far far → Stands q b (f near far)
+StandsOf f trees b p q = (near far : Tree) → TreeStands p trees.near near → TreeStands p trees.far far → TreeStands q b (f near far)
 
 -- where the heights of two trees that stood differ by at most 1, at most one block was made
 abbrev pub IsCheap : Pair → Pool → Pool → Type 0
-IsCheap trees p q = (near far : Tree) → Stands p trees.near near → Stands p trees.far far → AreNear (height near) (height far) → HasMade 1 p q
+IsCheap trees p q = (near far : Tree) → TreeStands p trees.near near → TreeStands p trees.far far → AreNear (height near) (height far) → HasMade 1 p q
 
 -- a node of a node that was planned, and of the tree at far
 abbrev pub StandsRaised : Content → Side → Plan → ℕ → ℕ → Pool → Pool → Type 0
 StandsRaised top s below far b p q =
-    (x y z : Tree) → Stands p below.trees.near x → Stands p below.trees.far y → Stands p far z → Stands q b (node_by s top (node_by s below.content x y) z)
+    (x y z : Tree) → TreeStands p below.trees.near x → TreeStands p below.trees.far y → TreeStands p far z → TreeStands q b (node_by s top (node_by s below.content x y) z)
 
 -- a node of two nodes that were planned, the second as seen from the other side
 abbrev pub StandsCrowned : Content → Side → Plan → Plan → ℕ → Pool → Pool → Type 0
 StandsCrowned top s near far b p q =
-    (x y z t : Tree) → Stands p near.trees.near x → Stands p near.trees.far y → Stands p far.trees.near z → Stands p far.trees.far t → Stands q b (node_by s top (node_by s near.content x y) (node_by (other_side s) far.content z t))
+    (x y z t : Tree) → TreeStands p near.trees.near x → TreeStands p near.trees.far y → TreeStands p far.trees.near z → TreeStands p far.trees.far t → TreeStands q b (node_by s top (node_by s near.content x y) (node_by (other_side s) far.content z t))
 
 -- the far tree's far tree moved up
 abbrev pub StandsTurned : Content → Side → Pair → ℕ → Pool → Pool → Type 0
 StandsTurned c s trees b p q =
-    (x y z : Tree) (d : Content) → Stands p trees.near x → Stands p trees.far (node_by s d y z) → Stands q b (node_by s d (node_by s c x y) z)
+    (x y z : Tree) (d : Content) → TreeStands p trees.near x → TreeStands p trees.far (node_by s d y z) → TreeStands q b (node_by s d (node_by s c x y) z)
 
 -- the node of the far tree's near tree moved up by two
 abbrev pub StandsTurnedTwice : Content → Side → Pair → ℕ → Pool → Pool → Type 0
 StandsTurnedTwice c s trees b p q =
-    (x y z t : Tree) (d e : Content) → Stands p trees.near x → Stands p trees.far (node_by s d (node_by s e y z) t) → Stands q b (node_by s e (node_by s c x y) (node_by s d z t))
+    (x y z t : Tree) (d e : Content) → TreeStands p trees.near x → TreeStands p trees.far (node_by s d (node_by s e y z) t) → TreeStands q b (node_by s e (node_by s c x y) (node_by s d z t))

@@ -1,7 +1,8 @@
 -- A line that isn't finished for want of word steps: what shows that one more was to be made.
 use Rattle.std.specs.Prelude.{◌≡◌, ◌≢◌, ℕ, ◌<◌, ◌⊎◌, true, List, Result, IfErr}
 use Rattle.shm_tree.specs.declared.{line.TreeLine.TreeLine, registers.Registers.Registers, stop.Stop.Stop}
-use Rattle.shm_tree.specs.{Building.named_by, Forests.{HasVersions, IsFree, IsUnspent, MayBeDone, Stopped, version}}
+use Rattle.shm_tree.specs.Building.{root_block}
+use Rattle.shm_tree.specs.Forests.{HasVersions, IsFree, IsUnspent, MayBeDone, CallStopped, version}
 use Rattle.shm_tree.specs.{Trees.{Tree, Empty}, Working.{AreSameRoots, IsUnderWay}}
 use Rattle.shm_tree.specs.declared.line.TreeLine.TheVariants as lines
 use Rattle.shm_tree.specs.declared.stop.Stop.TheVariants as stop
@@ -11,7 +12,7 @@ pub record HasSpare (g : Registers) : Type 0 where
   pub root : ℕ
   pub low : root < 16
   pub free : IsFree g.roots root
-  pub some : named_by g.pool root ≢ 0
+  pub some : root_block g.pool root ≢ 0
 
 -- nothing of a line is done yet that may be done
 pub record IsYetToDo (line : TreeLine) (f g : Registers) : Type 0 where
@@ -27,7 +28,7 @@ IsHalfDone line f g = IsUnderWay g.pool ⊎ (HasSpare g ⊎ IsYetToDo line f g)
 pub record WasRefused (f g : Registers) : Type 0 where
   pub why : Stop
   pub other : why ≢ stop.Died
-  pub stopped : Stopped f.pool g.pool why
+  pub stopped : CallStopped f.pool g.pool why
 
 -- it isn't done; or it was refused, and roots beside those of registers are being emptied
 abbrev pub IsCutShort : TreeLine → Registers → Registers → Type 0

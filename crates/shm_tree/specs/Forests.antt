@@ -7,8 +7,8 @@ use Rattle.shm_plain.specs.{Calls.Did, Pools.{IsRun, Pool, memo_of}}
 use Rattle.shm_count.specs.declared.answer.Made.{Made}
 use Rattle.shm_tree.specs.declared.line.{TreeAnswer.TreeAnswer, TreeLine.TreeLine, TreeTurn.TreeTurn}
 use Rattle.shm_tree.specs.declared.{registers.Registers.Registers, remove.Removed.Removed, stop.Stop.Stop}
-use Rattle.shm_tree.specs.{Building.named_by, Causes.StopCause, Falling.AreFalling, Standing.{IsTree, Stands, weight}}
-use Rattle.shm_tree.specs.Trees.{Tree, Empty, found, inserted, removed}
+use Rattle.shm_tree.specs.{Building.root_block, Causes.StopCause, Falling.AreFalling}
+use Rattle.shm_tree.specs.{Standing.{IsTree, TreeStands, weight}, Trees.{Tree, Empty, found, inserted, removed}}
 use Rattle.shm_tree.specs.Working.{AreSameRoots, IfAlive, IfRefused, IsOver, IsRooted, IsSameLatch, IsSpent, IsWorking, Went}
 use Rattle.shm_tree.specs.declared.line.TreeAnswer.TheVariants as answers
 use Rattle.shm_tree.specs.declared.line.TreeLine.TheVariants as lines
@@ -23,7 +23,7 @@ root_at f r = slice_index f.roots r
 
 -- the block that a root names; none, which is 0, at 16
 abbrev pub block_in : Pool → ℕ → ℕ
-block_in p k = if nat_lt k 16 then named_by p k else 0
+block_in p k = if nat_lt k 16 then root_block p k else 0
 
 -- the block of a register's tree, or 0
 abbrev pub block_at : Registers → ℕ → ℕ
@@ -48,7 +48,7 @@ IsFree ks k = (r : ℕ) → r < 12 → slice_index ks r ≢ k
 
 -- each root in which no register's tree is, is empty
 abbrev pub IsTidy : Registers → Type 0
-IsTidy f = (k : ℕ) → k < 16 → IsFree f.roots k → named_by f.pool k ≡ 0
+IsTidy f = (k : ℕ) → k < 16 → IsFree f.roots k → root_block f.pool k ≡ 0
 
 -- The registers between two lines: twelve of them, in roots of their own, which name blocks where trees stand; where they are told to be tidy they are
 pub record IsForest (f : Registers) : Type 0 where
@@ -57,7 +57,7 @@ pub record IsForest (f : Registers) : Type 0 where
   pub long : length f.roots ≡ 12
   pub low : (r : ℕ) → r < 12 → root_at f r ≤ 16
   pub apart : (r s : ℕ) → r < 12 → s < 12 → root_at f r < 16 → root_at f r ≡ root_at f s → r ≡ s
-  pub some : (r : ℕ) → r < 12 → root_at f r < 16 → named_by f.pool (root_at f r) ≢ 0
+  pub some : (r : ℕ) → r < 12 → root_at f r < 16 → root_block f.pool (root_at f r) ≢ 0
   pub tidy : f.tidy ≡ true → IsTidy f
   pub versions : (ts : List Tree) × HasVersions f ts
 
@@ -74,8 +74,8 @@ IsSwept f = IsUnspent f → f.tidy ≡ true
 -- a root names the block that it named, and what stood there stands there, of the same blocks
 pub record KeepsRoot (p q : Pool) (k : ℕ) : Type 0 where
   pub same : block_in q k ≡ block_in p k
-  pub trees : (t : Tree) → Stands p (block_in p k) t → Stands q (block_in p k) t
-  pub blocks : (f : ℕ → ℕ) (t : Tree) → Stands p (block_in p k) t → weight f q (block_in p k) t ≡ weight f p (block_in p k) t
+  pub trees : (t : Tree) → TreeStands p (block_in p k) t → TreeStands q (block_in p k) t
+  pub blocks : (f : ℕ → ℕ) (t : Tree) → TreeStands p (block_in p k) t → weight f q (block_in p k) t ≡ weight f p (block_in p k) t
 
 -- each root of these does so
 abbrev pub KeepsRoots : List ℕ → Pool → Pool → Type 0
@@ -87,7 +87,7 @@ KeepsOthers j p q = (k : ℕ) → (k < 16 → k ≢ j) → KeepsRoot p q k
 
 -- each root that named a block does so
 abbrev pub KeepsNamed : Pool → Pool → Type 0
-KeepsNamed p q = (k : ℕ) → (k < 16 → named_by p k ≢ 0) → KeepsRoot p q k
+KeepsNamed p q = (k : ℕ) → (k < 16 → root_block p k ≢ 0) → KeepsRoot p q k
 
 -- each register has the version that it had
 abbrev pub KeepsVersions : Registers → Registers → Type 0
@@ -99,7 +99,7 @@ pub record KeepsRegisters (f g : Registers) : Type 0 where
   pub roots : KeepsRoots f.roots f.pool g.pool
 
 -- a call between two moments was refused so, and the client came by itself from the first to the second
-pub record Stopped (p q : Pool) (e : Stop) : Type 0 where
+pub record CallStopped (p q : Pool) (e : Stop) : Type 0 where
   pub at : Pool
   pub run : IsRun at
   pub start : at.start ≡ p.start
@@ -107,12 +107,12 @@ pub record Stopped (p q : Pool) (e : Stop) : Type 0 where
   pub on : (es : List Event) × Did 0 at q es
 
 -- a call on a pool: what it leaves of the pool p and x word steps is the pool q and y. Where word steps were left for it, refused or not, K is kept
-pub record Calls {T : Type 0} (K : Pool → Pool → Type 0) (r : Result T Stop) (p q : Pool) (x y : ℕ) : Type 0 where
+pub record CallLeaves {T : Type 0} (K : Pool → Pool → Type 0) (r : Result T Stop) (p q : Pool) (x y : ℕ) : Type 0 where
   pub went : Went p q x y
   pub working : IfAlive r (IsWorking q)
   pub latch : IfAlive r (IsSameLatch p q)
   pub kept : IfAlive r (K p q)
-  pub cause : IfErr r (λ e. Stopped p q e)
+  pub cause : IfErr r (λ e. CallStopped p q e)
   pub died : IfErr r (λ e. IsOver e y)
 
 -- a part of a line: what it leaves of the registers f and x word steps is the registers g and y. Where it was refused each register has its version still, of the same blocks
@@ -120,14 +120,14 @@ pub record Moves {T : Type 0} (r : Result T Stop) (f g : Registers) (x y : ℕ) 
   pub went : Went f.pool g.pool x y
   pub forest : IfAlive r (IsForest g)
   pub kept : IfRefused r (KeepsRegisters f g)
-  pub cause : IfErr r (λ e. Stopped f.pool g.pool e)
+  pub cause : IfErr r (λ e. CallStopped f.pool g.pool e)
   pub died : IfErr r (λ e. IsOver e y)
 
 -- a root that no register has names a tree, or it is none
 pub record IsSpare (f : Registers) (k : ℕ) : Type 0 where
   pub low : k ≤ 16
   pub free : k < 16 → IsFree f.roots k
-  pub some : k < 16 → named_by f.pool k ≢ 0
+  pub some : k < 16 → root_block f.pool k ≢ 0
 
 -- a register has another version now: what tree stood at that root's block
 abbrev pub IsPut : (r k : ℕ) → Registers → Registers → Type 0
@@ -135,7 +135,7 @@ IsPut r k f g = (ts : List Tree) (t : Tree) → HasVersions f ts → IsTree f.po
 
 -- a root that no register has is empty now, or no register had it, and it is as it was
 abbrev pub IsLeft : Registers → Registers → ℕ → Type 0
-IsLeft f g k = (named_by g.pool k ≡ 0) ⊎ (IsFree f.roots k × (named_by g.pool k ≡ named_by f.pool k))
+IsLeft f g k = (root_block g.pool k ≡ 0) ⊎ (IsFree f.roots k × (root_block g.pool k ≡ root_block f.pool k))
 
 -- ---- what a removal leaves of the tree of the root k, from which the key x is taken
 
@@ -280,7 +280,7 @@ DoesTurn line f g (turns.Done answer) = DoesLine line f g answer
 
 -- it was refused, if it was, since a call was refused so
 abbrev pub IsCaused : Pool → Pool → TreeTurn → Type 0
-IsCaused p q (turns.Done (answers.Full s b)) = Stopped p q (stop.Full s b)
-IsCaused p q (turns.Done (answers.CountFull b c)) = Stopped p q (stop.CountFull b c)
-IsCaused p q (turns.Done (answers.EraSpent e)) = Stopped p q (stop.EraSpent e)
+IsCaused p q (turns.Done (answers.Full s b)) = CallStopped p q (stop.Full s b)
+IsCaused p q (turns.Done (answers.CountFull b c)) = CallStopped p q (stop.CountFull b c)
+IsCaused p q (turns.Done (answers.EraSpent e)) = CallStopped p q (stop.EraSpent e)
 IsCaused p q turn = Unit {0}

@@ -5,7 +5,7 @@ use Rattle.shm_graph.specs.{declared.spot.Spot.TheVariants.{Body, Head}, Events.
 use Rattle.shm_plain.specs.{Calls.Did, Pools.{Pool, memo_of}}
 use Rattle.shm_count.specs.{declared.answer.Made.Made, Roots.root_word}
 use Rattle.shm_tree.specs.declared.node.{Content.Content, Pair.Pair, Side.{Side, TheVariants.{Left, Right}}}
-use Rattle.shm_tree.specs.{Standing.{IsNode, Stands, word_of}, Trees.{Tree, Empty, Node}}
+use Rattle.shm_tree.specs.{Standing.{IsNode, TreeStands, word_of}, Trees.{Tree, Empty, Node}}
 use Rattle.shm_tree.specs.Working.{AreSameRoots, IsRooted}
 
 -- ---- sides
@@ -36,7 +36,7 @@ HasNode p b = (k n h : ℕ) × IsNode p b k n h
 
 -- a tree stands at this block, or it is none
 abbrev pub HasTree : Pool → ℕ → Type 0
-HasTree p b = (t : Tree) × Stands p b t
+HasTree p b = (t : Tree) × TreeStands p b t
 
 -- the block x is a node of the tree that stands at b
 abbrev pub IsPart : Pool → ℕ → ℕ → Tree → Type 0
@@ -55,7 +55,7 @@ KeepsNodes p q = (b k n h : ℕ) → IsNode p b k n h → KeepsNode p q b k n h
 
 -- every tree stands where it stood
 abbrev pub KeepsTrees : Pool → Pool → Type 0
-KeepsTrees p q = (b : ℕ) (t : Tree) → Stands p b t → Stands q b t
+KeepsTrees p q = (b : ℕ) (t : Tree) → TreeStands p b t → TreeStands q b t
 
 -- ---- live blocks
 
@@ -124,7 +124,7 @@ pub record IsReferring (b : ℕ) (s : Side) (x : ℕ) (p q : Pool) : Type 0 wher
   pub names : child_of q b s ≡ x
   pub other : child_of q b (other_side s) ≡ child_of p b (other_side s)
   pub nodes : (d k n h : ℕ) → d ≢ b → IsNode p d k n h → KeepsNode p q d k n h
-  pub trees : (d : ℕ) (t : Tree) → (IsPart p b d t → ⊥) → Stands p d t → Stands q d t
+  pub trees : (d : ℕ) (t : Tree) → (IsPart p b d t → ⊥) → TreeStands p d t → TreeStands q d t
   pub lives : AreSameLives p q
   pub roots : AreSameRoots p q
   pub made : HasMade 0 p q
@@ -134,7 +134,7 @@ pub record IsLinked (c : Content) (s : Side) (trees : Pair) (m : Made) (p q : Po
   pub born : IsBorn m p q
   pub near : child_of q m.block s ≡ trees.near
   pub far : child_of q m.block (other_side s) ≡ trees.far
-  pub stands : (near far : Tree) → Stands p trees.near near → Stands p trees.far far → Stands q m.block (node_by s c near far)
+  pub stands : (near far : Tree) → TreeStands p trees.near near → TreeStands p trees.far far → TreeStands q m.block (node_by s c near far)
 
 -- The work stopped: nodes, live blocks and roots that named a block are as they were, and at most n blocks were made
 pub record HasGrown (n : ℕ) (p q : Pool) : Type 0 where
@@ -146,7 +146,7 @@ pub record HasGrown (n : ℕ) (p q : Pool) : Type 0 where
 
 -- A root is empty, and what only it named is gone: each tree that another root names stands still, no block came to be live, and a node that is live and has references is as it was
 pub record IsDropped (k : ℕ) (p q : Pool) : Type 0 where
-  pub trees : (j x : ℕ) (t : Tree) → j ≢ k → j < 16 → root_word 0 (memo_of p 0) j ≡ x → Stands p x t → Stands q x t
+  pub trees : (j x : ℕ) (t : Tree) → j ≢ k → j < 16 → root_word 0 (memo_of p 0) j ≡ x → TreeStands p x t → TreeStands q x t
   pub lives : (b : ℕ) → is_live q b ≡ true → is_live p b ≡ true
   pub nodes : (b i n h : ℕ) → is_live q b ≡ true → (Contains (memo_of q 0).dying b → ⊥) → IsNode p b i n h → KeepsNode p q b i n h
   pub made : HasMade 0 p q

@@ -1,16 +1,16 @@
 -- Live blocks that are all nodes of trees that roots name, and how many came to be live.
 use Rattle.std.specs.{Prelude.{◌≡◌, ℕ, ◌<◌, ◌≤◌, ◌⊎◌, true, false, List, length}, List.Contains}
 use Rattle.shm_plain.specs.Pools.{Pool, memo_of}
-use Rattle.shm_tree.specs.{Building.named_by, Inserting.is_part, Keeping.{HasTree, is_live}, Standing.Stands}
+use Rattle.shm_tree.specs.{Building.root_block, Inserting.is_part, Keeping.{HasTree, is_live}, Standing.TreeStands}
 use Rattle.shm_tree.specs.{Trees.Tree, Working.IsSpent}
 
 -- a tree stands wherever a root names a block
 abbrev pub AreRootsTrees : Pool → Type 0
-AreRootsTrees p = (j : ℕ) → j < 16 → HasTree p (named_by p j)
+AreRootsTrees p = (j : ℕ) → j < 16 → HasTree p (root_block p j)
 
 -- each live block is a node of a tree that a root names
 abbrev pub AreLivesNodes : Pool → Type 0
-AreLivesNodes p = (b : ℕ) → is_live p b ≡ true → (j : ℕ) × (j < 16) × (t : Tree) × Stands p (named_by p j) t × (is_part p b (named_by p j) t ≡ true)
+AreLivesNodes p = (b : ℕ) → is_live p b ≡ true → (j : ℕ) × (j < 16) × (t : Tree) × TreeStands p (root_block p j) t × (is_part p b (root_block p j) t ≡ true)
 
 -- at most n blocks are live that weren't
 abbrev pub AreFewNew : ℕ → Pool → Pool → Type 0

@@ -4,7 +4,7 @@ use Rattle.shm_plain.specs.Pools.{Pool}
 use Rattle.shm_count.specs.declared.answer.Made.{Made}
 use Rattle.shm_tree.specs.declared.node.{Content.Content, Side.{Side, TheVariants.{Left, Right}}}
 use Rattle.shm_tree.specs.{declared.remove.Removed.Removed, Building.{IsBuilt, IsCut, block_of}}
-use Rattle.shm_tree.specs.{Inserting.{left_of, right_of}, Keeping.IsStill, Standing.Stands}
+use Rattle.shm_tree.specs.{Inserting.{left_of, right_of}, Keeping.IsStill, Standing.TreeStands}
 use Rattle.shm_tree.specs.{Trees.{Tree, Empty, Node, found, height, removed, without_least}, Ways.down}
 use Rattle.shm_tree.specs.Working.{AreSameRoots}
 
@@ -33,7 +33,7 @@ rest x a t i = if nat_lt a i then less_least (down x t i) else removed x (down x
 
 -- what stood at `top` stands at b
 abbrev pub StandsMoved : (top b : ℕ) → Pool → Pool → Type 0
-StandsMoved top b p q = (t : Tree) → Stands p top t → Stands q b t
+StandsMoved top b p q = (t : Tree) → TreeStands p top t → TreeStands q b t
 
 -- a root that was empty names a tree, and no other root changed; where there is none none did
 abbrev pub IsKept : ℕ → Option Made → Pool → Pool → Type 0
@@ -43,7 +43,7 @@ IsKept n (Some m) p q = IsBuilt n m p q
 -- the tree had the key, and what it is without it was made: n blocks at most
 pub record IsWithout (x n : ℕ) (t : Tree) (o : Option Made) (p q : Pool) : Type 0 where
   pub had : found x t ≢ None
-  pub stands : Stands q (block_of o) (removed x t)
+  pub stands : TreeStands q (block_of o) (removed x t)
   pub kept : IsKept n o p q
 
 -- what came of a tree that was to be made without the key x: nothing where it hasn't the key

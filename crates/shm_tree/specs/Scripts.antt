@@ -11,7 +11,7 @@ use Rattle.shm_tree.specs.declared.judge.TreePlace.TheVariants as place
 use Rattle.shm_tree.specs.declared.judge.FitTree.TheVariants as fit
 
 -- a script without where it lies in memory: how many segments there are, a life where one is told, and lines
-pub record Scripted : Type 0 where
+pub record TreeScripted : Type 0 where
   pub segments : ℕ
   pub life : Option ℕ
   pub lines : List TreeLine
@@ -60,7 +60,7 @@ judged p (Some line) = if may_stand p line then ranged (fit_of line) else Err Sy
 -- what was read: which line was the last one, and the script so far
 pub record Drafted : Type 0 where
   pub place : TreePlace
-  pub script : Scripted
+  pub script : TreeScripted
 
 -- nothing was read
 abbrev pub draft_none : Drafted
@@ -87,16 +87,16 @@ abbrev pub drafted_line : Drafted → List ℕ → Result Drafted TraceKind
 drafted_line d line = drafted d (judged d.place (shape_of line))
 
 -- a fault of this line, or what comes behind it
-abbrev pub read_or : ℕ → Result Drafted TraceKind → (Drafted → Result Scripted TraceFault) → Result Scripted TraceFault
+abbrev pub read_or : ℕ → Result Drafted TraceKind → (Drafted → Result TreeScripted TraceFault) → Result TreeScripted TraceFault
 read_or at (Err kind) behind = Err (fault_at at kind)
 read_or at (Ok d) behind = behind d
 
 -- the script that lines from `at` on leave, or the first fault; what is behind the last line feed is the last of them
-unfoldable pub reading : Drafted → ℕ → List (List ℕ) → Result Scripted TraceFault
+unfoldable pub reading : Drafted → ℕ → List (List ℕ) → Result TreeScripted TraceFault
 reading d at [] = Ok d.script
 reading d at (rest ∷ []) = if may_end d.place rest then Ok d.script else Err (fault_at at Syntax)
 reading d at (line ∷ next ∷ others) = read_or at (drafted_line d line) (λ e. reading e (at + 1) (next ∷ others))
 
 -- the script that bytes spell, or their first fault: at most 1,048,576 bytes
-abbrev pub script_of : List ℕ → Result Scripted TraceFault
+abbrev pub script_of : List ℕ → Result TreeScripted TraceFault
 script_of bytes = if nat_lt 1048576 (length bytes) then Err (limit_fault bytes) else reading draft_none 1 (slice_split (λ b. b == 10) bytes)

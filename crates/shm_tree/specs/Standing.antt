@@ -20,13 +20,13 @@ pub record IsNode (p : Pool) (b k n h : ℕ) : Type 0 where
   pub height : word_of p (Body b 4) ≡ h
 
 -- the tree stands at the block b: 0 for the empty one, and otherwise a node whose reference words name the trees on its left and on its right
-abbrev pub Stands : Pool → ℕ → Tree → Type 0
-Stands p b Empty = b ≡ 0
-Stands p b (Node k n l r) = IsNode p b k n (height (Node k n l r)) × Stands p (word_of p (Body b 0)) l × Stands p (word_of p (Body b 1)) r
+abbrev pub TreeStands : Pool → ℕ → Tree → Type 0
+TreeStands p b Empty = b ≡ 0
+TreeStands p b (Node k n l r) = IsNode p b k n (height (Node k n l r)) × TreeStands p (word_of p (Body b 0)) l × TreeStands p (word_of p (Body b 1)) r
 
 -- a balanced search tree stands at b
 pub record IsTree (p : Pool) (b : ℕ) (t : Tree) : Type 0 where
-  pub stands : Stands p b t
+  pub stands : TreeStands p b t
   pub search : IsSearch t
   pub balanced : IsBalanced t
 

@@ -3,7 +3,7 @@ use Rattle.std.specs.{Prelude.{◌≡◌, ℕ, ◌+◌, ◌≤◌, ◌⊎◌, fa
 use Rattle.shm_graph.specs.Events.{Event}
 use Rattle.shm_plain.specs.{Calls.Did, Pools.{Pool, memo_of}}
 use Rattle.shm_count.specs.{Roots.root_word, Tear.Events.{Visit, frees}}
-use Rattle.shm_tree.specs.{Keeping.is_live, Standing.{Stands, weight}, Trees.Tree}
+use Rattle.shm_tree.specs.{Keeping.is_live, Standing.{TreeStands, weight}, Trees.Tree}
 
 -- a block isn't live, or is a zero-count block
 abbrev pub IsGone : Pool → ℕ → Type 0
@@ -16,4 +16,4 @@ pub record HasTorn (k n : ℕ) (p q : Pool) : Type 0 where
   pub left : List Visit
   pub dying : All (λ (v : Visit). Contains (memo_of q 0).dying v.block) left
   pub many : n ≡ frees told + length left
-  pub nodes : (f : ℕ → ℕ) (t : Tree) → Stands p (root_word 0 (memo_of p 0) k) t → ((b : ℕ) → IsGone q b → f b ≡ 1) → n ≤ weight f p (root_word 0 (memo_of p 0) k) t
+  pub nodes : (f : ℕ → ℕ) (t : Tree) → TreeStands p (root_word 0 (memo_of p 0) k) t → ((b : ℕ) → IsGone q b → f b ≡ 1) → n ≤ weight f p (root_word 0 (memo_of p 0) k) t

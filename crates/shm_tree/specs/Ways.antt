@@ -1,7 +1,7 @@
 -- Ways down a tree to a key.
 use Rattle.std.specs.Prelude.{◌≡◌, ◌≢◌, ℕ, zero, suc, ◌<◌, nat_lt, if◌then◌else◌}
 use Rattle.shm_plain.specs.Pools.{Pool}
-use Rattle.shm_tree.specs.{Standing.Stands, Trees.{Tree, Empty, Node}}
+use Rattle.shm_tree.specs.{Standing.TreeStands, Trees.{Tree, Empty, Node}}
 
 -- the tree on the side of a node on which a key stands that isn't its own: on the right where it is its own
 abbrev pub toward : ℕ → Tree → Tree
@@ -34,12 +34,12 @@ IsDeep x t d = (i : ℕ) → i < d → IsSome (down x t i)
 
 -- The way to the key x in the tree t ends d nodes down, at the block b: no node above is the key's, and b is the key's node or none
 pub record IsPlace (p : Pool) (b x d : ℕ) (t : Tree) : Type 0 where
-  pub stands : Stands p b (down x t d)
+  pub stands : TreeStands p b (down x t d)
   pub end : IsEnd x (down x t d)
   pub on : (i : ℕ) → i < d → IsOther x (down x t i)
 
 -- Behind the node of the key x, of which t is the tree, the way goes on over e nodes as far as that of the next greater key, at the block b, which has nothing on its left; where nothing is on the right of the key's node e is 0
 pub record IsLast (p : Pool) (b x e : ℕ) (t : Tree) : Type 0 where
-  pub stands : Stands p b (down x t e)
+  pub stands : TreeStands p b (down x t e)
   pub deep : IsDeep x t (suc e)
   pub end : down x t (suc e) ≡ Empty

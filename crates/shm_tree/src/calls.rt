@@ -7,7 +7,7 @@ ghost use Rattle.shm_count.specs.Roots.{root_word};
 ghost use Rattle.shm_tree.specs.{Bounds.{drop_steps, make_steps, refer_steps, share_steps}, Causes.StopCause};
 ghost use Rattle.shm_tree.specs.{Changing.Changes, Falling.IsUnnamed};
 ghost use Rattle.shm_tree.specs.Keeping.{HasNode, HasTree, IsDropped, IsMade, IsReferring, IsShared, IsStill, child_of};
-ghost use Rattle.shm_tree.specs.{Looking.Looks, Standing.{Stands, word_of}, Tearing.HasTorn};
+ghost use Rattle.shm_tree.specs.{Looking.Looks, Standing.{TreeStands, word_of}, Tearing.HasTorn};
 ghost use Rattle.shm_tree.specs.Trees.{Tree as ATree, height as height_of};
 ghost use Rattle.shm_tree.specs.Working.{AreSameRoots, DiedBegun, DiedIn, HasRoom, IfAlive, IfRefused, IsCutOff, IsEmptied, IsInCall, IsReached, IsSameLatch, IsSpent, IsWorking, Reaches, Went};
 ghost use Rattle.shm_tree.specs.declared.stop.Stop.TheVariants as stop;
@@ -144,7 +144,7 @@ pub fn height(pool: &mut PlainPool, tree: u32, life: &mut Life) -> Result<u64, S
     requires tree { HasTree pool.old tree }
     requires reached { IsReached pool.old tree }
     ensures looks { Looks result pool.old pool.new life.old.left life.new.left }
-    ensures is { IfOk result (λ h. (t : ATree) → Stands pool.old tree t → h ≡ height_of t) }
+    ensures is { IfOk result (λ h. (t : ATree) → TreeStands pool.old tree t → h ≡ height_of t) }
     ensures steps { IfOk result (λ h. life.old.left ≤ life.new.left + 2) }
 {
     if tree == 0 {

@@ -6,7 +6,7 @@ ghost use Rattle.shm_plain.specs.{Closings.IsClosedRun, Pools.{IsRun, Pool as AP
 ghost use Rattle.shm_tree.specs.{Ending.{HasEnded, HasParted, IsRevived, IsYoung}, Falling.AreFalling, Keeping.is_live};
 ghost use Rattle.shm_tree.specs.Working.{IsSpent, IsWorking};
 
-use shm_calls::Calls;
+use plans::Calls;
 use shm_client::die;
 use shm_count::EraSpent;
 use shm_graph::Life;

@@ -4,18 +4,18 @@ ghost use Rattle.std.specs.Prelude.{◌≡◌, ◌+◌, ◌*◌, ◌<◌, ◌≤
 ghost use Rattle.shm_words.specs.Layout.{bodies, total_of};
 ghost use Rattle.shm_graph.specs.{References.live_count, Spots.{block_spot, classes_in, see, spot_at}};
 ghost use Rattle.shm_plain.specs.Pools.{IsRun};
-ghost use Rattle.shm_tree.specs.{Building.named_by, Holding.{HasSearch, lives_below}, Forests.block_in};
-ghost use Rattle.shm_tree.specs.{Keeping.is_live, Standing.Stands, Trees.{Tree as ATree, size}};
+ghost use Rattle.shm_tree.specs.{Building.root_block, Holding.{HasSearch, lives_below}, Forests.block_in};
+ghost use Rattle.shm_tree.specs.{Keeping.is_live, Standing.TreeStands, Trees.{Tree as ATree, size}};
 
 use crate::registers::NONE;
 use shm_plain::PlainPool;
 use shm_words::Header;
 
 /// What a root names: a block, or 0.
-fn named_by(pool: &PlainPool, root: u8) -> u64
+fn root_block(pool: &PlainPool, root: u8) -> u64
     requires one { pool.now.start.geometry.clients ≡ 1 }
     requires root { root < 16 }
-    ensures { result ≡ named_by pool.now root }
+    ensures { result ≡ root_block pool.now root }
 {
     pool.word(pool.geometry().root(0, root))
 }
@@ -29,7 +29,7 @@ pub fn block_in(pool: &PlainPool, root: u8) -> u64
     if root == NONE {
         0
     } else {
-        named_by(pool, root)
+        root_block(pool, root)
     }
 }
 
@@ -38,7 +38,7 @@ pub fn block_in(pool: &PlainPool, root: u8) -> u64
 pub fn size_of(pool: &PlainPool, tree: u64) -> u32
     requires run { IsRun pool.now }
     requires tree { HasSearch pool.now tree }
-    ensures { (t : ATree) → Stands pool.now tree t → result ≡ size t }
+    ensures { (t : ATree) → TreeStands pool.now tree t → result ≡ size t }
 {
     if tree == 0 {
         return 0;

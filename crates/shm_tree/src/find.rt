@@ -2,7 +2,7 @@
 
 ghost use Rattle.std.specs.Prelude.{◌≡◌, ◌≢◌, ℕ, ◌+◌, ◌*◌, ◌-◌, ◌^◌, ◌<◌, ◌≤◌, Some, IfOk};
 ghost use Rattle.shm_plain.specs.Pools.{memo_of};
-ghost use Rattle.shm_tree.specs.{Building.IsAtHand, Looking.Looks, Standing.{Stands, weight}};
+ghost use Rattle.shm_tree.specs.{Building.IsAtHand, Looking.Looks, Standing.{TreeStands, weight}};
 ghost use Rattle.shm_tree.specs.Trees.{Tree as ATree, IsSearch, found, height};
 ghost use Rattle.shm_tree.specs.{Ways.{IsDeep, IsEnd, IsLast, IsPlace, down}, Working.{IsReached, IsWorking}};
 
@@ -26,10 +26,10 @@ pub fn find(pool: &mut PlainPool, tree: u32, wanted: u32, life: &mut Life) -> Re
     requires tree { IsAtHand pool.old tree }
     ensures looks { Looks result pool.old pool.new life.old.left life.new.left }
     ensures steps { IfOk result (λ w. life.old.left ≤ life.new.left + 5 * w.depth + 2) }
-    ensures place { IfOk result (λ w. (t : ATree) → Stands pool.old tree t → IsPlace pool.new w.node wanted w.depth t) }
+    ensures place { IfOk result (λ w. (t : ATree) → TreeStands pool.old tree t → IsPlace pool.new w.node wanted w.depth t) }
     ensures low { IfOk result (λ w. w.depth < 2 ^ 24) }
     ensures reached { IfOk result (λ w. IsReached pool.new w.node) }
-    ensures light { IfOk result (λ w. (f : ℕ → ℕ) (t : ATree) → Stands pool.old tree t → weight f pool.new w.node (down wanted t w.depth) ≤ weight f pool.old tree t) }
+    ensures light { IfOk result (λ w. (f : ℕ → ℕ) (t : ATree) → TreeStands pool.old tree t → weight f pool.new w.node (down wanted t w.depth) ≤ weight f pool.old tree t) }
 {
     let mut node = tree;
     let mut depth = 0;
@@ -55,12 +55,12 @@ pub fn above(
     requires working { IsWorking pool.old }
     requires latch { (memo_of pool.old 0).latch ≡ Some 0 }
     requires tree { IsAtHand pool.old tree }
-    requires deep { (t : ATree) → Stands pool.old tree t → IsDeep wanted t depth }
+    requires deep { (t : ATree) → TreeStands pool.old tree t → IsDeep wanted t depth }
     ensures looks { Looks result pool.old pool.new life.old.left life.new.left }
     ensures steps { IfOk result (λ w. life.old.left ≡ life.new.left + 5 * depth) }
-    ensures stands { IfOk result (λ w. (t : ATree) → Stands pool.old tree t → Stands pool.new w (down wanted t depth)) }
+    ensures stands { IfOk result (λ w. (t : ATree) → TreeStands pool.old tree t → TreeStands pool.new w (down wanted t depth)) }
     ensures reached { IfOk result (λ w. IsReached pool.new w) }
-    ensures light { IfOk result (λ w. (f : ℕ → ℕ) (t : ATree) → Stands pool.old tree t → weight f pool.new w (down wanted t depth) ≤ weight f pool.old tree t) }
+    ensures light { IfOk result (λ w. (f : ℕ → ℕ) (t : ATree) → TreeStands pool.old tree t → weight f pool.new w (down wanted t depth) ≤ weight f pool.old tree t) }
 {
     let mut node = tree;
     for _level in 0..depth {
@@ -76,13 +76,13 @@ pub fn last(pool: &mut PlainPool, place: Place, life: &mut Life) -> Result<Place
     requires working { IsWorking pool.old }
     requires latch { (memo_of pool.old 0).latch ≡ Some 0 }
     requires some { place.node ≢ 0 }
-    requires tree { (t : ATree) × Stands pool.old place.node t × IsSearch t }
+    requires tree { (t : ATree) × TreeStands pool.old place.node t × IsSearch t }
     requires reached { IsReached pool.old place.node }
     requires low { place.depth < 2 ^ 24 }
     ensures looks { Looks result pool.old pool.new life.old.left life.new.left }
     ensures steps { IfOk result (λ w. life.old.left ≡ life.new.left + 3 * (w.depth - place.depth + 1)) }
     ensures below { IfOk result (λ w. place.depth ≤ w.depth) }
-    ensures last { IfOk result (λ w. (x : ℕ) (t : ATree) → Stands pool.old place.node t → IsSearch t → IsEnd x t → IsLast pool.new w.node x (w.depth - place.depth) t) }
+    ensures last { IfOk result (λ w. (x : ℕ) (t : ATree) → TreeStands pool.old place.node t → IsSearch t → IsEnd x t → IsLast pool.new w.node x (w.depth - place.depth) t) }
     ensures reached { IfOk result (λ w. IsReached pool.new w.node) }
 {
     let mut lowest = place;
@@ -108,8 +108,8 @@ pub fn number_at(
     requires latch { (memo_of pool.old 0).latch ≡ Some 0 }
     requires tree { IsAtHand pool.old tree }
     ensures looks { Looks result pool.old pool.new life.old.left life.new.left }
-    ensures steps { IfOk result (λ o. (t : ATree) → Stands pool.old tree t → life.old.left ≤ life.new.left + 5 * height t + 4) }
-    ensures is { IfOk result (λ o. (t : ATree) → Stands pool.old tree t → o ≡ found wanted t) }
+    ensures steps { IfOk result (λ o. (t : ATree) → TreeStands pool.old tree t → life.old.left ≤ life.new.left + 5 * height t + 4) }
+    ensures is { IfOk result (λ o. (t : ATree) → TreeStands pool.old tree t → o ≡ found wanted t) }
 {
     let place = find(pool, tree, wanted, life)?;
     if place.node == 0 {

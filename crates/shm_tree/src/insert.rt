@@ -6,7 +6,7 @@ ghost use Rattle.shm_plain.specs.Pools.{memo_of};
 ghost use Rattle.shm_tree.specs.{Bounds.{insert_steps, lowest_steps}, Building.{Builds, IsAtHand, IsBuilt, rooms}};
 ghost use Rattle.shm_tree.specs.Inserting.{IsRegistered, StandsLowest, WeighsLowest, left_of, outside, right_of};
 ghost use Rattle.shm_tree.specs.{Looking.Looks, Living.{AreFewNew, AreLivesTrees, KeepsLives}, Sharing.IsFresh};
-ghost use Rattle.shm_tree.specs.{Standing.{Stands, weight}, Trees.{Tree as ATree, height, inserted}};
+ghost use Rattle.shm_tree.specs.{Standing.{TreeStands, weight}, Trees.{Tree as ATree, height, inserted}};
 ghost use Rattle.shm_tree.specs.Working.{IsReached, IsSpent, IsWorking};
 
 use crate::balance::raise;
@@ -24,11 +24,11 @@ fn trees_of(pool: &mut PlainPool, node: u32, life: &mut Life) -> Result<Pair, St
     requires node { IsAtHand pool.old node }
     ensures looks { Looks result pool.old pool.new life.old.left life.new.left }
     ensures steps { IfOk result (λ w. life.old.left ≤ life.new.left + 6) }
-    ensures near { IfOk result (λ w. (t : ATree) → Stands pool.old node t → Stands pool.old w.near (left_of t)) }
-    ensures far { IfOk result (λ w. (t : ATree) → Stands pool.old node t → Stands pool.old w.far (right_of t)) }
+    ensures near { IfOk result (λ w. (t : ATree) → TreeStands pool.old node t → TreeStands pool.old w.near (left_of t)) }
+    ensures far { IfOk result (λ w. (t : ATree) → TreeStands pool.old node t → TreeStands pool.old w.far (right_of t)) }
     ensures near_reached { IfOk result (λ w. IsReached pool.new w.near) }
     ensures far_reached { IfOk result (λ w. IsReached pool.new w.far) }
-    ensures light { IfOk result (λ w. (f : ℕ → ℕ) (t : ATree) → Stands pool.old node t → weight f pool.old w.near (left_of t) + weight f pool.old w.far (right_of t) ≤ weight f pool.old node t) }
+    ensures light { IfOk result (λ w. (f : ℕ → ℕ) (t : ATree) → TreeStands pool.old node t → weight f pool.old w.near (left_of t) + weight f pool.old w.far (right_of t) ≤ weight f pool.old node t) }
 {
     if node == 0 {
         Ok(Pair { near: 0, far: 0 })
@@ -70,13 +70,13 @@ pub fn insert(
     requires latch { (memo_of pool.old 0).latch ≡ Some 0 }
     requires room { 4 ≤ rooms pool.old }
     requires tree { IsRegistered pool.old tree }
-    ensures builds { (t : ATree) → Stands pool.old tree t → Builds (height t + 3) (insert_steps (height t) pool.old.start.geometry) result pool.old pool.new life.old.left life.new.left }
-    ensures built { IfOk result (λ m. (t : ATree) → Stands pool.old tree t → IsBuilt (height t + 3) m pool.old pool.new) }
-    ensures steps { IfOk result (λ m. (t : ATree) → Stands pool.old tree t → (IsSpent (memo_of pool.new 0) → ⊥) → AreLivesTrees pool.old → life.old.left ≤ life.new.left + insert_steps (height t) pool.old.start.geometry + tear_steps pool.old.start.geometry.wide (height t + 3)) }
-    ensures stands { IfOk result (λ m. (t : ATree) → Stands pool.old tree t → Stands pool.new m.block (inserted wanted number t)) }
+    ensures builds { (t : ATree) → TreeStands pool.old tree t → Builds (height t + 3) (insert_steps (height t) pool.old.start.geometry) result pool.old pool.new life.old.left life.new.left }
+    ensures built { IfOk result (λ m. (t : ATree) → TreeStands pool.old tree t → IsBuilt (height t + 3) m pool.old pool.new) }
+    ensures steps { IfOk result (λ m. (t : ATree) → TreeStands pool.old tree t → (IsSpent (memo_of pool.new 0) → ⊥) → AreLivesTrees pool.old → life.old.left ≤ life.new.left + insert_steps (height t) pool.old.start.geometry + tear_steps pool.old.start.geometry.wide (height t + 3)) }
+    ensures stands { IfOk result (λ m. (t : ATree) → TreeStands pool.old tree t → TreeStands pool.new m.block (inserted wanted number t)) }
     ensures rests { IfOk result (λ m. KeepsLives pool.old pool.new) }
-    ensures shares { IfOk result (λ m. (t : ATree) → Stands pool.old tree t → weight (outside pool.old tree t) pool.new m.block (inserted wanted number t) ≤ height t + 1) }
-    ensures lives { IfOk result (λ m. (t : ATree) → Stands pool.old tree t → (IsSpent (memo_of pool.new 0) → ⊥) → AreLivesTrees pool.old → AreFewNew (height t + 1) pool.old pool.new) }
+    ensures shares { IfOk result (λ m. (t : ATree) → TreeStands pool.old tree t → weight (outside pool.old tree t) pool.new m.block (inserted wanted number t) ≤ height t + 1) }
+    ensures lives { IfOk result (λ m. (t : ATree) → TreeStands pool.old tree t → (IsSpent (memo_of pool.new 0) → ⊥) → AreLivesTrees pool.old → AreFewNew (height t + 1) pool.old pool.new) }
 {
     let place = find(pool, tree, wanted, life)?;
     let content = Content {

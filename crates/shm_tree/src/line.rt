@@ -68,9 +68,9 @@ pub struct TreeScript {
 }
 
 impl Model for TreeScript {
-    ghost use Rattle.shm_tree.specs.Scripts.{Scripted};
+    ghost use Rattle.shm_tree.specs.Scripts.{TreeScripted};
 
-    ghost Value = { Scripted };
+    ghost Value = { TreeScripted };
 
     ghost view = { λ t. record { segments = t.segments; life = t.life; lines = t.lines.items } };
 }

@@ -2,8 +2,8 @@
 
 ghost use Rattle.std.specs.Prelude.{◌≡◌, ℕ, List, Ok, OnOk, IfErr, MatchResult};
 ghost use Rattle.shm_script.specs.Drafts.{Stops, StopsAt};
-ghost use Rattle.shm_tree.specs.ScriptTexts.{Spells};
-ghost use Rattle.shm_tree.specs.Scripts.{Scripted, draft_after, draft_none, drafted_line, judged, may_end, script_of};
+ghost use Rattle.shm_tree.specs.ScriptTexts.{SpellsScript};
+ghost use Rattle.shm_tree.specs.Scripts.{TreeScripted, draft_after, draft_none, drafted_line, judged, may_end, script_of};
 ghost use Rattle.shm_tree.specs.Shapes.{shape_of};
 
 use crate::judge::{FitTree, TreePlace, fit_tree, may_stand};
@@ -151,6 +151,6 @@ pub fn parse_tree(alloc: Global, bytes: &[u8]) -> Result<TreeScript, ParseStop>
 
 /// What is read of bytes is a script in its ranges, of which they are the one spelling; and each such spelling is read so.
 pub fn scripts_are_spelled()
-    ensures read { (bytes : List ℕ) (s : Scripted) → script_of bytes ≡ Ok s → Spells bytes s }
-    ensures again { (bytes : List ℕ) (s : Scripted) → Spells bytes s → script_of bytes ≡ Ok s }
+    ensures read { (bytes : List ℕ) (s : TreeScripted) → script_of bytes ≡ Ok s → SpellsScript bytes s }
+    ensures again { (bytes : List ℕ) (s : TreeScripted) → SpellsScript bytes s → script_of bytes ≡ Ok s }
 {}

@@ -3,11 +3,11 @@
 ghost use Rattle.std.specs.Prelude.{◌≡◌, ◌≢◌, ◌+◌, ◌*◌, ◌<◌, ◌≤◌, ◌⊎◌, ℕ, List, true, false, Ok, None, Some, slice_set, IfErr, IfOk, is_ok};
 ghost use Rattle.std.specs.Option.{is_some};
 ghost use Rattle.shm_plain.specs.Pools.{memo_of};
-ghost use Rattle.shm_tree.specs.{Bounds.drop_steps, Building.{named_by, rooms}};
+ghost use Rattle.shm_tree.specs.{Bounds.drop_steps, Building.{root_block, rooms}};
 ghost use Rattle.shm_tree.specs.Costing.{Costs, CostsLine, EndsLine, FewSet, MakesFew, Spends, StopsLine, copied_steps, copy_steps, del_steps, planted_steps, pruned_steps, read_steps, set_steps, sweep_steps};
 ghost use Rattle.shm_tree.specs.CutShort.{DiesHalfDone, IsCutShort, IsWordless};
-ghost use Rattle.shm_tree.specs.Forests.{Calls, DoesLine, HasVersions, IsForest, IsFree, IsInRange, IsLeft, IsOwn, IsPruned, IsPut, IsReading, IsSpare, IsSwept, IsTidy, IsUnspent, KeepsNamed, KeepsRegisters, Moves, Stopped, block_in, root_at, version};
-ghost use Rattle.shm_tree.specs.{Keeping.IsStill, Looking.Looks, Releasing.Releases, Standing.{IsTree, Stands}};
+ghost use Rattle.shm_tree.specs.Forests.{CallLeaves, DoesLine, HasVersions, IsForest, IsFree, IsInRange, IsLeft, IsOwn, IsPruned, IsPut, IsReading, IsSpare, IsSwept, IsTidy, IsUnspent, KeepsNamed, KeepsRegisters, Moves, CallStopped, block_in, root_at, version};
+ghost use Rattle.shm_tree.specs.{Keeping.IsStill, Looking.Looks, Releasing.Releases, Standing.{IsTree, TreeStands}};
 ghost use Rattle.shm_tree.specs.Trees.{Empty, Tree as ATree, found, height, inserted, removed};
 ghost use Rattle.shm_tree.specs.Working.{AreSameRoots, DiedBegun, IfAlive, IfRefused, IsInCall, IsOver, IsReached, IsRooted, IsSameLatch, IsSpent, IsUnderWay, IsWorking, Went};
 ghost use Rattle.shm_tree.specs.declared.line.TreeLine.TheVariants as lines;
@@ -58,13 +58,13 @@ fn read(pool: &mut PlainPool, root: u8, key: u32, life: &mut Life) -> Result<Opt
     requires working { IsWorking pool.old }
     requires latch { (memo_of pool.old 0).latch ≡ None }
     requires root { root ≤ 16 }
-    requires tree { (t : ATree) × Stands pool.old (block_in pool.old root) t }
+    requires tree { (t : ATree) × TreeStands pool.old (block_in pool.old root) t }
     ensures went { Went pool.old pool.new life.old.left life.new.left }
     ensures working { IfOk result (λ o. IsWorking pool.new) }
     ensures latch { IfOk result (λ o. IsSameLatch pool.old pool.new) }
     ensures still { IfOk result (λ o. IsStill pool.old pool.new) }
-    ensures is { IfOk result (λ o. (t : ATree) → Stands pool.old (block_in pool.old root) t → o ≡ found key t) }
-    ensures costs { IfOk result (λ o. (t : ATree) → Stands pool.old (block_in pool.old root) t → Costs 0 (read_steps (height t)) pool.old pool.new life.old.left life.new.left) }
+    ensures is { IfOk result (λ o. (t : ATree) → TreeStands pool.old (block_in pool.old root) t → o ≡ found key t) }
+    ensures costs { IfOk result (λ o. (t : ATree) → TreeStands pool.old (block_in pool.old root) t → Costs 0 (read_steps (height t)) pool.old pool.new life.old.left life.new.left) }
     ensures died { IfErr result (λ e. (e ≡ stop.Died) × (life.new.left ≡ 0) × (0 < life.old.left → IsUnderWay pool.new)) }
 {
     hold(pool, life)?;
@@ -114,7 +114,7 @@ fn planted(
     requires root { root ≤ 16 }
     requires tree { (t : ATree) × IsTree pool.old (block_in pool.old root) t }
     ensures off { IfErr result (λ e. e ≡ stop.Died → 0 < life.old.left → IsUnderWay pool.new) }
-    ensures calls { Calls KeepsNamed result pool.old pool.new life.old.left life.new.left }
+    ensures calls { CallLeaves KeepsNamed result pool.old pool.new life.old.left life.new.left }
     ensures rooted { IfOk result (λ m. IsRooted m.root m.block pool.old pool.new) }
     ensures some { IfOk result (λ m. m.block ≢ 0) }
     ensures is { IfOk result (λ m. (t : ATree) → IsTree pool.old (block_in pool.old root) t → IsTree pool.new m.block (inserted key number t)) }
@@ -133,12 +133,12 @@ fn copied(pool: &mut PlainPool, root: u8, life: &mut Life) -> Result<Made, Stop>
     requires working { IsWorking pool.old }
     requires room { 4 ≤ rooms pool.old }
     requires root { root < 16 }
-    requires some { named_by pool.old root ≢ 0 }
+    requires some { root_block pool.old root ≢ 0 }
     ensures off { IfErr result (λ e. e ≡ stop.Died → IsInCall pool.new ⊎ AreSameRoots pool.old pool.new) }
-    ensures calls { Calls KeepsNamed result pool.old pool.new life.old.left life.new.left }
+    ensures calls { CallLeaves KeepsNamed result pool.old pool.new life.old.left life.new.left }
     ensures rooted { IfOk result (λ m. IsRooted m.root m.block pool.old pool.new) }
     ensures some { IfOk result (λ m. m.block ≢ 0) }
-    ensures is { IfOk result (λ m. (t : ATree) → Stands pool.old (named_by pool.old root) t → Stands pool.new m.block t) }
+    ensures is { IfOk result (λ m. (t : ATree) → TreeStands pool.old (root_block pool.old root) t → TreeStands pool.new m.block t) }
     ensures costs { IfOk result (λ m. Costs 0 (copied_steps pool.old.start.geometry) pool.old pool.new life.old.left life.new.left) }
     ensures refused { IfRefused result (Spends 0 (copied_steps pool.old.start.geometry) pool.old pool.new life.old.left life.new.left) }
 {
@@ -159,7 +159,7 @@ fn pruned(
     requires root { root ≤ 16 }
     requires tree { (t : ATree) × IsTree pool.old (block_in pool.old root) t }
     ensures off { IfErr result (λ e. e ≡ stop.Died → 0 < life.old.left → IsUnderWay pool.new) }
-    ensures calls { Calls KeepsNamed result pool.old pool.new life.old.left life.new.left }
+    ensures calls { CallLeaves KeepsNamed result pool.old pool.new life.old.left life.new.left }
     ensures pruned { IfOk result (λ o. IsPruned key root o pool.old pool.new) }
     ensures costs { IfOk result (λ o. (t : ATree) → IsTree pool.old (block_in pool.old root) t → Costs (3 * height t) (pruned_steps (height t) pool.old.start.geometry) pool.old pool.new life.old.left life.new.left) }
     ensures refused { IfRefused result ((t : ATree) → IsTree pool.old (block_in pool.old root) t → Spends (3 * height t) (pruned_steps (height t) pool.old.start.geometry) pool.old pool.new life.old.left life.new.left) }
@@ -232,7 +232,7 @@ impl Registers {
         requires at { at < 12 }
         requires root { IsSpare self.old root }
         requires tree { (t : ATree) × IsTree self.old.pool (block_in self.old.pool root) t }
-        requires alone { (k : ℕ) → k < 16 → k ≢ root → IsFree self.old.roots k → named_by self.old.pool k ≡ 0 }
+        requires alone { (k : ℕ) → k < 16 → k ≢ root → IsFree self.old.roots k → root_block self.old.pool k ≡ 0 }
         ensures begun { IfErr result (λ e. DiedBegun e self.old.pool self.new.pool life.old.left) }
         ensures kept { IfErr result (λ e. self.new.roots ≡ self.old.roots) }
         ensures moves { Moves result self.old self.new life.old.left life.new.left }
@@ -413,7 +413,7 @@ impl Registers {
         requires alive { why ≢ stop.Died }
         ensures went { Went self.old.pool self.new.pool life.old.left life.new.left }
         ensures kept { result ≢ stop.Died → IsForest self.new × KeepsRegisters self.old self.new }
-        ensures why { (result ≡ why) ⊎ Stopped self.old.pool self.new.pool result }
+        ensures why { (result ≡ why) ⊎ CallStopped self.old.pool self.new.pool result }
         ensures died { IsOver result life.new.left }
         ensures spends { result ≢ stop.Died → Spends 0 (sweep_steps self.old.pool.start.geometry) self.old.pool self.new.pool life.old.left life.new.left }
         ensures swept { result ≢ stop.Died → IsSwept self.new }

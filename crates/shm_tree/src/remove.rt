@@ -7,7 +7,7 @@ ghost use Rattle.shm_tree.specs.Bounds.{remnant_steps, remove_steps, share_steps
 ghost use Rattle.shm_tree.specs.declared.node.Side.TheVariants.{Left, Right};
 ghost use Rattle.shm_tree.specs.{Building.{Builds, IsAtHand, block_of, rooms}, Inserting.IsRegistered};
 ghost use Rattle.shm_tree.specs.{Keeping.child_of, Looking.Looks, Living.{AreFewNew, AreLivesTrees, KeepsLives}};
-ghost use Rattle.shm_tree.specs.{Removing.{IsKept, IsRemoved, StandsMoved, content_in}, Standing.Stands};
+ghost use Rattle.shm_tree.specs.{Removing.{IsKept, IsRemoved, StandsMoved, content_in}, Standing.TreeStands};
 ghost use Rattle.shm_tree.specs.{Trees.{Tree as ATree, height}, Working.{IsSpent, IsWorking}};
 
 use crate::balance::raise;
@@ -88,7 +88,7 @@ fn next_of(
     requires some { lowest.node ≢ 0 }
     ensures looks { Looks result pool.old pool.new life.old.left life.new.left }
     ensures steps { IfOk result (λ o. life.old.left ≤ life.new.left + 4) }
-    ensures next { IfOk result (λ o. (t : ATree) → Stands pool.old lowest.node t → o ≡ (if lowest.depth == place.depth then None else Some (content_in t))) }
+    ensures next { IfOk result (λ o. (t : ATree) → TreeStands pool.old lowest.node t → o ≡ (if lowest.depth == place.depth then None else Some (content_in t))) }
 {
     if lowest.depth == place.depth {
         Ok(None)
@@ -120,11 +120,11 @@ pub fn remove(
     requires latch { (memo_of pool.old 0).latch ≡ Some 0 }
     requires room { 4 ≤ rooms pool.old }
     requires tree { IsRegistered pool.old tree }
-    ensures builds { (t : ATree) → Stands pool.old tree t → Builds (3 * height t) (remove_steps (height t) pool.old.start.geometry) result pool.old pool.new life.old.left life.new.left }
-    ensures removed { IfOk result (λ o. (t : ATree) → Stands pool.old tree t → IsRemoved wanted t o pool.old pool.new) }
-    ensures steps { IfOk result (λ o. (t : ATree) → Stands pool.old tree t → (IsSpent (memo_of pool.new 0) → ⊥) → AreLivesTrees pool.old → life.old.left ≤ life.new.left + remove_steps (height t) pool.old.start.geometry + tear_steps pool.old.start.geometry.wide (3 * height t)) }
+    ensures builds { (t : ATree) → TreeStands pool.old tree t → Builds (3 * height t) (remove_steps (height t) pool.old.start.geometry) result pool.old pool.new life.old.left life.new.left }
+    ensures removed { IfOk result (λ o. (t : ATree) → TreeStands pool.old tree t → IsRemoved wanted t o pool.old pool.new) }
+    ensures steps { IfOk result (λ o. (t : ATree) → TreeStands pool.old tree t → (IsSpent (memo_of pool.new 0) → ⊥) → AreLivesTrees pool.old → life.old.left ≤ life.new.left + remove_steps (height t) pool.old.start.geometry + tear_steps pool.old.start.geometry.wide (3 * height t)) }
     ensures rests { IfOk result (λ o. KeepsLives pool.old pool.new) }
-    ensures lives { IfOk result (λ o. (t : ATree) → Stands pool.old tree t → AreFewNew (3 * height t) pool.old pool.new) }
+    ensures lives { IfOk result (λ o. (t : ATree) → TreeStands pool.old tree t → AreFewNew (3 * height t) pool.old pool.new) }
 {
     let place = find(pool, tree, wanted, life)?;
     if place.node == 0 {

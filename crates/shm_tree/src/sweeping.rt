@@ -2,8 +2,8 @@
 
 ghost use Rattle.std.specs.Prelude.{◌≡◌, ◌≢◌, ◌<◌, ◌≤◌, ℕ, true, Ok, length, IfErr, IfOk, is_ok};
 ghost use Rattle.shm_plain.specs.Pools.{memo_of};
-ghost use Rattle.shm_tree.specs.{Bounds.drop_steps, Building.named_by, Costing.{Costs, Spends, sweep_steps}};
-ghost use Rattle.shm_tree.specs.{Forests.{Calls, IsFree, KeepsOthers, KeepsRoots}, Keeping.IsStill};
+ghost use Rattle.shm_tree.specs.{Bounds.drop_steps, Building.root_block, Costing.{Costs, Spends, sweep_steps}};
+ghost use Rattle.shm_tree.specs.{Forests.{CallLeaves, IsFree, KeepsOthers, KeepsRoots}, Keeping.IsStill};
 ghost use Rattle.shm_tree.specs.Working.{DiedBegun, IfRefused, IsSpent, IsWorking};
 
 use crate::calls::drop_root;
@@ -17,9 +17,9 @@ fn drop_other(pool: &mut PlainPool, roots: [u8; 12], root: u8, life: &mut Life) 
     requires working { IsWorking pool.old }
     requires long { length roots ≡ 12 }
     requires root { root < 16 }
-    ensures calls { Calls (KeepsRoots roots) result pool.old pool.new life.old.left life.new.left }
-    ensures others { IfOk result (λ u. (k : ℕ) → k ≢ root → named_by pool.new k ≡ named_by pool.old k) }
-    ensures empty { IfOk result (λ u. IsFree roots root → named_by pool.new root ≡ 0) }
+    ensures calls { CallLeaves (KeepsRoots roots) result pool.old pool.new life.old.left life.new.left }
+    ensures others { IfOk result (λ u. (k : ℕ) → k ≢ root → root_block pool.new k ≡ root_block pool.old k) }
+    ensures empty { IfOk result (λ u. IsFree roots root → root_block pool.new root ≡ 0) }
     ensures costs { IfOk result (λ u. Costs 0 (drop_steps pool.old.start.geometry 0) pool.old pool.new life.old.left life.new.left) }
     ensures refused { IfRefused result (Spends 0 (drop_steps pool.old.start.geometry 0) pool.old pool.new life.old.left life.new.left) }
     ensures spent { IfRefused result (IsSpent (memo_of pool.new 0)) }
@@ -39,8 +39,8 @@ fn drop_other(pool: &mut PlainPool, roots: [u8; 12], root: u8, life: &mut Life) 
 pub fn swept(pool: &mut PlainPool, roots: [u8; 12], life: &mut Life) -> Result<(), Stop>
     requires working { IsWorking pool.old }
     requires long { length roots ≡ 12 }
-    ensures calls { Calls (KeepsRoots roots) result pool.old pool.new life.old.left life.new.left }
-    ensures empty { IfOk result (λ u. (k : ℕ) → k < 16 → IsFree roots k → named_by pool.new k ≡ 0) }
+    ensures calls { CallLeaves (KeepsRoots roots) result pool.old pool.new life.old.left life.new.left }
+    ensures empty { IfOk result (λ u. (k : ℕ) → k < 16 → IsFree roots k → root_block pool.new k ≡ 0) }
     ensures costs { IfOk result (λ u. Costs 0 (sweep_steps pool.old.start.geometry) pool.old pool.new life.old.left life.new.left) }
     ensures refused { IfRefused result (Spends 0 (sweep_steps pool.old.start.geometry) pool.old pool.new life.old.left life.new.left) }
     ensures spent { IfRefused result (IsSpent (memo_of pool.new 0)) }
@@ -61,9 +61,9 @@ pub fn emptied(pool: &mut PlainPool, root: u8, life: &mut Life) -> Result<(), St
     requires root { root ≤ 16 }
     ensures begun { IfErr result (λ e. DiedBegun e pool.old pool.new life.old.left) }
     ensures idle { root ≡ 16 → is_ok result ≡ true }
-    ensures calls { Calls (KeepsOthers root) result pool.old pool.new life.old.left life.new.left }
-    ensures others { IfOk result (λ u. (k : ℕ) → k ≢ root → named_by pool.new k ≡ named_by pool.old k) }
-    ensures empty { IfOk result (λ u. root < 16 → named_by pool.new root ≡ 0) }
+    ensures calls { CallLeaves (KeepsOthers root) result pool.old pool.new life.old.left life.new.left }
+    ensures others { IfOk result (λ u. (k : ℕ) → k ≢ root → root_block pool.new k ≡ root_block pool.old k) }
+    ensures empty { IfOk result (λ u. root < 16 → root_block pool.new root ≡ 0) }
     ensures still { IfRefused result (IsStill pool.old pool.new) }
     ensures costs { IfOk result (λ u. Costs 0 (drop_steps pool.old.start.geometry 0) pool.old pool.new life.old.left life.new.left) }
     ensures refused { IfRefused result (Spends 0 (drop_steps pool.old.start.geometry 0) pool.old pool.new life.old.left life.new.left) }

@@ -4,7 +4,7 @@ use Rattle.std.specs.Fmt.{decimal}
 use Rattle.shm_graph.specs.{Blocks.classes, References.{live_count, references, references_in_all}, Spots.see}
 use Rattle.shm_plain.specs.Pools.{Pool}
 use Rattle.shm_script.specs.Text.{ended, spaced}
-use Rattle.shm_tree.specs.{declared.line.{TreeAnswer.TreeAnswer, TreeLine.TreeLine}, Scripts.Scripted}
+use Rattle.shm_tree.specs.{declared.line.{TreeAnswer.TreeAnswer, TreeLine.TreeLine}, Scripts.TreeScripted}
 use Rattle.shm_tree.specs.ScriptTexts.{line_spelled}
 use Rattle.shm_tree.specs.declared.line.TreeAnswer.TheVariants as answers
 use Rattle.shm_versions.specs.declared.treed.{Holding.Holding, Treed.Treed}
@@ -53,5 +53,5 @@ last_line p =
     codes "live " ++ decimal (live_count g w) ++ codes " refs " ++ decimal (references_in_all g (classes w) (references g.wide w)) ++ codes "\n"
 
 -- what is told of a run of this script
-abbrev pub text_of_run : Scripted → Treed → List ℕ
+abbrev pub text_of_run : TreeScripted → Treed → List ℕ
 text_of_run s r = answered_lines s.lines r.answers.items ++ (ending_of (length r.answers.items) r.holding ++ last_line r.closed)

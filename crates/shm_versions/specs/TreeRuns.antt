@@ -4,14 +4,14 @@ use Rattle.std.specs.{List.AllByRecursion, Option.is_some}
 use Rattle.shm_graph.specs.{References.live_count, Spots.see}
 use Rattle.shm_tree.specs.declared.line.{TreeAnswer.TreeAnswer, TreeLine.TreeLine}
 use Rattle.shm_tree.specs.ForestCalls.{IsClosedForest, IsFirstForest, RanLine}
-use Rattle.shm_tree.specs.{Forests.{Forested, HasVersions, IsAnswered, IsUnspent, versions_by}, Scripts.Scripted}
+use Rattle.shm_tree.specs.{Forests.{Forested, HasVersions, IsAnswered, IsUnspent, versions_by}, Scripts.TreeScripted}
 use Rattle.shm_tree.specs.Trees.{Empty, Tree, size}
 use Rattle.shm_tree.specs.declared.line.TreeAnswer.TheVariants as answers
 use Rattle.shm_tree.specs.declared.line.TreeTurn.TheVariants as turns
 use Rattle.shm_versions.specs.declared.treed.{Holding.Holding, Treed.Treed}
 
 -- how many word steps all lines of a script may make: its life, or 2^40
-abbrev pub life_of : Scripted → ℕ
+abbrev pub life_of : TreeScripted → ℕ
 life_of s = unwrap_or s.life (2 ^ 40)
 
 -- Lines that were run one after the other, from the forest f with x word steps left to g with y left: each was finished with its answer
@@ -36,7 +36,7 @@ abbrev pub first_versions : List Tree
 first_versions = replicate 12 Empty
 
 -- a forest with these versions holds this much
-pub record Holds (f : Forested) (ts : List Tree) (h : Holding) : Type 0 where
+pub record ForestHolds (f : Forested) (ts : List Tree) (h : Holding) : Type 0 where
   pub sizes : h.sizes ≡ map size ts
   pub nodes : h.nodes ≡ live_count f.registers.pool.start.geometry (see f.registers.pool.start.geometry f.registers.pool.words)
 
@@ -73,14 +73,14 @@ pub record IsPlayed (lines : List TreeLine) (answers : List TreeAnswer) (f : For
   pub ending : IsEnding whole rest last g left
 
 -- What a run of a script leaves: its forest was made, with empty registers; its lines were run until one wasn't finished; the versions behind the lines that were finished are those that the lines make, and each answer is one that may come of its line there; the own era isn't spent, and no line was refused since it is; what is told of the forest is what it held then; and the closed pool is what the last forest leaves
-pub record IsTreeRun (s : Scripted) (r : Treed) : Type 0 where
+pub record IsTreeRun (s : TreeScripted) (r : Treed) : Type 0 where
   pub first : Forested
   pub made : IsFirstForest s.segments first
   pub final : Forested
   pub played : IsPlayed s.lines r.answers.items first (life_of s) final (is_some r.holding)
   pub versions : HasVersions played.last.registers (versions_of played.done r.answers.items first_versions)
   pub answered : AreAnswered played.done r.answers.items first_versions
-  pub holding : IfSome r.holding (Holds played.last (versions_of played.done r.answers.items first_versions))
+  pub holding : IfSome r.holding (ForestHolds played.last (versions_of played.done r.answers.items first_versions))
   pub roomy : IsUnspent played.last.registers × IsUnspent final.registers
   pub unspent : AllByRecursion HasRoom r.answers.items
   pub closed : IsClosedForest final r.closed

@@ -6,7 +6,7 @@ ghost use Rattle.shm_graph.specs.Agents.{steps_made};
 ghost use Rattle.shm_plain.specs.Pools.{memo_of};
 ghost use Rattle.shm_tree.specs.{ForestCalls.IsClosedForest, Forests.HasVersions, ScriptTexts.{IsScript, LineFits}};
 ghost use Rattle.shm_tree.specs.Trees.{Tree as ATree};
-ghost use Rattle.shm_versions.specs.TreeRuns.{Holds, IsPlayed, IsTreeRun, life_of};
+ghost use Rattle.shm_versions.specs.TreeRuns.{ForestHolds, IsPlayed, IsTreeRun, life_of};
 
 use crate::treed::{Holding, Treed};
 use shm_graph::Life;
@@ -49,7 +49,7 @@ fn play(
 /// How much a forest holds.
 fn holding_of(forest: &Forest) -> Holding
     requires { forest.now.died ≡ false }
-    ensures { (ts : List ATree) → HasVersions forest.now.registers ts → Holds forest.now ts result }
+    ensures { (ts : List ATree) → HasVersions forest.now.registers ts → ForestHolds forest.now ts result }
 {
     let mut sizes = [0; 12];
     for at in 0..12u8 {
@@ -65,7 +65,7 @@ fn holding_of(forest: &Forest) -> Holding
 fn held_after(forest: &Forest, whole: bool) -> Option<Holding>
     requires { forest.now.died ≡ not whole }
     ensures whole { is_some result ≡ whole }
-    ensures holds { (ts : List ATree) → HasVersions forest.now.registers ts → IfSome result (Holds forest.now ts) }
+    ensures holds { (ts : List ATree) → HasVersions forest.now.registers ts → IfSome result (ForestHolds forest.now ts) }
 {
     if whole {
         Some(holding_of(forest))

@@ -2,12 +2,12 @@
 use Rattle.std.proofs.Common.{◌≡◌, ℕ, Option, None, Some, IfSome, refl, sym, ap, ◌∙◌, subst}
 use Rattle.shm_graph.specs.{declared.{ask.Me.Me, memo.Memo.Memo}, Laws.Control}
 use Rattle.shm_plain.specs.Pools.{Pool, memo_of}
-use Rattle.shm_calls.specs.{CallsControl.calls_of, Plans.Planned}
+use Rattle.plans.specs.{CallsControl.calls_of, Plans.Planned}
 use Rattle.shm_client.proofs.Running.{MachineLeft, PlanLeft, Said}
-use Rattle.t_calls.specs.Running.{HasRun, Leaves}
+use Rattle.t_calls.specs.Running.{HasRun, PlanLeaves}
 
 -- what its machine leaves the plan leaves
-pub plan_leaves : {P C B A : Type 0} (k : Control C B) (q : Planned P C B A) (s : P) (c : ℕ) (p r : Pool) (o : Option A) → MachineLeft k q (calls_of q.steered s) c p r o → IfSome o (Leaves q s c p r)
+pub plan_leaves : {P C B A : Type 0} (k : Control C B) (q : Planned P C B A) (s : P) (c : ℕ) (p r : Pool) (o : Option A) → MachineLeft k q (calls_of q.steered s) c p r o → IfSome o (PlanLeaves q s c p r)
 plan_leaves k q s c p r None h = tt
 plan_leaves k q s c p r (Some a) h = (_, h.0, h.1)
 

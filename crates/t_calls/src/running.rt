@@ -6,7 +6,7 @@ ghost use Rattle.shm_count.specs.Roots.{member};
 ghost use Rattle.t_calls.specs.Running.{HasRun};
 
 use crate::telling::tell;
-use shm_calls::Task;
+use plans::Task;
 use shm_graph::Life;
 use shm_plain::PlainPool;
 use std::{fmt, io};

@@ -6,7 +6,7 @@ ghost use Rattle.shm_words.specs.Layout.{GeometryFits};
 
 use crate::op::{Op, perform};
 use crate::pool::Pool;
-use shm_calls::Calls;
+use plans::Calls;
 use shm_count::{Commit, CommitTest};
 use shm_graph::{Machine, Me, Turn};
 use shm_recover::{Join, Mend};

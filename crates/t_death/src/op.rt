@@ -2,7 +2,7 @@
 
 ghost use Rattle.std.specs.Prelude.{◌≡◌, ◌<◌, IfSome, true};
 ghost use Rattle.shm_words.specs.Layout.{GeometryFits, address_limit};
-ghost use Rattle.shm_table.specs.Command.{MayStand};
+ghost use Rattle.shm_table.specs.Command.{LineMayStand};
 
 use crate::pool::Pool;
 use shm_alloc::Alloc;
@@ -58,7 +58,7 @@ pub enum Op {
 
 /// Whether the line may stand in the script of this identity.
 pub fn may_stand(me: Me, line: Line) -> bool
-    ensures { result ≡ true → MayStand me line }
+    ensures { result ≡ true → LineMayStand me line }
 {
     let clients = me.geometry.clients();
     match line {
@@ -107,7 +107,7 @@ pub fn perform(pool: &mut Pool, me: Me, op: Op, most: u32) -> Option<u32>
 fn perform_line(pool: &mut Pool, me: Me, line: &Line, most: u32) -> Option<u32>
     requires geometry { GeometryFits me.geometry }
     requires who { me.who < me.geometry.clients }
-    requires line { MayStand me line.now }
+    requires line { LineMayStand me line.now }
 {
     pool.advance(&mut Command::new(me, line), most)
 }

@@ -2,7 +2,7 @@
 
 ghost use Rattle.shm_words.specs.Layout.{GeometryFits};
 
-use shm_calls::{Calls, Plan};
+use plans::{Calls, Plan};
 use shm_graph::Machine;
 use shm_words::Geometry;
 use std::alloc::{AllocError, Global};

@@ -20,5 +20,5 @@ abbrev pub IsPeer : Acting → ℕ → Type 0
 IsPeer t c = (c < t.of.start.geometry.clients) × (c ≢ t.account.who)
 
 -- it is the same identity of the same pool
-abbrev pub Stays : Acting → Acting → Type 0
-Stays t t' = (t'.of ≡ t.of) × (t'.account.who ≡ t.account.who)
+abbrev pub SameIdentity : Acting → Acting → Type 0
+SameIdentity t t' = (t'.of ≡ t.of) × (t'.account.who ≡ t.account.who)

@@ -4,7 +4,7 @@ ghost use Rattle.std.specs.Prelude.{◌≡◌, ◌≢◌, ◌<◌, true, IfOk, I
 ghost use Rattle.shm_words.specs.Layout.{GeometryFits};
 ghost use Rattle.shm_script.specs.Ranges.{LineFits};
 ghost use Rattle.shm_pool.specs.{Called.HasCommanded, Tokens.token_first};
-ghost use Rattle.t_pool.specs.Tables.{IsFirst, IsOpen, IsPeer, Stays};
+ghost use Rattle.t_pool.specs.Tables.{IsFirst, IsOpen, IsPeer, SameIdentity};
 
 use crate::recovering::bury;
 use crate::team::{pop_of, put_back};
@@ -39,7 +39,7 @@ pub fn run_line(
     requires pool { client.old.of ≡ pool.now }
     requires open { IsOpen client.old }
     requires line { LineFits client.old.of.start.geometry.clients client.old.account.who line.now }
-    ensures same { Stays client.old client.new }
+    ensures same { SameIdentity client.old client.new }
     ensures open { IsOpen client.new }
 {
     // for the proof: it is a client's
@@ -62,7 +62,7 @@ fn play_round(
     requires open { IsOpen client.old }
     requires peers { IsPeer client.old peers.0 × (peers.1 < client.old.of.start.geometry.clients) }
     requires key { key < 16 }
-    ensures same { Stays client.old client.new }
+    ensures same { SameIdentity client.old client.new }
     ensures open { IsOpen client.new }
 {
     let (other, author) = peers;
@@ -97,7 +97,7 @@ pub fn play(
     requires pool { client.old.of ≡ pool.now }
     requires open { IsOpen client.old }
     requires peers { IsPeer client.old peers.0 × (peers.1 < client.old.of.start.geometry.clients) }
-    ensures same { Stays client.old client.new }
+    ensures same { SameIdentity client.old client.new }
     ensures open { IsOpen client.new }
 {
     for round in 0..rounds {
@@ -124,7 +124,7 @@ fn play_on(pool: &SharedPool, mut client: Client, peers: (u8, u8)) -> (Client, u
     requires pool { client.of ≡ pool.now }
     requires open { IsOpen client }
     requires peers { IsPeer client peers.0 × (peers.1 < client.of.start.geometry.clients) }
-    ensures same { Stays client result.0 }
+    ensures same { SameIdentity client result.0 }
     ensures open { IsOpen result.0 }
 {
     let rounds = play(&mut client, pool, &mut Life::of(u64::MAX), peers, 50);
@@ -144,7 +144,7 @@ fn fall_beside<R: Threads + Sync>(
     requires two { pool.now.start.geometry.clients ≡ 2 }
     requires open { IsOpen first × IsOpen second }
     ensures corpse { result.0.of ≡ pool.now }
-    ensures client { Stays second result.1.0 × IsOpen result.1.0 }
+    ensures client { SameIdentity second result.1.0 × IsOpen result.1.0 }
 {
     thread::join(
         rt,
@@ -165,7 +165,7 @@ fn bury_beside<R: Threads + Sync>(
     requires two { pool.now.start.geometry.clients ≡ 2 }
     requires open { IsOpen client }
     ensures buried { IfOk result.0 (λ v. v.of ≡ pool.now) }
-    ensures client { Stays client result.1.0 × IsOpen result.1.0 }
+    ensures client { SameIdentity client result.1.0 × IsOpen result.1.0 }
 {
     thread::join(
         rt,

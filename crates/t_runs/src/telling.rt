@@ -2,7 +2,7 @@
 
 use crate::case::{Case, Other, put};
 use crate::make;
-use shm_calls::{Calls, Plan};
+use plans::{Calls, Plan};
 use shm_graph::{Ask, Machine, Turn};
 use std::{fmt, io};
 

@@ -5,7 +5,7 @@ use Rattle.shm_words.specs.Layout.{GeometryFits}
 use Rattle.shm_graph.specs.{declared.{ask.Me.Me, memo.Memo.Memo, run.{Account.Account, Start.Start}}, Agents.acts}
 use Rattle.shm_graph.specs.{Asks.{Trail, call_before}, Idle.IsIdle, Laws.Laws, Runs.{account_died, changed, memos_of}}
 use Rattle.shm_graph.specs.{Tells.after_all, Whole.fits_now}
-use Rattle.shm_steps.specs.Reparting.{map_in}
+use Rattle.kind_parts.specs.Reparting.{map_in}
 use Rattle.shm_plain.specs.{Calls.{IsAtWork, Ran}, Pools.{IsOf, Pool, after_fall, memo_of, readied}}
 use Rattle.shm_plain.proofs.{Calling.{Went, may_acting, ready_still, went_first}, Called.fits_first}
 use Rattle.shm_count.specs.Roots.{member}

@@ -7,7 +7,7 @@ use Rattle.shm_graph.specs.{declared.spot.Spot.TheVariants.Body, Runs.memos_of, 
 use Rattle.shm_graph.specs.{Views.{owner_is, own_word, view}, Core.core}
 use Rattle.shm_graph.specs.Reach.{binds_unlatched, is_dying, is_latch_of, is_named, is_reached, named_blocks, unlatched}
 use Rattle.shm_graph.proofs.Memos.KnownChange.{KnownHolds}
-use Rattle.shm_laws.proofs.Keep.{Contains-filter}
+use Rattle.kind_laws.proofs.Lists.{Contains-filter}
 use Rattle.shm_plain.specs.Pools.{IsRun, Pool, memo_of}
 use Rattle.shm_count.specs.{Proved.Retaining.named_reached, Roots.root_word, Tear.Memos.Knows}
 use Rattle.shm_count.proofs.RootSpots.{roots_reached}

@@ -5,10 +5,10 @@ use Rattle.shm_graph.specs.{declared.{ask.Me.Me, memo.Memo.Memo}, Asks.Trail, Ev
 use Rattle.shm_count.specs.{declared.answer.Made.Made, Roots.root_word}
 use Rattle.shm_ref.specs.SetHome.{HomeFilled}
 use Rattle.t_uses.specs.Blocks.{AreRooted, IsMade}
-use Rattle.t_uses.proofs.Frees.{Rests}
+use Rattle.t_uses.proofs.Frees.{KeepsLists}
 
 -- a home that was set leaves what waits as it was
-pub home_rests : (me : Me) (b : ℕ) (m r : Memo) (tr : Trail) (es : List Event) → HomeFilled me b m r tr es → is_loose r.part ≡ is_loose m.part → Rests m r
+pub home_rests : (me : Me) (b : ℕ) (m r : Memo) (tr : Trail) (es : List Event) → HomeFilled me b m r tr es → is_loose r.part ≡ is_loose m.part → KeepsLists m r
 home_rests me b m r tr es h loose =
     record {
       loose = loose;

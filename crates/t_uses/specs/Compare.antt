@@ -4,8 +4,8 @@ use Rattle.std.specs.Prelude.{◌≡◌, ℕ, ◌<◌, Bool, true, false, ◌==�
 use Rattle.shm_words.specs.Layout.{GeometryFits}
 use Rattle.shm_graph.specs.{declared.{ask.Me.Me, memo.Memo.Memo}, Asks.{Trail, pair}, Core.core, Events.Event}
 use Rattle.shm_graph.specs.Laws.{Control}
-use Rattle.shm_calls.specs.{declared.{calls.Calls.Calls, word.Word.Word}, CallsControl.{calls_control, calls_of}}
-use Rattle.shm_calls.specs.{CallsPart.calls_part, Plans.Planned, Words.word_control, Steering.Steered}
+use Rattle.plans.specs.{declared.{calls.Calls.Calls, word.Word.Word}, CallsControl.{calls_control, calls_of}}
+use Rattle.plans.specs.{CallsPart.calls_part, Plans.Planned, Words.word_control, Steering.Steered}
 use Rattle.shm_count.specs.Roots.{root_word}
 use Rattle.shm_ref.specs.{declared.root_of.NamingState.NamingState, Lefts.MayDrop}
 use Rattle.shm_ref.specs.RootOf.{naming, naming_ask, naming_plan, naming_steered}
@@ -16,7 +16,7 @@ use Rattle.t_uses.specs.declared.machine.CompareState.{CompareState}
 
 -- its calls, each of which asks what a root names
 abbrev pub CompareCall : Type 0
-CompareCall = Calls NamingState Word ℕ ℕ
+CompareCall = Calls NamingState Word
 
 -- their control
 abbrev pub root_of : Control CompareCall ℕ

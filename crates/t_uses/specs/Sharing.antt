@@ -15,5 +15,5 @@ pub record IsQuiet (t : Acting) : Type 0 where
   pub untaken : t.dead ≡ false → (j : ℕ) → slice_index t.account.memo.untaken j ≡ 0
 
 -- it is the same identity of the same pool
-abbrev pub Stays : Acting → Acting → Type 0
-Stays t t' = (t'.of ≡ t.of) × (t'.account.who ≡ t.account.who)
+abbrev pub SameIdentity : Acting → Acting → Type 0
+SameIdentity t t' = (t'.of ≡ t.of) × (t'.account.who ≡ t.account.who)

@@ -9,7 +9,7 @@ ghost use Rattle.t_uses.specs.Compare.{CompareMay, comparing, compare_plan, Laws
 ghost use Rattle.t_uses.specs.declared.stop.Stop.TheVariants as stop;
 
 use crate::stop::Stop;
-use shm_calls::{Calls, Plan, Task};
+use plans::{Calls, Plan, Task};
 use shm_client::{allocate, joined};
 use shm_graph::{Life, Machine, Me};
 use shm_plain::PlainPool;

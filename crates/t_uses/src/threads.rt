@@ -3,7 +3,7 @@
 ghost use Rattle.std.specs.Prelude.{◌≡◌, ◌≢◌, ◌<◌, [], IfOk, IfSome};
 ghost use Rattle.shm_words.specs.Layout.{GeometryFits};
 ghost use Rattle.shm_pool.specs.{Called.{HasRoot, Rests}, Tokens.{first_tokens, token_first}};
-ghost use Rattle.t_uses.specs.Sharing.{IsFirst, IsQuiet, Stays};
+ghost use Rattle.t_uses.specs.Sharing.{IsFirst, IsQuiet, SameIdentity};
 
 use shm_alloc::alloc_keeps;
 use shm_count::Made;
@@ -31,7 +31,7 @@ fn enter(pool: &SharedPool, token: Vacant) -> Option<Client>
 fn make(client: &mut Client, pool: &SharedPool, life: &mut Life) -> Option<Made>
     requires pool { client.old.of ≡ pool.now }
     requires quiet { IsQuiet client.old }
-    ensures same { Stays client.old client.new }
+    ensures same { SameIdentity client.old client.new }
     ensures rests { Rests client.new }
     ensures root { IfSome result (λ made. HasRoot made client.new × IsQuiet client.new) }
 {
@@ -49,7 +49,7 @@ fn give(client: &mut Client, pool: &SharedPool, life: &mut Life, to: u8) -> Opti
     requires pool { client.old.of ≡ pool.now }
     requires quiet { IsQuiet client.old }
     requires to { (to < client.old.of.start.geometry.clients) × (client.old.account.who ≢ to) }
-    ensures same { Stays client.old client.new }
+    ensures same { SameIdentity client.old client.new }
     ensures rests { Rests client.new }
     ensures root { IfSome result (λ made. made.root < 16) }
 {
@@ -65,7 +65,7 @@ fn take(client: &mut Client, pool: &SharedPool, life: &mut Life, from: u8) -> Op
     requires pool { client.old.of ≡ pool.now }
     requires quiet { IsQuiet client.old }
     requires from { (from < client.old.of.start.geometry.clients) × (from ≢ client.old.account.who) }
-    ensures same { Stays client.old client.new }
+    ensures same { SameIdentity client.old client.new }
     ensures rests { Rests client.new }
     ensures root { IfSome result (λ made. HasRoot made client.new) }
 {
@@ -82,7 +82,7 @@ fn read_and_drop(client: &mut Client, pool: &SharedPool, life: &mut Life, made: 
     requires pool { client.old.of ≡ pool.now }
     requires rests { Rests client.old }
     requires root { HasRoot made client.old }
-    ensures same { Stays client.old client.new }
+    ensures same { SameIdentity client.old client.new }
     ensures rests { Rests client.new }
 {
     let Reply::Done(Ok(word)) = client.read(pool, life, made.block, 0) else {

@@ -2,7 +2,7 @@
 use Rattle.std.proofs.Common.{◌≡◌, Bool, true, List}
 use Rattle.std.specs.Prelude.{Result}
 use Rattle.shm_graph.specs.{declared.memo.Memo.Memo, Asks.Trail, Events.Event}
-use Rattle.shm_calls.specs.{Grown.Grows, MadeStays.making_part, Parts.Part}
+use Rattle.plans.specs.{Grown.Grows, MadeStays.making_part, Parts.Part}
 use Rattle.shm_count.specs.declared.answer.Made.{Made}
 use Rattle.shm_alloc.specs.declared.{alloc.AllocFault.AllocFault, point.AllocPoint.TheVariants.Era}
 use Rattle.shm_alloc.specs.{declared.point.AllocState.AllocState, Alloc.Control.{AllocInRange, alloc_control}}

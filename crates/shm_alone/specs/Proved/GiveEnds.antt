@@ -3,7 +3,7 @@ use Rattle.std.proofs.Common.{◌≡◌, ◌≢◌, ℕ, ◌+◌, ◌*◌, ◌-�
 use Rattle.std.proofs.lemmas.Bool.{eqb-false}
 use Rattle.std.specs.Prelude.{◌==◌, if◌then◌else◌, List}
 use Rattle.shm_graph.specs.{declared.memo.Memo.Memo, Asks.Trail, Events.Event, Laws.Outcome}
-use Rattle.shm_calls.specs.{CallsControl.calls_does, CallsFit.CallsFits, Words.word_control}
+use Rattle.plans.specs.{CallsControl.calls_does, CallsFit.CallsFits, Words.word_control}
 use Rattle.shm_recover.specs.declared.give_up.GivePoint.{GivePoint, TheVariants.{Look, Give, Status}}
 use Rattle.shm_recover.specs.declared.give_up.GiveState.{GiveState}
 use Rattle.shm_recover.specs.GiveUp.{Control.{after_word, is_first, next_segment, turns_word}, GiveKnows, give_plan}

@@ -6,9 +6,8 @@ use Rattle.shm_words.specs.Layout.{GeometryFits}
 use Rattle.shm_words.proofs.Placing.{segments_few}
 use Rattle.shm_graph.specs.{declared.{ask.Me.Me, memo.Memo.Memo, spot.Spot.Spot}, Asks.Trail, Events.Event}
 use Rattle.shm_graph.specs.Laws.{Outcome}
-use Rattle.shm_calls.specs.declared.or.Or.TheVariants.{First, Second}
-use Rattle.shm_calls.specs.{CallsControl.{calls_control, calls_does, calls_of}, CallsFit.CallsFits}
-use Rattle.shm_calls.specs.Words.{WordFits, word_control, word_does}
+use Rattle.plans.specs.{declared.or.Or.TheVariants.{First, Second}, CallsControl.{calls_control, calls_does, calls_of}}
+use Rattle.plans.specs.{CallsFit.CallsFits, Words.{WordFits, word_control, word_does}}
 use Rattle.shm_ref.specs.DropRoots.{Control.{drop_root, roots_steered}, roots_plan}
 use Rattle.shm_recover.specs.declared.leave.LeavePoint.{LeavePoint, TheVariants.{Roots, Look, Give, Status}}
 use Rattle.shm_recover.specs.declared.leave.LeaveState.{LeaveState}

@@ -7,11 +7,11 @@ use Rattle.shm_graph.specs.{Agents.recovers, Changes.memo_on, Events.Event}
 use Rattle.shm_graph.specs.{Laws.{Control, Ends, Frame, KeptAt, Outcome, Stands, Then, framed}, Mapped.OnTheWay}
 use Rattle.shm_graph.specs.{Tells.happens_along, Views.at1}
 use Rattle.shm_graph.proofs.{Memos.MemoSteps.recovers_on, Runs.Lists.at1_here, StepKinds.KindKeeping.not_fresh}
-use Rattle.shm_calls.specs.declared.{calls.Calls.Calls, or.Or.{Or, TheVariants.{First, Second}}}
-use Rattle.shm_calls.specs.{CallsControl.{answered, called_on, calls_control, calls_does, planned}, CallsFit.CallsFits}
-use Rattle.shm_calls.specs.{Either.{OrFits, or_control, or_does}, Proved.Either.told_outcome}
-use Rattle.shm_calls.specs.{EventWords.{EventFits, event_does}, Parts.IsHeld, Placed.MayStand}
-use Rattle.shm_calls.specs.{Plans.{PlanLaws, Planned}, Words.{WordFits, word_control, word_does}}
+use Rattle.plans.specs.declared.{calls.Calls.Calls, or.Or.{Or, TheVariants.{First, Second}}}
+use Rattle.plans.specs.{CallsControl.{answered, called_on, calls_control, calls_does, planned}, CallsFit.CallsFits}
+use Rattle.plans.specs.{Either.{OrFits, or_control, or_does}, Proved.Either.told_outcome}
+use Rattle.plans.specs.{EventWords.{EventFits, event_does}, Parts.IsHeld, Placed.MayStand, Plans.{PlanLaws, Planned}}
+use Rattle.plans.specs.Words.{WordFits, word_control, word_does}
 use Rattle.shm_alone.specs.Alone.{EndsAlone, IsLoss, IsPaid, pay, weight}
 use Rattle.shm_alone.specs.Lifting.{calls_alone, calls_left, anything, or_alone, or_left, or_saved, word_left, word_saved}
 
@@ -38,7 +38,7 @@ module _ {P C B A : Type 0} (k : Control C B) (q : Planned P C B A) (alone : C �
   pub record PlanEnds : Type 0 where
     pub parts : (p : P) → EndsAlone k (q.part p).does alone left saved (q.part p).fits
     pub begins : (p : P) (w : Spot → ℕ) → stands p w → alone (q.steered.call p) w
-    pub follows : (m : Calls P C A B) (r0 : Memo) (tr : Trail) (w : Spot → ℕ) (r : ℕ → Memo) (f : Frame) → k.finished m.call ≡ false → Stands (q.steered.me m.plan) w r f tr → CallsFits k q m r0 (r (q.steered.me m.plan).who) tr → calls_alone alone stands m w
+    pub follows : (m : Calls P C) (r0 : Memo) (tr : Trail) (w : Spot → ℕ) (r : ℕ → Memo) (f : Frame) → k.finished m.call ≡ false → Stands (q.steered.me m.plan) w r f tr → CallsFits k q m r0 (r (q.steered.me m.plan).who) tr → calls_alone alone stands m w
         → let a = k.asks m.call in
         let p = spot_at (q.steered.me m.plan).geometry (classes w) (at_of a) in
         let n = seen_of a (w p) in
@@ -50,7 +50,7 @@ module _ {P C B A : Type 0} (k : Control C B) (q : Planned P C B A) (alone : C �
 ends_more : (call u t : Trail) → Ends call (u ++ t) → Ends call t
 ends_more call u t (before, e) = (before ++ u, e ∙ sym (append_assoc before u t))
 
-module _ {P C B A : Type 0} (k : Control C B) (q : Planned P C B A) (m : Calls P C A B) (r0 : Memo) (tr : Trail) (w : Spot → ℕ) (r : ℕ → Memo) (f : Frame) (s : Stands (q.steered.me m.plan) w r f tr) (fit : CallsFits k q m r0 (r (q.steered.me m.plan).who) tr) where
+module _ {P C B A : Type 0} (k : Control C B) (q : Planned P C B A) (m : Calls P C) (r0 : Memo) (tr : Trail) (w : Spot → ℕ) (r : ℕ → Memo) (f : Frame) (s : Stands (q.steered.me m.plan) w r f tr) (fit : CallsFits k q m r0 (r (q.steered.me m.plan).who) tr) where
   -- the call stands where the whole does
   call_stands : Stands (k.me m.call) w r f fit.t
   call_stands =
@@ -158,7 +158,7 @@ module _ {P C B A : Type 0} (k : Control C B) (q : Planned P C B A) (alone : C �
 
   module _ (l : PlanLaws k q) (d : PlainEnds) where
     -- what a call left, where it has answered: it is what is asked of the plan
-    plain_follows : (m : Calls P C A B) (r0 : Memo) (tr : Trail) (w : Spot → ℕ) (r : ℕ → Memo) (f : Frame) → k.finished m.call ≡ false → Stands (q.steered.me m.plan) w r f tr → CallsFits k q m r0 (r (q.steered.me m.plan).who) tr
+    plain_follows : (m : Calls P C) (r0 : Memo) (tr : Trail) (w : Spot → ℕ) (r : ℕ → Memo) (f : Frame) → k.finished m.call ≡ false → Stands (q.steered.me m.plan) w r f tr → CallsFits k q m r0 (r (q.steered.me m.plan).who) tr
         → let a = k.asks m.call in
         let p = spot_at (q.steered.me m.plan).geometry (classes w) (at_of a) in
         let n = seen_of a (w p) in

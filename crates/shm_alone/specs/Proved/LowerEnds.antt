@@ -6,10 +6,10 @@ use Rattle.shm_words.specs.Headers.{header_of}
 use Rattle.shm_graph.specs.declared.{ask.Ask.Ask, memo.Memo.Memo, spot.Spot.{Spot, TheVariants.Head}}
 use Rattle.shm_graph.specs.{Asks.{Trail, at_of, seen_of, words_after}, Blocks.classes}
 use Rattle.shm_graph.specs.{Events.{ChangeDown, Event, Nothing}, Laws.{Frame, Stands}, Spots.spot_at, Tells.after_all}
-use Rattle.shm_calls.specs.{declared.word.Word.Word, CallsControl.{calls_control, calls_does}, CallsFit.CallsFits}
-use Rattle.shm_calls.specs.{Grown.Grows, Words.{WordFits, word_control, word_does}}
+use Rattle.plans.specs.{declared.word.Word.Word, CallsControl.{calls_control, calls_does}, CallsFit.CallsFits}
+use Rattle.plans.specs.{Grown.Grows, Words.{WordFits, word_control, word_does}}
 use Rattle.shm_count.specs.Proved.Step.BeforeExchange.{row_spot}
-use Rattle.shm_steps.specs.WordParts.{former_event}
+use Rattle.kind_parts.specs.WordParts.{former_event}
 use Rattle.shm_recover.specs.declared.mend_lower.MendLowerPoint.{MendLowerPoint}
 use Rattle.shm_recover.specs.declared.mend_lower.MendLowerPoint.TheVariants.{Header, Row, Show, Exchange, Close}
 use Rattle.shm_recover.specs.declared.mend_lower.MendLowerState.{MendLowerState}

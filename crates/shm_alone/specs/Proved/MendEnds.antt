@@ -5,9 +5,9 @@ use Rattle.shm_words.specs.{declared.redo.Redo.Redo as ARedo, Redos.redo_of}
 use Rattle.shm_words.specs.declared.redo.Redo.TheVariants as redos
 use Rattle.shm_graph.specs.{declared.{memo.Memo.Memo, spot.Spot.Spot}, Asks.Trail, Bounds.redo_steps, Events.Event}
 use Rattle.shm_graph.specs.Laws.{Outcome}
-use Rattle.shm_calls.specs.{declared.or.Or.TheVariants.{First, Second}, CallsControl.{calls_control, calls_does}}
-use Rattle.shm_calls.specs.{CallsFit.CallsFits, Either.{OrFits, or_control, or_does}}
-use Rattle.shm_calls.specs.Words.{WordFits, word_control, word_does}
+use Rattle.plans.specs.{declared.or.Or.TheVariants.{First, Second}, CallsControl.{calls_control, calls_does}}
+use Rattle.plans.specs.{CallsFit.CallsFits, Either.{OrFits, or_control, or_does}}
+use Rattle.plans.specs.Words.{WordFits, word_control, word_does}
 use Rattle.shm_count.specs.declared.commit_test.Commit.{Commit, TheVariants.{Committed, NotCommitted}}
 use Rattle.shm_count.specs.CommitTest.{testing_plan, Control.testing_steered}
 use Rattle.shm_recover.specs.declared.mend.MendPoint.{MendPoint}

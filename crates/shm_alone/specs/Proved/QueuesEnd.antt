@@ -5,9 +5,8 @@ use Rattle.std.specs.Prelude.{◌==◌, nat_lt, if◌then◌else◌, Some, None,
 use Rattle.shm_graph.specs.{declared.{ask.Me.Me, spot.Spot.Spot, memo.Memo.Memo}, Asks.Trail, Events.Event}
 use Rattle.shm_graph.specs.Laws.{Outcome}
 use Rattle.shm_graph.specs.declared.spot.Spot.TheVariants as spot
-use Rattle.shm_calls.specs.declared.or.Or.TheVariants.{First, Second}
-use Rattle.shm_calls.specs.{CallsControl.{calls_control, calls_does, calls_of}, CallsFit.CallsFits}
-use Rattle.shm_calls.specs.{Either.{OrFits, or_does}, Words.{WordFits, word_control, word_does}}
+use Rattle.plans.specs.{declared.or.Or.TheVariants.{First, Second}, CallsControl.{calls_control, calls_does, calls_of}}
+use Rattle.plans.specs.{CallsFit.CallsFits, Either.{OrFits, or_does}, Words.{WordFits, word_control, word_does}}
 use Rattle.shm_count.specs.{declared.answer.EraSpent.EraSpent, Step.Events.step_event, StepsAt.DownFitsAt}
 use Rattle.shm_count.specs.Tear.{Events.tear_event, TearFits}
 use Rattle.shm_queue.specs.declared.drain.{DrainPoint.{DrainPoint, TheVariants.{Status, Item}}, DrainState.DrainState}

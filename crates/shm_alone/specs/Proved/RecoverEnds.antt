@@ -4,8 +4,8 @@ use Rattle.std.specs.Prelude.{◌==◌, if◌then◌else◌, Ok, Err}
 use Rattle.shm_words.specs.Layout.{GeometryFits, segments_most}
 use Rattle.shm_graph.specs.{declared.{ask.Me.Me, memo.Memo.Memo, spot.Spot.Spot}, Asks.Trail, Bounds.redo_steps}
 use Rattle.shm_graph.specs.{Events.Event, Laws.Outcome}
-use Rattle.shm_calls.specs.{declared.or.Or.TheVariants.{First, Second}, CallsControl.{calls_does, calls_of}}
-use Rattle.shm_calls.specs.{CallsFit.CallsFits, Either.{OrFits, or_control, or_does}, Words.word_control}
+use Rattle.plans.specs.{declared.or.Or.TheVariants.{First, Second}, CallsControl.{calls_does, calls_of}}
+use Rattle.plans.specs.{CallsFit.CallsFits, Either.{OrFits, or_control, or_does}, Words.word_control}
 use Rattle.shm_ref.specs.{DropRoots.{Control.drop_root, roots_plan}, Proved.DropRoots.Laws.roots_laws}
 use Rattle.shm_recover.specs.declared.recover.RecoverPoint.{RecoverPoint}
 use Rattle.shm_recover.specs.declared.recover.RecoverPoint.TheVariants.{Mend, Roots, Back, Takes, Scan, Give}

@@ -5,9 +5,9 @@ use Rattle.std.specs.Prelude.{◌==◌, if◌then◌else◌, Some, None, Result,
 use Rattle.shm_words.specs.Layout.{address_limit}
 use Rattle.shm_graph.specs.{declared.{ask.Me.Me, spot.Spot.{Spot, TheVariants.Root}, memo.Memo.Memo}, Asks.Trail}
 use Rattle.shm_graph.specs.{Events.Event, Laws.Outcome}
-use Rattle.shm_calls.specs.declared.or.Or.TheVariants.{First, Second}
-use Rattle.shm_calls.specs.{CallsControl.{calls_control, calls_does, calls_of}, CallsFit.CallsFits}
-use Rattle.shm_calls.specs.{Either.{OrFits, or_control, or_does}, Words.{WordFits, word_control, word_does}}
+use Rattle.plans.specs.{declared.or.Or.TheVariants.{First, Second}, CallsControl.{calls_control, calls_does, calls_of}}
+use Rattle.plans.specs.{CallsFit.CallsFits, Either.{OrFits, or_control, or_does}}
+use Rattle.plans.specs.Words.{WordFits, word_control, word_does}
 use Rattle.shm_count.specs.{declared.answer.EraSpent.EraSpent, Step.{Events.step_event, Machines.down_control}}
 use Rattle.shm_count.specs.{StepsAt.DownFitsAt, Tear.{Control.tear_control, Events.tear_event, TearFits}}
 use Rattle.shm_ref.specs.declared.drop_root.DropPoint.{DropPoint, TheVariants.{Load, Lower, Tear}}

@@ -3,8 +3,8 @@ use Rattle.std.proofs.Common.{◌≡◌, ℕ, ◌+◌, ◌*◌, ◌-◌, ◌%◌
 use Rattle.std.proofs.lemmas.Bool.{ltb-false, ltb-true}
 use Rattle.std.specs.Prelude.{◌==◌, if◌then◌else◌, nat_lt, Some, None, Option, Result, Ok, Err}
 use Rattle.shm_graph.specs.{declared.{memo.Memo.Memo, spot.Spot.Spot}, Asks.Trail, Events.Event, Laws.Outcome}
-use Rattle.shm_calls.specs.{declared.or.Or.TheVariants.{First, Second}, CallsControl.calls_does, CallsFit.CallsFits}
-use Rattle.shm_calls.specs.{Either.{OrFits, or_does}, Grown.Grows, Words.{WordFits, word_control, word_does}}
+use Rattle.plans.specs.{declared.or.Or.TheVariants.{First, Second}, CallsControl.calls_does, CallsFit.CallsFits}
+use Rattle.plans.specs.{Either.{OrFits, or_does}, Grown.Grows, Words.{WordFits, word_control, word_does}}
 use Rattle.shm_count.specs.{declared.answer.EraSpent.EraSpent, Tear.{Control.tear_control, Events.tear_event, TearFits}}
 use Rattle.shm_recover.specs.declared.scan.ScanPoint.{ScanPoint, TheVariants.{Page, Header, Tear}}
 use Rattle.shm_recover.specs.declared.scan.ScanState.{ScanState}

@@ -2,7 +2,7 @@
 use Rattle.std.proofs.Common.{ℕ, ◌+◌, ◌*◌, ◌-◌, ◌<◌, ◌≤◌, arith, Bool, true, false, List}
 use Rattle.std.specs.Prelude.{◌==◌, if◌then◌else◌, nat_lt, Some, None, Option}
 use Rattle.shm_graph.specs.{declared.memo.Memo.Memo, Asks.Trail, Events.Event, Laws.Outcome}
-use Rattle.shm_calls.specs.{CallsControl.calls_does, CallsFit.CallsFits, Words.word_control}
+use Rattle.plans.specs.{CallsControl.calls_does, CallsFit.CallsFits, Words.word_control}
 use Rattle.shm_recover.specs.declared.finish_takes.FinishPoint.{FinishPoint, TheVariants.{Head, Tail, Slot, Store}}
 use Rattle.shm_recover.specs.declared.finish_takes.FinishState.{FinishState}
 use Rattle.shm_recover.specs.FinishTakes.Control.{after_word, is_first, is_last, passed, passed_answer, turns_word}

@@ -3,7 +3,7 @@ use Rattle.std.proofs.Common.{◌≡◌, ℕ, ◌+◌, ◌-◌, ◌<◌, ◌≤�
 use Rattle.std.proofs.lemmas.Bool.{ltb-true}
 use Rattle.std.specs.Prelude.{nat_lt, Some, None}
 use Rattle.shm_graph.specs.{Laws.Outcome, MemoAfterRead.next_row}
-use Rattle.shm_calls.specs.{CallsControl.calls_does, CallsFit.CallsFits, Words.word_control}
+use Rattle.plans.specs.{CallsControl.calls_does, CallsFit.CallsFits, Words.word_control}
 use Rattle.shm_count.specs.declared.commit_test.Commit.TheVariants.{Committed, NotCommitted}
 use Rattle.shm_count.specs.declared.commit_test.TestingPoint.{TestingPoint, TheVariants.{Header, Row}}
 use Rattle.shm_count.specs.declared.commit_test.TestingState.{TestingState}

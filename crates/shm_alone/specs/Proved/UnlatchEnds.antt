@@ -2,7 +2,7 @@
 use Rattle.std.proofs.Common.{ℕ, ◌+◌, ◌-◌, ◌%◌, ◌≤◌, arith, Bool, true, false}
 use Rattle.std.specs.Prelude.{◌==◌, if◌then◌else◌, Some, None}
 use Rattle.shm_graph.specs.Laws.{Outcome}
-use Rattle.shm_calls.specs.{CallsControl.{calls_control, calls_does}, CallsFit.CallsFits, Words.word_control}
+use Rattle.plans.specs.{CallsControl.{calls_control, calls_does}, CallsFit.CallsFits, Words.word_control}
 use Rattle.shm_recover.specs.declared.mend_unlatch.MendUnlatchPoint.{MendUnlatchPoint}
 use Rattle.shm_recover.specs.declared.mend_unlatch.MendUnlatchPoint.TheVariants.{Whose, Look, Give, Back}
 use Rattle.shm_recover.specs.declared.mend_unlatch.MendUnlatchState.{MendUnlatchState}

@@ -32,7 +32,7 @@ use denote.Triple.Walked.{Stays, walk_of, stay_dropped, Goes-dropped, ends_at}
 use Rattle.shm_sitting.specs.{declared.seat.Seat.Seat, contracts.seat.Seat.the_row as R, Seats.IsTold}
 use Rattle.shm_session.specs.{declared.said.Said.Said, contracts.said.Said.the_row as S}
 use Rattle.shm_session.proofs.said.Said.TheLaws.{the_row_laws as LS}
-use Rattle.shm_c.specs.Holds.{Told, seat_at}
+use Rattle.shm_c.specs.Holds.{SeatTold, seat_at}
 use Rattle.shm_c.specs.contracts.lj_tell as f
 use Rattle.shm_c.specs.contracts.tell as g
 use Rattle.shm_c.proofs.{lj_tell.Statement.statement, tell.Met.met}
@@ -75,5 +75,5 @@ lj_tell_spec 𝓤 𝓛 𝓜 𝓡 wired =
     move ! (4 ∷ []) $ peeks ! S (Is S) (shows 𝓛 S) u (v ∷ []) (λ is. lands_as ! refl refl ((LS.lawful 𝓛).typed u _ is).0 $
     returns ! (look_at ! 0 refl) $ free_all ! refl $ keep ! (1 ∷ 0 ∷ []) $
     suffices ! _ (ends_at 𝓛 f.ended stayed c (y (block_ptr b o)) v u (tt, (tt, tt)) (tt, (tt, tt))) $
-    fpack ! (Told x n u) (λ t. seat_at (block_ptr b o) t.now) (record { now = ws.0; is = done' }) $ move ! (1 ∷ []) $
+    fpack ! (SeatTold x n u) (λ t. seat_at (block_ptr b o) t.now) (record { now = ws.0; is = done' }) $ move ! (1 ∷ []) $
     nothing ! $ nothing ! $ join ! $ nothing ! $ join ! $ nothing ! $ group ! 3 $ done !))))))))))

@@ -23,7 +23,7 @@ use Rattle.shm_graph.specs.Views.{own_word}
 use Rattle.shm_graph.specs.declared.spot.Spot.TheVariants as spot
 use Rattle.shm_graph.specs.declared.memo.Op.TheVariants as op
 use Rattle.shm_graph.proofs.StepKinds.Loads.{choice}
-use Rattle.shm_steps.specs.Reparting.{sight}
+use Rattle.kind_parts.specs.Reparting.{sight}
 
 -- ---- what leaves the partition as it is
 

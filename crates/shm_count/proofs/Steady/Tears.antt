@@ -3,7 +3,7 @@ use Rattle.std.proofs.Common.{◌≡◌, ℕ, sym, ap, ◌∙◌, false, List, i
 use Rattle.shm_graph.specs.declared.{ask.Me.Me, spot.Spot.TheVariants.{Home, Body}, memo.{Memo.Memo, Op.Op}}
 use Rattle.shm_graph.specs.{declared.memo.Op.TheVariants.Nothing, Asks.Trail, Chains.part_set, Events.Event}
 use Rattle.shm_graph.specs.{Ops.{cover, cover_of}, Tells.happens_along, Views.own_word}
-use Rattle.shm_steps.specs.Reparting.{sight}
+use Rattle.kind_parts.specs.Reparting.{sight}
 use Rattle.shm_count.specs.declared.point.{Aim.TheVariants.Down as DownAim, StepPoint.StepPoint}
 use Rattle.shm_count.specs.{declared.tear_point.{TearPoint.TearPoint, TearState.TearState}, CountParts.tear_part}
 use Rattle.shm_count.specs.Step.{PointHolds, Control.is_over, Parts.part_after}

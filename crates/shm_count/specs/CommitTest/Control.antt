@@ -3,7 +3,7 @@ use Rattle.std.specs.Prelude.{ℕ, ◌+◌, ◌<◌, Bool, true, false, ◌&&◌
 use Rattle.shm_words.specs.{Headers.header_of, Layout.{GeometryFits, address}}
 use Rattle.shm_words.specs.declared.place.Place.TheVariants as place
 use Rattle.shm_graph.specs.{declared.ask.{Ask.{Ask, TheVariants.Load}, Me.Me}, MemoAfterRead.next_row, Held.odd}
-use Rattle.shm_calls.specs.{declared.word.Word.Word, Steering.Steered}
+use Rattle.plans.specs.{declared.word.Word.Word, Steering.Steered}
 use Rattle.shm_count.specs.declared.commit_test.Commit.{Commit, TheVariants.{Committed, NotCommitted}}
 use Rattle.shm_count.specs.declared.commit_test.TestingPoint.{TestingPoint, TheVariants.{Header, Row}}
 use Rattle.shm_count.specs.declared.commit_test.TestingState.{TestingState}

@@ -6,14 +6,14 @@ use Rattle.shm_graph.specs.{Held.{HeldAt, is_loose}, Ops.cover_of, Reach.{learnt
 use Rattle.shm_graph.specs.{Telling.{role_in, roles_from}, Views.{view, own_word}}
 use Rattle.shm_graph.specs.declared.spot.Spot.TheVariants as spot
 use Rattle.shm_graph.specs.declared.memo.Op.TheVariants as op
-use Rattle.shm_steps.specs.{Beginning.IsOwnWord, Conditions.IsHere}
-use Rattle.shm_steps.specs.Reparting.{sight, map_in, IsKnown, IsTagged, IsNew, IsValue, TableStep}
-use Rattle.shm_steps.specs.{Reparting.TableStep.{Prepares, Links}, Walking.{IsVacant, IsComing}}
-use Rattle.shm_steps.proofs.{BeginAt.SlotHas, BeginWords.own_word_has, PartsSet.loose_stays}
-use Rattle.shm_steps.proofs.{Reaching.{look_reached, home_reached, root_reached}, Partitions.Reparted.table_mapped}
-use Rattle.shm_steps.proofs.Partitions.Words.{directory_word, tagged_word}
-use Rattle.shm_steps.proofs.Partitions.Walked.{new_not_home, new_not_value, first_other}
-use Rattle.shm_steps.proofs.Partitions.Seeking.{learnt_here, learnt_other, words_apart}
+use Rattle.kind_parts.specs.{Beginning.IsOwnWord, Conditions.IsHere}
+use Rattle.kind_parts.specs.Reparting.{sight, map_in, IsKnown, IsTagged, IsNew, IsValue, TableStep}
+use Rattle.kind_parts.specs.{Reparting.TableStep.{Prepares, Links}, Walking.{IsVacant, IsComing}}
+use Rattle.kind_parts.proofs.{BeginAt.SlotHas, BeginWords.own_word_has, PartsSet.loose_stays}
+use Rattle.kind_parts.proofs.{Reaching.{look_reached, home_reached, root_reached}, Partitions.Reparted.table_mapped}
+use Rattle.kind_parts.proofs.Partitions.Words.{directory_word, tagged_word}
+use Rattle.kind_parts.proofs.Partitions.Walked.{new_not_home, new_not_value, first_other}
+use Rattle.kind_parts.proofs.Partitions.Seeking.{learnt_here, learnt_other, words_apart}
 use Rattle.shm_count.specs.{declared.point.Aim.TheVariants.{Up, Change}, Step.{CanStep, Parts.{Raised, part_after}}}
 use Rattle.shm_count.specs.Proved.TableSteps.{can_fill, can_replace}
 

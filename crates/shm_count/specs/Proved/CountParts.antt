@@ -3,7 +3,7 @@ use Rattle.std.proofs.Common.{◌≡◌, Bool, sym, ap, subst, arith}
 use Rattle.std.specs.Prelude.{Result}
 use Rattle.shm_words.proofs.Placing.{total_small}
 use Rattle.shm_graph.specs.{declared.memo.Memo.Memo, Asks.Trail, Tells.happens_along}
-use Rattle.shm_calls.specs.{Parts.PartLaws, Proved.Placed.placed}
+use Rattle.plans.specs.{Parts.PartLaws, Proved.Placed.placed}
 use Rattle.shm_count.specs.declared.{answer.EraSpent.EraSpent, tear_point.TearPoint.TheVariants.Begin}
 use Rattle.shm_count.specs.{declared.tear_point.TearState.TearState, Tear.Control.{TearInRange, tear_control}}
 use Rattle.shm_count.specs.{Tear.{Events.tear_event, TearFits, TearGives, TearLeaves}, Proved.Tear.Keeps.tear_laws}

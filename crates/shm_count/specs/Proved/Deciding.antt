@@ -4,10 +4,10 @@ use Rattle.shm_graph.specs.{declared.{ask.Me.Me, spot.Spot.Spot, memo.Memo.Memo,
 use Rattle.shm_graph.specs.{Held.HeldAt, Ops.cover_of, Reach.is_reached, Spots.spot_address, Views.view}
 use Rattle.shm_graph.specs.declared.spot.Spot.TheVariants as spot
 use Rattle.shm_graph.specs.declared.memo.Op.TheVariants as op
-use Rattle.shm_steps.specs.{Conditions.IsHere, Reparting.{sight, IsKnown, IsValue, TableStep}}
-use Rattle.shm_steps.specs.Walking.{IsSeeking, is_looked}
-use Rattle.shm_steps.proofs.{Reaching.look_reached, Partitions.{Seeking.seek_own, Words.entry_word}}
-use Rattle.shm_steps.proofs.Partitions.Walked.{walk_has, walk_unlinks, walk_replaces, next_other, entry_some, value_some}
+use Rattle.kind_parts.specs.{Conditions.IsHere, Reparting.{sight, IsKnown, IsValue, TableStep}}
+use Rattle.kind_parts.specs.Walking.{IsSeeking, is_looked}
+use Rattle.kind_parts.proofs.{Reaching.look_reached, Partitions.{Seeking.seek_own, Words.entry_word}}
+use Rattle.kind_parts.proofs.Partitions.Walked.{walk_has, walk_unlinks, walk_replaces, next_other, entry_some, value_some}
 use Rattle.shm_count.specs.{declared.point.Aim.TheVariants.{Down, Change}, Step.CanStep}
 use Rattle.shm_count.specs.Proved.TableSteps.{can_clear, can_replace}
 

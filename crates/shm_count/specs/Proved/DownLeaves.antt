@@ -13,9 +13,9 @@ use Rattle.shm_graph.specs.Reach.{learnt, not_at, shown, is_named, is_reached, i
 use Rattle.shm_graph.specs.{MemoAfterStore.{is_of, not_of, with_own, written, stored_on, era_stored}, Views.own_word}
 use Rattle.shm_graph.specs.Core.{core}
 use Rattle.shm_graph.proofs.{StepKinds.Loads.choice, Spots.Spotting.same_spot_not}
-use Rattle.shm_laws.specs.HeaderExchanges.{dying_after}
-use Rattle.shm_laws.proofs.Keep.{Contains-filter}
-use Rattle.shm_steps.proofs.{MemoCommits.{known_lowered, lowered_is}, Sifting.dying_more, Cores.body_word}
+use Rattle.kind_laws.specs.HeaderExchanges.{dying_after}
+use Rattle.kind_laws.proofs.Lists.{Contains-filter}
+use Rattle.kind_parts.proofs.{MemoCommits.{known_lowered, lowered_is}, Sifting.dying_more, Cores.body_word}
 use Rattle.shm_count.specs.{declared.point.{Aim.TheVariants.Down, Half.TheVariants.First}, Step.Control.header_after}
 use Rattle.shm_count.specs.Step.{begun, is_row, AtFirst, slot_memo, closed_memo, Done}
 use Rattle.shm_count.specs.Proved.Step.Parts.{own_stays, rows_grow}

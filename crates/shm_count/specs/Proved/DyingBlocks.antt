@@ -18,8 +18,8 @@ use Rattle.shm_graph.proofs.States.Counting.{cover_slot, covered_none}
 use Rattle.shm_graph.proofs.States.Holders.{held_live_block, held_live_not_zero, reach_counted, step_holds, target_counted}
 use Rattle.shm_graph.proofs.States.HomeTarget.{home_target}
 use Rattle.shm_graph.proofs.Spots.Spotting.{block_within, body_spot, in_block, tag_spot, same_spot_not}
-use Rattle.shm_laws.proofs.Parts.{PartKept, part_kept}
-use Rattle.shm_steps.specs.Raising.{IsReparted}
+use Rattle.kind_laws.proofs.Parts.{PartKept, part_kept}
+use Rattle.kind_parts.specs.Raising.{IsReparted}
 use Rattle.shm_count.specs.Step.Control.{IsInside}
 
 -- ---- chains without a block

@@ -5,7 +5,7 @@ use Rattle.shm_graph.specs.declared.{ask.Me.Me, memo.{Memo.Memo, Stored.Stored, 
 use Rattle.shm_graph.specs.{declared.spot.Spot.{Spot, TheVariants.{Hold, Home, Root, Slot}}, Events.Event}
 use Rattle.shm_graph.specs.{Idle.{IsIdle, hold_word}, MemoAfterStore.{other_than, put}, Views.own_word}
 use Rattle.shm_graph.proofs.Idles.{idle_own}
-use Rattle.shm_steps.specs.{Conditions.IsHere, Reparting.sight}
+use Rattle.kind_parts.specs.{Conditions.IsHere, Reparting.sight}
 use Rattle.shm_count.specs.declared.{answer.UpFault.UpFault, point.Aim.{Aim, TheVariants.{Up, Down, Change}}}
 use Rattle.shm_count.specs.Slots.{Filled, StepDid, Took, Untouched, emptied, known_at, slotted, unsent_at}
 use Rattle.shm_count.specs.{Step.Parts.part_after, Tear.Memos.TearStays}

@@ -4,7 +4,7 @@ use Rattle.std.proofs.lemmas.{Bool.{eq-eqb, ne_eqb}, List.Elements.{Contains-app
 use Rattle.std.specs.{Prelude.{Result, Ok, Err}, List.{Contains, filter}}
 use Rattle.shm_graph.specs.{declared.{ask.Me.Me, spot.Spot.Spot, memo.Memo.Memo}, Asks.Trail, Events.Event}
 use Rattle.shm_graph.specs.{Reach.is_named, MemoAfterStore.not_block}
-use Rattle.shm_calls.specs.Parts.{IsHeld}
+use Rattle.plans.specs.Parts.{IsHeld}
 use Rattle.shm_count.specs.{declared.answer.EraSpent.EraSpent, Proved.Retaining.{held_counted, named_stays}, Roots.rest}
 use Rattle.shm_count.specs.{Slots.{Lost, Took}, Tear.{TearLeaves, Memos.{Retains, TearStays}}, Lowering.TornLeaves}
 

@@ -1,6 +1,6 @@
 -- count steps, tear-downs and blocks that the call made: what stays of them, and that the count of one that is to be raised isn't full: what is proved of it
 use Rattle.std.proofs.Common.{refl, sym, Bool, []}
-use Rattle.shm_calls.specs.{MadeStays.making_laws, Parts.PartLaws}
+use Rattle.plans.specs.{MadeStays.making_laws, Parts.PartLaws}
 use Rattle.shm_count.specs.{Tear.{Control.tear_control, Events.tear_start}, CountParts.tear_part}
 use Rattle.shm_count.specs.{Proved.CountParts.tear_part_laws, MadeSteps.tear_making}
 

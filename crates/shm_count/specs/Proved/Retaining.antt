@@ -11,11 +11,11 @@ use Rattle.shm_graph.specs.Reach.{learnt, not_at, shown, in_slot, in_slots, not_
 use Rattle.shm_graph.specs.{MemoAfterStore.{is_of, not_of}, Views.{view, own_word}, Core.core}
 use Rattle.shm_graph.proofs.{States.{Holders.reach_counted, Reached.named_here}, StepKinds.Loads.choice}
 use Rattle.shm_graph.proofs.Spots.Spotting.{same_spot_not}
-use Rattle.shm_laws.proofs.Keep.{Contains-filter}
+use Rattle.kind_laws.proofs.Lists.{Contains-filter}
 use Rattle.shm_count.specs.Proved.DyingBlocks.{dying_header}
 use Rattle.shm_count.specs.Tear.Memos.{TearStays, Knows, Retains, is_slot_word, Remains}
-use Rattle.shm_steps.proofs.Cores.{roots_same}
-use Rattle.shm_calls.specs.Parts.{IsHeld}
+use Rattle.kind_parts.proofs.Cores.{roots_same}
+use Rattle.plans.specs.Parts.{IsHeld}
 
 -- ---- head slots
 

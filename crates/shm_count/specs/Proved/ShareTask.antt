@@ -4,7 +4,7 @@ use Rattle.std.specs.Prelude.{Result, Ok, Err}
 use Rattle.shm_graph.specs.{declared.{ask.Me.Me, memo.Memo.Memo, spot.Spot.TheVariants.Root}, Agents.recovers}
 use Rattle.shm_graph.specs.{Asks.Trail, Events.Event, Idle.IsIdle, Reach.is_reached}
 use Rattle.shm_graph.proofs.Idles.{idle_core}
-use Rattle.shm_calls.specs.Tasks.{IsNew, TaskLaws}
+use Rattle.plans.specs.Tasks.{IsNew, TaskLaws}
 use Rattle.shm_count.specs.declared.answer.ShareFault.{ShareFault, TheVariants.{EraSpent, RootsFull, CountFull}}
 use Rattle.shm_count.specs.{declared.up_root.RootingState.RootingState, UpRoot.Control.{rooting, rooting_parts}}
 use Rattle.shm_count.specs.UpRoot.{RootingKnows, UpRootLeaves, rooting_plan}

@@ -13,8 +13,8 @@ use Rattle.shm_graph.specs.Telling.{Claim, bare, tag_claim, tag_claims, Role, Di
 use Rattle.shm_graph.specs.{Views.view, Core.core}
 use Rattle.shm_graph.proofs.{Machines.Calling.called_by, States.Claims.{ClaimSound, claims_sound}}
 use Rattle.shm_graph.proofs.Memos.LoadTold.{claim_found, claim_in_all, claim_word}
-use Rattle.shm_steps.specs.{LoadNeeds.IsCovered, Walking.Reads}
-use Rattle.shm_steps.proofs.{Partitions.Words.{one_more_role, role_new}, BlockReads.told_called, Cores.called_core}
+use Rattle.kind_parts.specs.{LoadNeeds.IsCovered, Walking.Reads}
+use Rattle.kind_parts.proofs.{Partitions.Words.{one_more_role, role_new}, BlockReads.told_called, Cores.called_core}
 
 -- ---- under a latch each claim of reference words tells an author
 

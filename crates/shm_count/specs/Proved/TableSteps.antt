@@ -9,9 +9,9 @@ use Rattle.shm_graph.specs.declared.spot.Spot.TheVariants as spot
 use Rattle.shm_graph.specs.declared.memo.Op.TheVariants as op
 use Rattle.shm_graph.proofs.States.{Holders.{reach_counted, target_counted}, Reached.reached_here}
 use Rattle.shm_graph.proofs.Spots.Spotting.{in_pool}
-use Rattle.shm_steps.specs.{Beginning.IsOwnWord, Conditions.IsHere, Reparting.{sight, TableStep}}
-use Rattle.shm_steps.proofs.{BeginAt.{SlotHas, word_target}, BeginSlots.home_has}
-use Rattle.shm_steps.proofs.BeginWords.{own_word_has, word_address}
+use Rattle.kind_parts.specs.{Beginning.IsOwnWord, Conditions.IsHere, Reparting.{sight, TableStep}}
+use Rattle.kind_parts.proofs.{BeginAt.{SlotHas, word_target}, BeginSlots.home_has}
+use Rattle.kind_parts.proofs.BeginWords.{own_word_has, word_address}
 use Rattle.shm_count.specs.{declared.point.Aim.TheVariants.{Up, Down, Change}, Step.{Control.IsInside, CanStep}}
 use Rattle.shm_count.specs.Proved.DyingBlocks.{live_room}
 

@@ -4,7 +4,7 @@ use Rattle.std.specs.Prelude.{Result, Ok, Err}
 use Rattle.shm_graph.specs.{declared.{ask.Me.Me, spot.Spot.Spot, memo.{Memo.Memo, Stored.Stored}}, Events.Event}
 use Rattle.shm_graph.specs.{Views.own_word, Core.core}
 use Rattle.shm_graph.specs.declared.spot.Spot.TheVariants as spot
-use Rattle.shm_calls.specs.{Parts.{Part, PartLaws, weaker}, Proved.Parts.weaker_laws}
+use Rattle.plans.specs.{Parts.{Part, PartLaws, weaker}, Proved.Parts.weaker_laws}
 use Rattle.shm_count.specs.declared.{answer.{EraSpent.EraSpent, UpFault.UpFault}, point.Aim.Aim}
 use Rattle.shm_count.specs.declared.point.{Aim.TheVariants.{Up, Down, Change}, StepState.StepState}
 use Rattle.shm_count.specs.CountParts.{down_part, down_part_laws, up_part, up_part_laws, change_part, change_part_laws}

@@ -8,12 +8,12 @@ use Rattle.shm_graph.specs.{Ops.{On, cover, is_op, slot_of}, Reach.{sifted, lear
 use Rattle.shm_graph.specs.{Views.own_word, Core.core}
 use Rattle.shm_graph.specs.declared.spot.Spot.TheVariants as spot
 use Rattle.shm_graph.specs.declared.memo.Op.TheVariants as op
-use Rattle.shm_steps.specs.Reparting.{Sight, sight}
-use Rattle.shm_steps.proofs.{MemoCommits.{known_lowered, lowered_is}, Cores.{body_word, HasSlot}}
-use Rattle.shm_laws.specs.HeaderExchanges.{dying_after}
+use Rattle.kind_parts.specs.Reparting.{Sight, sight}
+use Rattle.kind_parts.proofs.{MemoCommits.{known_lowered, lowered_is}, Cores.{body_word, HasSlot}}
+use Rattle.kind_laws.specs.HeaderExchanges.{dying_after}
 use Rattle.shm_count.specs.declared.point.{Aim.{Aim, TheVariants.{Up, Down, Change}}, Half.TheVariants.First}
 use Rattle.shm_count.specs.{Step.{Control.{value_after, header_after}, set_memo, slot_memo}, Proved.Step.Cores.is_set}
-use Rattle.shm_count.specs.Tear.Memos.{is_lasting}
+use Rattle.shm_count.specs.Lasting.{is_lasting}
 
 -- the partition after a step at a word, as the memo's change computes it
 abbrev pub part_after : ℕ → Sight → Spot → ℕ → TablePart
@@ -36,7 +36,7 @@ pub record Raised (c : ℕ) (p : Spot) (b : ℕ) (m r : Memo) : Type 0 where
 -- ---- what any step at a word of a block leaves
 
 -- no step is in progress, and the status, the latch, what is prepared, the segments and the own words but the redo record and the own row are as before
-pub record Leaves (c : ℕ) (m r : Memo) : Type 0 where
+pub record StepStays (c : ℕ) (m r : Memo) : Type 0 where
   pub status : r.status ≡ m.status
   pub op : r.op ≡ op.Nothing
   pub latch : r.latch ≡ m.latch

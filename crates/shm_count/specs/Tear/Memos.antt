@@ -1,21 +1,13 @@
 -- what a tear-down needs of a memo, and what it leaves of it
-use Rattle.std.specs.Prelude.{◌≡◌, ◌≢◌, ℕ, ◌+◌, ◌^◌, ◌<◌, ◌≤◌, Bool, true, not, ◌==◌, if◌then◌else◌, [], ◌∷◌, ◌++◌, ◌⊎◌}
+use Rattle.std.specs.Prelude.{◌≡◌, ◌≢◌, ℕ, ◌+◌, ◌^◌, ◌<◌, ◌≤◌, Bool, true, ◌==◌, if◌then◌else◌, [], ◌∷◌, ◌++◌, ◌⊎◌}
 use Rattle.std.specs.List.{Contains, filter}
 use Rattle.shm_words.specs.{declared.tag.Tag.Tag as ATag, Tags.{tag_word, TagFits}, Layout.total_of}
-use Rattle.shm_graph.specs.{Core.core, declared.{ask.Me.Me, spot.Spot.Spot}}
-use Rattle.shm_graph.specs.declared.{spot.Spot.TheVariants.{Redo, RedoMore, Home, Era, Tag, Body}, memo.Memo.Memo}
-use Rattle.shm_graph.specs.{declared.memo.Stored.Stored, Held.is_slot, Views.own_word, Reach.{shown, is_named}}
-use Rattle.shm_graph.specs.{MemoAfterStore.is_of, Chains.part_set}
-use Rattle.shm_count.specs.Step.Control.{IsInside}
+use Rattle.shm_graph.specs.{Core.core, declared.{ask.Me.Me, spot.Spot.{Spot, TheVariants.{Home, Era, Tag, Body}}}}
+use Rattle.shm_graph.specs.{declared.memo.{Memo.Memo, Stored.Stored}, Held.is_slot, Views.own_word}
+use Rattle.shm_graph.specs.{Reach.{shown, is_named}, MemoAfterStore.is_of, Chains.part_set}
+use Rattle.shm_count.specs.{Step.Control.IsInside, Lasting.is_lasting}
 
 -- ---- what stays
-
--- not the own redo record, and no word of the own row
-abbrev pub is_lasting : ℕ → Spot → Bool
-is_lasting c (Redo d) = not (c == d)
-is_lasting c (RedoMore d) = not (c == d)
-is_lasting c (Era i j) = not (c == i)
-is_lasting c p = true
 
 -- nothing of the identity changed but its zero-count blocks, what it knows and has read, its redo record and its row, which grew
 pub record TearStays (c : ℕ) (m r : Memo) : Type 0 where

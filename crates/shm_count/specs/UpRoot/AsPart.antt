@@ -2,13 +2,13 @@
 use Rattle.std.proofs.Common.{ℕ}
 use Rattle.std.specs.Prelude.{Result}
 use Rattle.shm_graph.specs.Laws.{Control}
-use Rattle.shm_calls.specs.{declared.calls.Calls.Calls, CallsControl.calls_control, CallsPart.calls_part, Parts.Part}
+use Rattle.plans.specs.{declared.calls.Calls.Calls, CallsControl.calls_control, CallsPart.calls_part, Parts.Part}
 use Rattle.shm_count.specs.declared.{answer.ShareFault.ShareFault, up_root.RootingState.RootingState}
-use Rattle.shm_count.specs.UpRoot.{Control.{RootingAnswer, RootingCall, rooting_parts, rooting_steered}, rooting_plan}
+use Rattle.shm_count.specs.UpRoot.{Control.{RootingCall, rooting_parts, rooting_steered}, rooting_plan}
 
 -- its states, and its control
 abbrev pub RootingCalls : Type 0
-RootingCalls = Calls RootingState RootingCall (Result ℕ ShareFault) RootingAnswer
+RootingCalls = Calls RootingState RootingCall
 
 abbrev pub up_root : Control RootingCalls (Result ℕ ShareFault)
 up_root = calls_control rooting_parts rooting_steered

@@ -8,8 +8,8 @@ use Rattle.shm_count.specs.declared.{point.{Aim.TheVariants.Up, StepState.StepSt
 use Rattle.shm_count.specs.declared.up_root.{RootingPoint.TheVariants.{Era, Look, Step}, RootingState.RootingState}
 use Rattle.shm_count.specs.declared.answer.ShareFault.TheVariants as share
 use Rattle.shm_graph.specs.{declared.ask.{Ask.{Ask, TheVariants.Load}, Me.Me}, Laws.Control}
-use Rattle.shm_calls.specs.{declared.{or.Or.{Or, TheVariants.{First, Second}}, word.Word.Word}, Either.or_control}
-use Rattle.shm_calls.specs.{Words.word_control, Steering.Steered}
+use Rattle.plans.specs.{declared.{or.Or.{Or, TheVariants.{First, Second}}, word.Word.Word}, Either.or_control}
+use Rattle.plans.specs.{Words.word_control, Steering.Steered}
 
 -- its calls, and what they answer
 abbrev pub RootingCall : Type 0

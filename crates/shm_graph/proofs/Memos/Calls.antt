@@ -1,11 +1,11 @@
 -- what of a call binds changes, and no word
-use Rattle.std.proofs.Common.{ℕ, ◌<◌, List, Option}
+use Rattle.std.proofs.Common.{ℕ, ◌<◌, refl, List, Option}
 use Rattle.std.specs.List.{All}
 use Rattle.shm_words.specs.{declared.geometry.Geometry.Geometry, Headers.header_of}
 use Rattle.shm_graph.specs.declared.spot.Spot.{Spot, TheVariants.{Era, Root, Tail, QueueHead, Segment, Page, Head}}
 use Rattle.shm_graph.specs.{declared.memo.{Fact.Fact, Test.Test}, Views.{View, at1, targets, ons}}
 use Rattle.shm_graph.specs.Held.{HeldAt, FactAt, ZeroAt, TestAt, MadeAt}
-use Rattle.shm_graph.proofs.Memos.Frames.{at1_all}
+use Rattle.shm_graph.proofs.Memos.{Frames.at1_all, RecallHeld.memo_held}
 
 -- the facts, the words read as 0, the commit test and the new blocks of c hold
 abbrev pub FactHolds : Geometry → (Spot → ℕ) → View → Fact → Type 0
@@ -30,41 +30,15 @@ pub call_held : (g : Geometry) (w : Spot → ℕ) (v : View) (c : ℕ) (fs : Lis
     → FactsHold g w v fs → ZerosHold g w c zs → TestHolds g w v c t → MadeHold g w v c bs
     → HeldAt g w (record v { facts = at1 v.facts c fs; zeros = at1 v.zeros c zs; test = at1 v.test c t; made = at1 v.made c bs })
 call_held g w v c fs zs t bs h facts zeros test made =
-    record {
-      fits = h.fits;
-      small = h.small;
-      there = h.there;
-      spare = h.spare;
-      unused = h.unused;
-      sizes = h.sizes;
-      mine = h.mine;
-      state = h.state;
-      latch = h.latch;
-      segments = h.segments;
-      dying = h.dying;
+    memo_held g w v _ h refl (record {
       making = h.making;
-      blocks = h.blocks;
-      era = h.era;
-      own = h.own;
-      op = h.op;
-      redo = h.redo;
-      allowed = h.allowed;
-      count = h.count;
       slots = h.slots;
       looks = h.looks;
-      lanes = h.lanes;
       known = h.known;
       facts = λ d. at1_all (λ (i : ℕ) (x : List Fact). i < g.clients → FactsHold g w v x) v.facts c fs d (λ l. facts) (λ n. h.facts d);
       zeros = λ d. at1_all (λ (i : ℕ) (x : List Spot). i < g.clients → ZerosHold g w i x) v.zeros c zs d (λ l. zeros) (λ n. h.zeros d);
       test = λ d. at1_all (λ (i : ℕ) (x : Option Test). i < g.clients → TestHolds g w v i x) v.test c t d (λ l. test) (λ n. h.test d);
       fresh = h.fresh;
-      gone = h.gone;
-      self_lanes = h.self_lanes;
-      no_queue = h.no_queue;
-      tails = h.tails;
-      parts = h.parts;
-      part = h.part;
-      queued = h.queued;
       values = h.values;
       made = λ d. at1_all (λ (i : ℕ) (x : List ℕ). i < g.clients → MadeHold g w v i x) v.made c bs d (λ l. made) (λ n. h.made d);
-    }
+    })

@@ -7,7 +7,7 @@ use Rattle.shm_graph.specs.declared.spot.Spot.{Spot, TheVariants.{Tail, QueueHea
 use Rattle.shm_graph.specs.{declared.{memo.{Stored.Stored, Memo.Memo}, table.Part.Part}, Tables.contents_of}
 use Rattle.shm_graph.specs.{Views.{View, view, at1, targets}, Held.{HeldAt, KnownAt, ValueAt, is_loose}}
 use Rattle.shm_graph.specs.{Reach.{not_at, learnt}, MemoAfterRead.valued}
-use Rattle.shm_graph.proofs.Memos.{Frames.at1_all, MemoParts.{changed_view, put_same, view_here}}
+use Rattle.shm_graph.proofs.Memos.{Frames.at1_all, MemoParts.{changed_view, put_same, view_here}, RecallHeld.memo_held}
 use Rattle.shm_graph.proofs.{States.Holders.InReach, StepKinds.Loads.choice}
 
 -- c knows a word as it is
@@ -22,44 +22,18 @@ ValueHolds g w v c = ValueAt (contents_of g.wide w (targets g w v)) (InReach w g
 pub known_held : (g : Geometry) (w : Spot → ℕ) (v : View) (c : ℕ) (ks : List Stored) (vs : List ℕ) → HeldAt g w v → All (KnownHolds g w v c) ks → All (ValueHolds g w v c) vs
     → HeldAt g w (record v { known = at1 v.known c ks; values = at1 v.values c vs })
 known_held g w v c ks vs h known values =
-    record {
-      fits = h.fits;
-      small = h.small;
-      there = h.there;
-      spare = h.spare;
-      unused = h.unused;
-      sizes = h.sizes;
-      mine = h.mine;
-      state = h.state;
-      latch = h.latch;
-      segments = h.segments;
-      dying = h.dying;
+    memo_held g w v _ h refl (record {
       making = h.making;
-      blocks = h.blocks;
-      era = h.era;
-      own = h.own;
-      op = h.op;
-      redo = h.redo;
-      allowed = h.allowed;
-      count = h.count;
       slots = h.slots;
       looks = h.looks;
-      lanes = h.lanes;
       known = λ d. at1_all (λ (i : ℕ) (x : List Stored). i < g.clients → All (KnownHolds g w v i) x) v.known c ks d (λ l. known) (λ n. h.known d);
       facts = h.facts;
       zeros = h.zeros;
       test = h.test;
       fresh = h.fresh;
-      gone = h.gone;
-      self_lanes = h.self_lanes;
-      no_queue = h.no_queue;
-      tails = h.tails;
-      parts = h.parts;
-      part = h.part;
-      queued = h.queued;
       values = λ d. at1_all (λ (i : ℕ) (x : List ℕ). i < g.clients → All (ValueHolds g w v i) x) v.values c vs d (λ l. values) (λ n. h.values d);
       made = h.made;
-    }
+    })
 
 -- the view of a memo that knows other words and value blocks
 pub known_set : (r : ℕ → Memo) (c : ℕ) (m : Memo) (ks : List Stored) (vs : List ℕ) → ◌≡◌ {A = View} (view (at1 r c (record m { known = ks; values = vs }))) (record (view (at1 r c m)) { known = at1 (view (at1 r c m)).known c ks; values = at1 (view (at1 r c m)).values c vs })

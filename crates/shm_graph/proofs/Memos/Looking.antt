@@ -1,5 +1,5 @@
 -- a block joins the looks
-use Rattle.std.proofs.Common.{Bool, ◌≡◌, ◌≢◌, ℕ, ◌<◌, sym, ◌∙◌, subst, arith, List, [], ◌∷◌, ◌++◌, ◌⊎◌, inl, inr, Option}
+use Rattle.std.proofs.Common.{Bool, ◌≡◌, ◌≢◌, ℕ, ◌<◌, refl, sym, ◌∙◌, subst, arith, List, [], ◌∷◌, ◌++◌, ◌⊎◌, inl, inr, Option}
 use Rattle.std.proofs.lemmas.List.Elements.{All-weaker, Contains-append_left, Contains-append_right, Contains-append_cases}
 use Rattle.std.specs.Prelude.{None, Some}
 use Rattle.shm_words.specs.{declared.{geometry.Geometry.Geometry, header.Header.Header}, Headers.header_of}
@@ -8,7 +8,8 @@ use Rattle.shm_graph.specs.declared.spot.Spot.{Spot, TheVariants.{Home, Root, Ta
 use Rattle.shm_graph.specs.{declared.memo.{Look.Look, Stored.Stored}, Tables.contents_of, Ops.slot_of}
 use Rattle.shm_graph.specs.Views.{View, at1, targets}
 use Rattle.shm_graph.specs.Held.{HeldAt, LooksSound, LookAt, InLooks, SlotOf, KnownAt, ValueAt, named_by, reach_of}
-use Rattle.shm_graph.proofs.{Memos.Frames.at1_all, Runs.Lists.at1_other, States.HomeTarget.home_target}
+use Rattle.shm_graph.proofs.{Memos.{Frames.at1_all, RecallHeld.memo_held}, Runs.Lists.at1_other}
+use Rattle.shm_graph.proofs.States.HomeTarget.{home_target}
 
 -- ---- a longer reach
 
@@ -63,26 +64,8 @@ pub look_held : (g : Geometry) (w : Spot → ℕ) (v : View) (c a : ℕ) (k : Lo
     → LookAt (λ b. targets g w v (Home b)) (λ b i. targets g w v (Body b i)) (λ b. tag_author g.wide (w (Tag b))) (v.latch c) (reach_of (targets g w v) (λ s r. w (Tail s r)) (λ s r. w (QueueHead s r)) v.looks c) k.from k.block
     → HeldAt g w (record v { looks = at1 v.looks c (v.looks c ++ k ∷ []) })
 look_held g w v c a k h l latched new =
-    record {
-      fits = h.fits;
-      small = h.small;
-      there = h.there;
-      spare = h.spare;
-      unused = h.unused;
-      sizes = h.sizes;
-      mine = h.mine;
-      state = h.state;
-      latch = h.latch;
-      segments = h.segments;
-      dying = h.dying;
+    memo_held g w v _ h refl (record {
       making = h.making;
-      blocks = h.blocks;
-      era = h.era;
-      own = h.own;
-      op = h.op;
-      redo = h.redo;
-      allowed = h.allowed;
-      count = h.count;
       slots = λ d m o. slot_more g.wide d (λ b. header_of (w (Head b))) (λ b. w (Tag b)) (v.latch d) (λ s r. w (Tail s r)) (λ s r. w (QueueHead s r)) (near d) (far d) (more d) (slot_of (v.op d)) (h.slots d m o);
       looks = λ d. at1_all (λ (i : ℕ) (x : List Look). i < g.clients → LooksSound (λ b. targets g w v (Home b)) (λ b i. targets g w v (Body b i)) (λ b. tag_author g.wide (w (Tag b))) (v.latch i) (named_by (targets g w v) (λ s r. w (Tail s r)) (λ s r. w (QueueHead s r)) i) [] x)
           v.looks c (v.looks c ++ k ∷ []) d
@@ -90,7 +73,6 @@ look_held g w v c a k h l latched new =
           (look_more (λ b. targets g w v (Home b)) (λ b i. targets g w v (Body b i)) (λ b. tag_author g.wide (w (Tag b))) (v.latch c) (near c) (λ b. named_by (targets g w v) (λ s r. w (Tail s r)) (λ s r. w (QueueHead s r)) c b ⊎ (InLooks [] b ⊎ InLooks (v.looks c) b))
           (λ b x. elim x [ inl y ↦ inl y | inr y ↦ inr (inr y) ]) k.from k.block new))
           (λ n. h.looks d);
-      lanes = h.lanes;
       known = λ d m. All-weaker (λ (s : Stored). KnownAt g.wide d (λ b. w (Tag b)) (λ b i. w (Body b i)) (λ s r k. w (Slot s r k)) (λ s r. w (Tail s r)) (λ s r. w (QueueHead s r)) (v.untaken d) (v.latch d) (near d) (v.dying d) s.spot s.value)
           (λ (s : Stored). KnownAt g.wide d (λ b. w (Tag b)) (λ b i. w (Body b i)) (λ s r k. w (Slot s r k)) (λ s r. w (Tail s r)) (λ s r. w (QueueHead s r)) (v.untaken d) (v.latch d) (far d) (v.dying d) s.spot s.value)
           (λ s. known_more g.wide d (λ b. w (Tag b)) (λ b i. w (Body b i)) (λ s r k. w (Slot s r k)) (λ s r. w (Tail s r)) (λ s r. w (QueueHead s r)) (v.untaken d) (v.latch d) (near d) (far d) (v.dying d) (more d) s.spot s.value) (v.known d) (h.known d m);
@@ -108,16 +90,9 @@ look_held g w v c a k h l latched new =
         sends = f.sends;
         takes = f.takes;
       };
-      gone = h.gone;
-      self_lanes = h.self_lanes;
-      no_queue = h.no_queue;
-      tails = h.tails;
-      parts = h.parts;
-      part = h.part;
-      queued = h.queued;
       values = λ d m. All-weaker (ValueAt (contents_of g.wide w (targets g w v)) (near d)) (ValueAt (contents_of g.wide w (targets g w v)) (far d)) (λ b x. (x.0, more d b x.1)) (v.values d) (h.values d m);
       made = h.made;
-    }
+    })
   where
     near : ℕ → ℕ → Type 0
     near = reach_of (targets g w v) (λ s r. w (Tail s r)) (λ s r. w (QueueHead s r)) v.looks

@@ -28,21 +28,8 @@ place_of (Page s p) = place.Page s p
 place_of _ = place.Spare
 
 pub place-spot : (class : ℕ → ℕ → ℕ) (a : ℕ) (p : Place) → is_in_body (spot_of class a p) ≡ false → place_of (spot_of class a p) ≡ p
-place-spot class a place.Spare n = refl
-place-spot class a (place.Status c) n = refl
-place-spot class a (place.Redo c) n = refl
-place-spot class a (place.RedoMore c) n = refl
-place-spot class a (place.Hold c) n = refl
-place-spot class a (place.Latch c) n = refl
-place-spot class a (place.Home c) n = refl
-place-spot class a (place.Era i j) n = refl
-place-spot class a (place.Root c k) n = refl
-place-spot class a (place.Tail s r) n = refl
-place-spot class a (place.Head s r) n = refl
-place-spot class a (place.Slot s r k) n = refl
-place-spot class a (place.Segment s) n = refl
-place-spot class a (place.Page s p) n = refl
 place-spot class a (place.Body s p i) n = absurd (true≢false (sym (block_in_body (class s p) a i) ∙ n))
+place-spot class a _ n = refl
 
 -- the pool has the spot of a place that it has
 pub fixed_is_at : (g : Geometry) (class : ℕ → ℕ → ℕ) (p : Spot) → is_in_body p ≡ false → is_in g (place_of p) ≡ true → IsAt g class p

@@ -25,21 +25,8 @@ same_page class s q h p e none =
 
 -- no spot before the bodies depends on the classes
 fixed_same : (class other : ℕ → ℕ → ℕ) (a : ℕ) (p : Place) → is_in_body (spot_of class a p) ≡ false → spot_of other a p ≡ spot_of class a p
-fixed_same class other a place.Spare n = refl
-fixed_same class other a (place.Status c) n = refl
-fixed_same class other a (place.Redo c) n = refl
-fixed_same class other a (place.RedoMore c) n = refl
-fixed_same class other a (place.Hold c) n = refl
-fixed_same class other a (place.Latch c) n = refl
-fixed_same class other a (place.Home c) n = refl
-fixed_same class other a (place.Era i j) n = refl
-fixed_same class other a (place.Root c k) n = refl
-fixed_same class other a (place.Tail s r) n = refl
-fixed_same class other a (place.Head s r) n = refl
-fixed_same class other a (place.Slot s r k) n = refl
-fixed_same class other a (place.Segment s) n = refl
-fixed_same class other a (place.Page s p) n = refl
 fixed_same class other a (place.Body s p i) n = absurd (true≢false (sym (block_in_body (class s p) a i) ∙ n))
+fixed_same class other a _ n = refl
 
 pub fixed_stays : (g : Geometry) (class other : ℕ → ℕ → ℕ) (a : ℕ) (p : Spot) → spot_at g class a ≡ p → is_in_body p ≡ false → spot_at g other a ≡ p
 unfolding spot_at

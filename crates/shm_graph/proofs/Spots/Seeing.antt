@@ -41,21 +41,8 @@ unfolding spot_at spot_address
 page_spot g class s p h = ap (spot_of class _) (place-address g (place.Page s p) h)
 
 page_of_spot : (class : ℕ → ℕ → ℕ) (a s p : ℕ) (q : Place) → spot_of class a q ≡ Page s p → q ≡ place.Page s p
-page_of_spot class a s p place.Spare e = cc
-page_of_spot class a s p (place.Status c) e = cc
-page_of_spot class a s p (place.Redo c) e = cc
-page_of_spot class a s p (place.RedoMore c) e = cc
-page_of_spot class a s p (place.Hold c) e = cc
-page_of_spot class a s p (place.Latch c) e = cc
-page_of_spot class a s p (place.Home c) e = cc
-page_of_spot class a s p (place.Era i j) e = cc
-page_of_spot class a s p (place.Root c k) e = cc
-page_of_spot class a s p (place.Tail t r) e = cc
-page_of_spot class a s p (place.Head t r) e = cc
-page_of_spot class a s p (place.Slot t r k) e = cc
-page_of_spot class a s p (place.Segment t) e = cc
-page_of_spot class a s p (place.Page t u) e = cc
 page_of_spot class a s p (place.Body t u i) e = absurd (true≢false (sym (block_in_body (class t u) a i) ∙ ap is_in_body e))
+page_of_spot class a s p _ e = cc
 
 -- what a pool's words say of a page is what is seen at it
 no_page : (g : Geometry) (class : ℕ → ℕ → ℕ) (s p : ℕ) → GeometryFits g → is_in g (place.Page s p) ≡ false → IsAt g class (Page s p) → ⊥

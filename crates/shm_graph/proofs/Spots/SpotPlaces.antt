@@ -1,5 +1,5 @@
 -- the places of spots, and the spots of places
-use Rattle.std.proofs.Common.{◌≡◌, ◌≢◌, ℕ, ◌+◌, ◌*◌, ◌%◌, ◌<◌, ◌≤◌, true, Bool, refl, sym, ap, subst, arith, inl, inr, List}
+use Rattle.std.proofs.Common.{◌≡◌, ◌≢◌, ℕ, ◌+◌, ◌*◌, ◌%◌, ◌<◌, ◌≤◌, true, Bool, refl, sym, ap, subst, arith, inl, inr}
 use Rattle.std.proofs.lemmas.Bool.{cases_lt, Decides.nat_tests}
 use Rattle.shm_words.specs.declared.{geometry.Geometry.Geometry, place.Place.Place}
 use Rattle.shm_words.specs.declared.place.Place.TheVariants as place
@@ -7,8 +7,7 @@ use Rattle.shm_words.specs.Layout as layout
 use Rattle.shm_words.proofs.{Placing.{place-address, in_place}, Regions.body_at}
 use Rattle.shm_graph.specs.declared.spot.Spot.{Spot}
 use Rattle.shm_graph.specs.declared.spot.Spot.TheVariants.{Status, Redo, RedoMore, Hold, Latch, Home, Era, Root, Tail, QueueHead, Slot, Segment, Page, Head}
-use Rattle.shm_graph.specs.Spots.{block_spot, spot_of, spot_at, spot_address, IsAt, classes_in, see}
-use Rattle.shm_graph.proofs.Spots.Seeing.{seen_is_at}
+use Rattle.shm_graph.specs.Spots.{block_spot, spot_of, spot_at, spot_address, IsAt}
 
 -- ---- places of addresses
 
@@ -49,19 +48,7 @@ block_in g k a i = grind (arith, nat_tests)
 in_from_place : (g : Geometry) (class : ℕ → ℕ → ℕ) (a : ℕ) (q : Place) → layout.is_in g q ≡ true → spot_in g (spot_of class a q) ≡ true
 in_from_place g class a (place.Body s p i) e = block_in g (class s p) a i
 in_from_place g class a place.Spare e = refl
-in_from_place g class a (place.Status c) e = e
-in_from_place g class a (place.Redo c) e = e
-in_from_place g class a (place.RedoMore c) e = e
-in_from_place g class a (place.Hold c) e = e
-in_from_place g class a (place.Latch c) e = e
-in_from_place g class a (place.Home c) e = e
-in_from_place g class a (place.Era i j) e = e
-in_from_place g class a (place.Root c k) e = e
-in_from_place g class a (place.Tail s r) e = e
-in_from_place g class a (place.Head s r) e = e
-in_from_place g class a (place.Slot s r k) e = e
-in_from_place g class a (place.Segment s) e = e
-in_from_place g class a (place.Page s p) e = e
+in_from_place g class a _ e = e
 
 -- the pool has the spot of each address
 pub spot_is_in : (g : Geometry) (class : ℕ → ℕ → ℕ) (a : ℕ) → layout.GeometryFits g → spot_in g (spot_at g class a) ≡ true

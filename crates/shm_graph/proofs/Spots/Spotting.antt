@@ -105,21 +105,8 @@ block_in_body k a i = grind (arith, nat_tests)
 
 fixed_address : (g : Geometry) (class : ℕ → ℕ → ℕ) (a : ℕ) (p : Place) → is_in_body (spot_of class a p) ≡ false → spot_address g (spot_of class a p) ≡ layout.address g p
 unfolding spot_address
-fixed_address g class a place.Spare n = refl
-fixed_address g class a (place.Status c) n = refl
-fixed_address g class a (place.Redo c) n = refl
-fixed_address g class a (place.RedoMore c) n = refl
-fixed_address g class a (place.Hold c) n = refl
-fixed_address g class a (place.Latch c) n = refl
-fixed_address g class a (place.Home c) n = refl
-fixed_address g class a (place.Era i j) n = refl
-fixed_address g class a (place.Root c k) n = refl
-fixed_address g class a (place.Tail s r) n = refl
-fixed_address g class a (place.Head s r) n = refl
-fixed_address g class a (place.Slot s r k) n = refl
-fixed_address g class a (place.Segment s) n = refl
-fixed_address g class a (place.Page s p) n = refl
 fixed_address g class a (place.Body s p i) n = absurd (true≢false (sym (block_in_body (class s p) a i) ∙ n))
+fixed_address g class a _ n = refl
 
 -- the address of the spot of an address
 pub address-spot : (g : Geometry) (class : ℕ → ℕ → ℕ) (a : ℕ) → a < total_of g → spot_address g (spot_at g class a) ≡ a

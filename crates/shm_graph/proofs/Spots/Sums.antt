@@ -2,8 +2,7 @@
 use Rattle.std.proofs.Common.{◌≡◌, ◌≢◌, ℕ, ◌+◌, ◌<◌, zero, suc, refl, sym, ap, ◌∙◌, arith, inl, inr}
 use Rattle.std.proofs.lemmas.Bool.{cases_eq, eq-eqb, ne_eqb}
 use Rattle.std.specs.Prelude.{◌==◌}
-use Rattle.shm_words.specs.{declared.geometry.Geometry.Geometry, Layout.total_of}
-use Rattle.shm_graph.specs.{declared.spot.Spot.Spot, Spots.spot_at, References.{sum_below, one_if, references_to}}
+use Rattle.shm_graph.specs.References.{sum_below, one_if}
 
 pub sum_none : (n : ℕ) (f : ℕ → ℕ) → ((a : ℕ) → a < n → f a ≡ 0) → sum_below n f ≡ 0
 sum_none zero f h = refl

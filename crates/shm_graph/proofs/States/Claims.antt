@@ -39,9 +39,7 @@ no_looks home body author named earlier (k ∷ ks) s = absurd (none k.from k.blo
 -- only one role is that of an entry
 entry_is : (role : Role) → is_entry role ≡ true → role ≡ Entry
 entry_is Entry e = refl
-entry_is Directory e = absurd (false≢true e)
-entry_is Value e = absurd (false≢true e)
-entry_is Other e = absurd (false≢true e)
+entry_is _ e = absurd (false≢true e)
 
 module _ (g : Geometry) (w : Spot → ℕ) (r : ℕ → Memo) (h : HeldAt g w (view r)) (c : ℕ) (l : c < g.clients) where
   -- what is told of a block by this memo, and the blocks that it has in reach

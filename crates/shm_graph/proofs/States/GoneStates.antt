@@ -13,10 +13,8 @@ use Rattle.shm_graph.proofs.{Spots.Spotting.same_spot_not, States.Counting.{cove
 
 -- the status word 3 is that of gone
 word_gone : (s : AStatus) → status_word s ≡ 3 → s ≡ Gone
-word_gone New e = absurd (omega arith)
-word_gone Live e = absurd (omega arith)
-word_gone Dead e = absurd (omega arith)
 word_gone Gone e = refl
+word_gone _ e = absurd (omega arith)
 
 -- where no step of c is committed its own era is shown nowhere
 module _ (n : ℕ) (head : ℕ → Header) (era : ℕ → ℕ → ℕ) (on : ℕ → Option ℕ) (c : ℕ) (x : EraSound n head era on) (none : on c ≡ None) where

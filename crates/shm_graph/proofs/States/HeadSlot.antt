@@ -35,14 +35,12 @@ cover_zero q p x =
 
 -- a step that covers a slot to its own identity makes it 0
 slot_cover : (c s k d : ℕ) (o : Op) → Allowed d o → (slot_of o ≡ Slot s c k → c ≡ d) → (x : ℕ) → cover (cover_of o) (Slot s c k) x ≡ x ⊎ cover (cover_of o) (Slot s c k) x ≡ 0
-slot_cover c s k d Nothing may own x = inl refl
 slot_cover c s k d (Alloc f p b e) may own x = inl (cover_never f p (Slot s c k) b x (λ q. false≢true (ap is_root (sym q) ∙ may)))
 slot_cover c s k d (Up f p b e) may own x = inl (cover_never f p (Slot s c k) b x (λ q. true≢false (sym (eq-eqb c d (own q)) ∙ (ap (is_slot_to d) (sym q) ∙ may))))
-slot_cover c s k d (Down Begun p b e) may own x = inl refl
 slot_cover c s k d (Down Committed p b e) may own x = cover_zero p (Slot s c k) x
 slot_cover c s k d (Down Written p b e) may own x = cover_zero p (Slot s c k) x
 slot_cover c s k d (Change (Raising f) p a b e) may own x = inl (cover_never f p (Slot s c k) b x (λ q. true≢false (ap is_slot (sym q) ∙ may.0)))
-slot_cover c s k d (Change (Lowering f) p a b e) may own x = inl refl
+slot_cover c s k d _ may own x = inl refl
 
 -- covers that leave a word or make it 0
 covered_or_none : (ps : ℕ → Cover) (n : ℕ) (p : Spot) (x : ℕ) → ((d : ℕ) → d < n → (y : ℕ) → cover (ps d) p y ≡ y ⊎ cover (ps d) p y ≡ 0) → covered ps n p x ≡ x ⊎ covered ps n p x ≡ 0

@@ -29,14 +29,12 @@ cover_never Committed q p new x n = cover_on q p new x (λ e. absurd (n e))
 cover_never Written q p new x n = cover_on q p new x (λ e. absurd (n e))
 
 home_cover : (g : Geometry) (class : ℕ → ℕ → ℕ) (redo more own : ℕ) (w : Spot → ℕ) (c a : ℕ) (o : Op) → OpTie g class redo more own (words_of g.wide w) o → Allowed c o → w (Home a) ≢ 0 → cover (cover_of o) (Home a) (w (Home a)) ≡ w (Home a)
-home_cover g class redo more own w c a Nothing tie may n = refl
 home_cover g class redo more own w c a (Alloc s p b e) tie may n = cover_never s p (Home a) b (w (Home a)) (λ q. false≢true (ap is_root (sym q) ∙ may))
-home_cover g class redo more own w c a (Up Begun p b e) tie may n = refl
 home_cover g class redo more own w c a (Up Committed p b e) tie may n = cover_on p (Home a) b (w (Home a)) (λ q. absurd (n (subst (λ r. word_at (words_of g.wide w) r ≡ 0) q tie.word)))
 home_cover g class redo more own w c a (Up Written p b e) tie may n = cover_on p (Home a) b (w (Home a)) (λ q. sym (subst (λ r. word_at (words_of g.wide w) r ≡ b) q tie.word))
 home_cover g class redo more own w c a (Down s p b e) tie may n = cover_never s p (Home a) 0 (w (Home a)) (λ q. true≢false (ap is_home (sym q) ∙ may))
 home_cover g class redo more own w c a (Change (Raising s) p x b e) tie may n = cover_never s p (Home a) b (w (Home a)) (λ q. true≢false (ap is_home (sym q) ∙ may.1))
-home_cover g class redo more own w c a (Change (Lowering s) p x b e) tie may n = refl
+home_cover g class redo more own w c a _ tie may n = refl
 
 pub home_target : (g : Geometry) (w : Spot → ℕ) (v : View) (a : ℕ) → HeldAt g w v → w (Home a) ≢ 0 → targets g w v (Home a) ≡ w (Home a)
 home_target g w v a h n =

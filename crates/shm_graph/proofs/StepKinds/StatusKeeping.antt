@@ -10,7 +10,7 @@ use Rattle.shm_graph.specs.{Held.{HeldAt, Fresh, KnownAt, ValueAt, MakingTie, re
 use Rattle.shm_graph.specs.{Changes.{called, with_end}, Agents.with_status, Ops.{cover_of, held_over_of}}
 use Rattle.shm_graph.specs.Laws.{Frame, framed, Stands, KeptAt, GoneNow}
 use Rattle.shm_graph.specs.declared.memo.Status.TheVariants as status
-use Rattle.shm_graph.proofs.Memos.{Frames.at1_all, MemoParts.{changed_view, put_same, status_set}}
+use Rattle.shm_graph.proofs.Memos.{Frames.at1_all, MemoParts.{changed_view, put_same, status_set}, RecallHeld.memo_held}
 use Rattle.shm_graph.proofs.{Runs.Lists.at1_here, Machines.Calling.{called_held, called_part, called_by}}
 use Rattle.shm_graph.proofs.StepKinds.{StatusStore.status_held, SameGraph.same_graph, Keeping.fixed_kept}
 
@@ -27,29 +27,10 @@ forgets_set r c m = let v : View = view (at1 r c m) in
 
 forgets_held : (g : Geometry) (w : Spot → ℕ) (v : View) (c : ℕ) → HeldAt g w v → HeldAt g w (forgets_view v c)
 forgets_held g w v c h =
-    record {
-      fits = h.fits;
-      small = h.small;
-      there = h.there;
-      spare = h.spare;
-      unused = h.unused;
-      sizes = h.sizes;
-      mine = h.mine;
-      state = h.state;
-      latch = h.latch;
-      segments = h.segments;
-      dying = h.dying;
+    memo_held g w v _ h refl (record {
       making = λ d. at1_all (λ (i : ℕ) (x : Option Making). i < g.clients → MakingTie g (λ s q. w (Page s q)) (λ s. w (Segment s)) (λ b. w (Head b)) (λ b. w (Tag b)) (λ b i. w (Body b i)) i x) v.making c None d (λ l. tt) (λ n. h.making d);
-      blocks = h.blocks;
-      era = h.era;
-      own = h.own;
-      op = h.op;
-      redo = h.redo;
-      allowed = h.allowed;
-      count = h.count;
       slots = h.slots;
       looks = h.looks;
-      lanes = h.lanes;
       known = λ d. at1_all (λ (i : ℕ) (x : List Stored). i < g.clients → All (λ (k : Stored). KnownAt g.wide i (λ b. w (Tag b)) (λ b i. w (Body b i)) (λ s r k. w (Slot s r k)) (λ s r. w (Tail s r)) (λ s r. w (QueueHead s r)) (v.untaken i) (v.latch i) (reach_of (targets g w v) (λ s r. w (Tail s r)) (λ s r. w (QueueHead s r)) v.looks i) (v.dying i) k.spot k.value) x)
           v.known c [] d (λ l. All-nil _) (λ n. h.known d);
       facts = h.facts;
@@ -58,16 +39,9 @@ forgets_held g w v c h =
       fresh = λ d. at1_all (λ (i : ℕ) (x : Option Making). i < g.clients → v.status i ≡ status.New → Fresh i (v.own i) (v.op i) (v.latch i) (v.looks i) x (v.owned i) (v.dying i) (v.unsent i) (v.untaken i)) v.making c None d
           (λ l st. let q = h.fresh c l st in record { words = q.words; idle = q.idle; latched = q.latched; looked = q.looked; made = refl; segments = q.segments; dyings = q.dyings; sends = q.sends; takes = q.takes })
           (λ n. h.fresh d);
-      gone = h.gone;
-      self_lanes = h.self_lanes;
-      no_queue = h.no_queue;
-      tails = h.tails;
-      parts = h.parts;
-      part = h.part;
-      queued = h.queued;
       values = λ d. at1_all (λ (i : ℕ) (x : List ℕ). i < g.clients → All (ValueAt (contents_of g.wide w (targets g w v)) (reach_of (targets g w v) (λ s r. w (Tail s r)) (λ s r. w (QueueHead s r)) v.looks i)) x) v.values c [] d (λ l. All-nil _) (λ n. h.values d);
       made = h.made;
-    }
+    })
 
 -- a dead client's identity is taken over
 pub dead_kept : (me : Me) (w : Spot → ℕ) (r : ℕ → Memo) (f : Frame) (tr : Trail) (at : ℕ) (after : ℕ → Memo → Type 0) → Stands me w r f tr → spot_at me.geometry (classes w) at ≡ Status me.who

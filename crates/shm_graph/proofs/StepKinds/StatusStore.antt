@@ -23,9 +23,7 @@ not_own w c x d _ o = cc
 
 pub status_small : (s : AStatus) → status_word s < 2 ^ 64
 status_small status.New = lit< tt
-status_small status.Live = lit< tt
-status_small status.Dead = lit< tt
-status_small status.Gone = lit< tt
+status_small _ = lit< tt
 
 -- c stores its status: one that is new has nothing, and one that is gone has nothing left to finish
 pub status_held : (g : Geometry) (w : Spot → ℕ) (v : View) (c : ℕ) (s : AStatus) → HeldAt g w v → c < g.clients

@@ -2,7 +2,7 @@
 use Rattle.std.proofs.Common.{◌≡◌, ℕ, refl, ◌∙◌}
 use Rattle.std.specs.{Prelude.{Option, Some, None, ◌∷◌, [], ◌++◌}, Option.option_map}
 use Rattle.shm_graph.specs.{declared.{memo.Memo.Memo, ask.{Ask.Ask, Me.Me}, spot.Spot.Spot}, Asks.pair}
-use Rattle.shm_graph.specs.Laws.{Control, Frame, KeptAt, Laws, Steady, Inside, Back, Keeps, Then, Outcome, is_some}
+use Rattle.shm_graph.specs.Laws.{Control, Frame, KeptAt, Laws, Steady, Inside, Back, EachStepKeeps, Then, Outcome, is_some}
 use Rattle.shm_graph.specs.Mapped.{OnTheWay, AtTheEnd, mapped, MappedGives, SomeFits, SomeGives, AmongFits, AmongGives}
 
 -- what follows of the memo after a step
@@ -39,7 +39,7 @@ module _ {S A B : Type 0} (f : A → B) (k : Control S A) (fits : OnTheWay S) (g
   mapped_back h m n going goes r0 r tr b g = (g.0, g.1, h m n going (none_told f (k.turns m n) goes) r0 r tr g.0 g.2)
 
   -- its steps keep the invariant where those of the other one do
-  pub mapped_keeps : Keeps k fits gives → Keeps (mapped f k) fits (MappedGives f gives)
+  pub mapped_keeps : EachStepKeeps k fits gives → EachStepKeeps (mapped f k) fits (MappedGives f gives)
   mapped_keeps h m r0 tr going w r frame s fit =
       followed (k.me m) w r (k.asks m) frame (Then k fits gives m r0 tr) (Then (mapped f k) fits (MappedGives f gives) m r0 tr) _
       (λ n x. outcome_told f (k.turns m n) (fits (k.after m n) r0 x (tr ++ pair (k.asks m) n ∷ [])) (gives m r0 x (tr ++ pair (k.asks m) n ∷ [])))
@@ -58,14 +58,14 @@ outcome_more (Some a) P P' Q Q' f g h = g a h
 
 module _ {S A X : Type 0} (k : Control S A) (fits : X → OnTheWay S) (gives : X → AtTheEnd S A) where
   -- steps keep the invariant for some x where they do for each
-  some_keeps : ((x : X) → Keeps k (fits x) (gives x)) → Keeps k (SomeFits fits) (SomeGives gives)
+  some_keeps : ((x : X) → EachStepKeeps k (fits x) (gives x)) → EachStepKeeps k (SomeFits fits) (SomeGives gives)
   some_keeps h m r0 tr going w r frame s fit =
       followed (k.me m) w r (k.asks m) frame (Then k (fits fit.0) (gives fit.0) m r0 tr) (Then k (SomeFits fits) (SomeGives gives) m r0 tr) _
       (λ n z. outcome_more (k.turns m n) _ _ (gives fit.0 m r0 z (tr ++ pair (k.asks m) n ∷ [])) (SomeGives gives m r0 z (tr ++ pair (k.asks m) n ∷ [])) (λ q. (fit.0, q)) (λ a q. (fit.0, q)))
       (h fit.0 m r0 tr going w r frame s fit.1)
 
   -- the laws for each x are laws for some x
-  pub some_laws : Steady k → ((x : X) → Inside k (fits x)) → ((x : X) → Back k (gives x)) → ((x : X) → Keeps k (fits x) (gives x)) → Laws k (SomeFits fits) (SomeGives gives)
+  pub some_laws : Steady k → ((x : X) → Inside k (fits x)) → ((x : X) → Back k (gives x)) → ((x : X) → EachStepKeeps k (fits x) (gives x)) → Laws k (SomeFits fits) (SomeGives gives)
   some_laws steady inside back keeps =
       record {
         steady = steady;
@@ -78,7 +78,7 @@ module _ {S A X : Type 0} (k : Control S A) (fits : X → OnTheWay S) (gives : X
 
 module _ {S A : Type 0} (k : Control S A) (fits : OnTheWay S) (gives : AtTheEnd S A) (Q : S → Type 0) where
   -- steps keep the invariant among the states Q
-  among_keeps : ((m : S) (n : ℕ) → Q m → Q (k.after m n)) → Keeps k fits gives → Keeps k (AmongFits Q fits) (AmongGives Q gives)
+  among_keeps : ((m : S) (n : ℕ) → Q m → Q (k.after m n)) → EachStepKeeps k fits gives → EachStepKeeps k (AmongFits Q fits) (AmongGives Q gives)
   among_keeps stays h m r0 tr going w r frame s fit =
       followed (k.me m) w r (k.asks m) frame (Then k fits gives m r0 tr) (Then k (AmongFits Q fits) (AmongGives Q gives) m r0 tr) _
       (λ n z. outcome_more (k.turns m n) _ _ (gives m r0 z (tr ++ pair (k.asks m) n ∷ [])) (AmongGives Q gives m r0 z (tr ++ pair (k.asks m) n ∷ [])) (λ q. (stays m n fit.0, q)) (λ a q. (fit.0, q)))

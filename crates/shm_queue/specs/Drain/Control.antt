@@ -3,19 +3,18 @@ use Rattle.std.specs.Prelude.{ℕ, ◌+◌, ◌%◌, ◌^◌, ◌<◌, Bool, tru
 use Rattle.shm_words.specs.Layout.{GeometryFits, address}
 use Rattle.shm_words.specs.declared.place.Place.TheVariants as place
 use Rattle.shm_graph.specs.{declared.ask.{Ask.{Ask, TheVariants.Load}, Me.Me}, Laws.Control}
-use Rattle.shm_calls.specs.declared.{calls.Calls.Calls, or.Or.{Or, TheVariants.{First, Second}}, word.Word.Word}
-use Rattle.shm_calls.specs.{CallsControl.{calls_control, calls_of}, Either.or_control, Words.word_control}
-use Rattle.shm_calls.specs.Steering.{Steered}
+use Rattle.plans.specs.declared.{calls.Calls.Calls, or.Or.{Or, TheVariants.{First, Second}}, word.Word.Word}
+use Rattle.plans.specs.{CallsControl.{calls_control, calls_of}, Either.or_control, Words.word_control, Steering.Steered}
 use Rattle.shm_count.specs.declared.answer.EraSpent.{EraSpent}
 use Rattle.shm_queue.specs.declared.{answer.TakeFault.TakeFault, drain.DrainPoint.DrainPoint}
 use Rattle.shm_queue.specs.declared.drain.{DrainPoint.TheVariants.{Status, Item}, DrainState.DrainState}
 use Rattle.shm_queue.specs.declared.take.TakeState.{TakeState}
-use Rattle.shm_queue.specs.Take.Control.{TakeCall, TakeAnswer, take_parts, taking, take_steered}
+use Rattle.shm_queue.specs.Take.Control.{TakeCall, take_parts, taking, take_steered}
 use Rattle.shm_queue.specs.declared.answer.TakeFault.TheVariants as fault
 
 -- a take as a call, and its control
 abbrev pub TakeCalls : Type 0
-TakeCalls = Calls TakeState TakeCall (Result (Unit {0}) TakeFault) TakeAnswer
+TakeCalls = Calls TakeState TakeCall
 
 abbrev pub take_control : Control TakeCalls (Result (Unit {0}) TakeFault)
 take_control = calls_control take_parts take_steered

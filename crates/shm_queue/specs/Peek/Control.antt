@@ -4,8 +4,8 @@ use Rattle.shm_words.specs.Layout.{GeometryFits, address, address_limit}
 use Rattle.shm_words.specs.declared.place.Place.TheVariants as place
 use Rattle.shm_graph.specs.{declared.ask.Me.Me, Laws.Control}
 use Rattle.shm_graph.specs.declared.ask.Ask.TheVariants as ask
-use Rattle.shm_calls.specs.{declared.{or.Or.{Or, TheVariants.{First, Second}}, word.Word.Word}, CallsControl.calls_of}
-use Rattle.shm_calls.specs.{Either.or_control, Words.word_control, Steering.Steered}
+use Rattle.plans.specs.{declared.{or.Or.{Or, TheVariants.{First, Second}}, word.Word.Word}, CallsControl.calls_of}
+use Rattle.plans.specs.{Either.or_control, Words.word_control, Steering.Steered}
 use Rattle.shm_count.specs.declared.answer.{Made.Made, ShareFault.ShareFault}
 use Rattle.shm_count.specs.UpRoot.{Control.{rooting, rooting_steered}, AsPart.{RootingCalls, up_root}}
 use Rattle.shm_queue.specs.declared.{answer.PeekFault.{PeekFault, TheVariants.Empty}, peek.PeekPoint.PeekPoint}

@@ -8,10 +8,10 @@ use Rattle.shm_graph.specs.declared.{ask.Me.Me, memo.{Fact.TheVariants.Counter, 
 use Rattle.shm_graph.specs.{Asks.{Trail, IsWithin}, Core.core, Events.Event, Reach.learnt, MemoAfterRead.valued}
 use Rattle.shm_graph.specs.Views.{own_word}
 use Rattle.shm_graph.specs.declared.spot.Spot.TheVariants as spot
-use Rattle.shm_steps.specs.WordParts.{CountLoaded, HeadSlotLoaded, IsHeadSlot}
-use Rattle.shm_steps.proofs.Cores.{here_same}
-use Rattle.shm_calls.specs.{declared.word.Word.Word, Proved.{CallTells.within_more, Grown.grows_then}, Grown.Grows}
-use Rattle.shm_calls.specs.{Parts.IsHeld, Words.WordLeaves}
+use Rattle.kind_parts.specs.WordParts.{CountLoaded, HeadSlotLoaded, IsHeadSlot}
+use Rattle.kind_parts.proofs.Cores.{here_same}
+use Rattle.plans.specs.{declared.word.Word.Word, Proved.{CallTells.within_more, Grown.grows_then}, Grown.Grows}
+use Rattle.plans.specs.{Parts.IsHeld, Words.WordLeaves}
 use Rattle.shm_count.specs.Proved.Slots.Parts.{era_room}
 use Rattle.shm_queue.specs.{QueueWords.TailSeen, Proved.QueueWords.item_inside}
 use Rattle.shm_queue.specs.Take.{MayTakeFrom, IsHeadRead, IsItemRead, TakeEmpty, slot_memo}

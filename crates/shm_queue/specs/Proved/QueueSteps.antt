@@ -9,8 +9,8 @@ use Rattle.shm_graph.specs.declared.{ask.Me.Me, spot.Spot.TheVariants.{Era, Slot
 use Rattle.shm_graph.specs.{declared.table.Part.{Part, TheVariants.{Loose, Table}}, Spots.spot_address}
 use Rattle.shm_graph.specs.MemoAfterStore.{put}
 use Rattle.shm_graph.proofs.Spots.{SpotPlaces.spot-place, Spotting.in_pool}
-use Rattle.shm_steps.specs.{Raising.is_read, Reparting.Sight}
-use Rattle.shm_steps.proofs.Items.{put_at}
+use Rattle.kind_parts.specs.{Raising.is_read, Reparting.Sight}
+use Rattle.kind_parts.proofs.Items.{put_at}
 use Rattle.shm_count.specs.{declared.point.{Aim.TheVariants.{Up, Down}, StepState.StepState}, Slots.MayStepAt}
 use Rattle.shm_count.specs.Step.{CanStep, Parts.part_after}
 use Rattle.shm_count.specs.declared.point.StepPoint.TheVariants as point

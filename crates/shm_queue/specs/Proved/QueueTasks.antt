@@ -5,7 +5,7 @@ use Rattle.shm_graph.specs.{declared.{ask.Me.Me, memo.Memo.Memo, spot.Spot.TheVa
 use Rattle.shm_graph.specs.{Asks.Trail, Events.Event, Held.is_loose, Idle.{IsIdle, hold_word}, Operations.IsReady}
 use Rattle.shm_graph.specs.Reach.{is_reached}
 use Rattle.shm_graph.proofs.Idles.{idle_core}
-use Rattle.shm_calls.specs.Tasks.{IsNew, TaskLaws}
+use Rattle.plans.specs.Tasks.{IsNew, TaskLaws}
 use Rattle.shm_count.specs.declared.answer.{EraSpent.EraSpent as ASpent, Made.Made}
 use Rattle.shm_count.specs.Proved.Idles.{filled_idle, untouched_idle, is_here}
 use Rattle.shm_queue.specs.declared.answer.{PeekFault.PeekFault, SendFault.SendFault, TakeFault.TakeFault}

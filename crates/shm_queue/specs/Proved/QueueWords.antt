@@ -9,9 +9,9 @@ use Rattle.shm_graph.specs.{declared.memo.{Memo.Memo, Op.TheVariants.Nothing, Lo
 use Rattle.shm_graph.specs.Reach.{in_slot, in_slots, is_reached, named_blocks, not_zero, reached_blocks, roots_below, shown}
 use Rattle.shm_graph.specs.Views.{own_word, view}
 use Rattle.shm_graph.proofs.States.{Holders.{Holds, reach_counted, target_counted}, Reached.reached_here}
-use Rattle.shm_laws.proofs.Keep.{Contains-filter}
-use Rattle.shm_calls.specs.Parts.{IsHeld}
-use Rattle.shm_steps.proofs.{BeginAt.word_target, BeginWords.known_here, Cores.room_least}
+use Rattle.kind_laws.proofs.Lists.{Contains-filter}
+use Rattle.plans.specs.Parts.{IsHeld}
+use Rattle.kind_parts.proofs.{BeginAt.word_target, BeginWords.known_here, Cores.room_least}
 use Rattle.shm_count.specs.{Proved.DyingBlocks.live_room, Step.Control.IsInside}
 use Rattle.shm_queue.specs.QueueWords.{c}
 

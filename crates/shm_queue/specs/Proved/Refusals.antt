@@ -3,7 +3,7 @@ use Rattle.std.proofs.Common.{◌≡◌, ℕ, zero, suc, ap, ◌∙◌, arith, B
 use Rattle.std.specs.Prelude.{◌==◌, nat_lt, Ok, Err}
 use Rattle.shm_words.specs.Headers.{header_of}
 use Rattle.shm_graph.specs.{declared.{ask.Me.Me, spot.Spot.Spot}, Asks.Trail, Trails.{Answers, Chosen}}
-use Rattle.shm_calls.specs.Parts.{PartLaws}
+use Rattle.plans.specs.Parts.{PartLaws}
 use Rattle.shm_count.specs.declared.{answer.UpFault.TheVariants.EraSpent, point.Aim.TheVariants.Down}
 use Rattle.shm_count.specs.{Slots.Parts.down_slot_laws, Step.{Control.last_era, Machines.down_control}}
 use Rattle.shm_count.specs.Step.Asks.{StepTrails, exchange_trail, header_trail, redo_trail, row_trail, set_trail, show_trail, slot_trail, step_trail, first_trail, more_trail}

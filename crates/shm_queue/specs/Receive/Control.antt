@@ -2,20 +2,20 @@
 use Rattle.std.specs.Prelude.{ℕ, ◌<◌, Bool, true, false, Option, Some, None, Result, Ok, Err, []}
 use Rattle.shm_words.specs.Layout.{GeometryFits}
 use Rattle.shm_graph.specs.{declared.ask.Me.Me, Laws.Control}
-use Rattle.shm_calls.specs.declared.{calls.Calls.Calls, or.Or.{Or, TheVariants.{First, Second}}}
-use Rattle.shm_calls.specs.{CallsControl.{calls_control, calls_of}, Either.or_control, Steering.Steered}
+use Rattle.plans.specs.declared.{calls.Calls.Calls, or.Or.{Or, TheVariants.{First, Second}}}
+use Rattle.plans.specs.{CallsControl.{calls_control, calls_of}, Either.or_control, Steering.Steered}
 use Rattle.shm_count.specs.declared.answer.Made.{Made}
 use Rattle.shm_queue.specs.declared.{answer.{PeekFault.PeekFault, TakeFault.TakeFault}, peek.PeekState.PeekState}
 use Rattle.shm_queue.specs.declared.receive.ReceivePoint.{ReceivePoint, TheVariants.{Look, Item}}
 use Rattle.shm_queue.specs.{declared.receive.ReceiveState.ReceiveState, Drain.Control.{TakeCalls, take_control}}
-use Rattle.shm_queue.specs.Peek.Control.{PeekCall, PeekAnswer, peek_parts, peeking, peek_steered}
+use Rattle.shm_queue.specs.Peek.Control.{PeekCall, peek_parts, peeking, peek_steered}
 use Rattle.shm_queue.specs.Take.Control.{taking, take_steered}
 use Rattle.shm_queue.specs.declared.answer.PeekFault.TheVariants as peek
 use Rattle.shm_queue.specs.declared.answer.TakeFault.TheVariants as fault
 
 -- a peek as a call, and its control
 abbrev pub PeekCalls : Type 0
-PeekCalls = Calls PeekState PeekCall (Result Made PeekFault) PeekAnswer
+PeekCalls = Calls PeekState PeekCall
 
 abbrev pub peek_control : Control PeekCalls (Result Made PeekFault)
 peek_control = calls_control peek_parts peek_steered

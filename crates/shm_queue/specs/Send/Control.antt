@@ -4,8 +4,8 @@ use Rattle.shm_words.specs.Layout.{GeometryFits, address, address_limit}
 use Rattle.shm_words.specs.declared.place.Place.TheVariants as place
 use Rattle.shm_graph.specs.{declared.ask.Me.Me, Laws.Control}
 use Rattle.shm_graph.specs.declared.ask.Ask.TheVariants as ask
-use Rattle.shm_calls.specs.{declared.{or.Or.{Or, TheVariants.{First, Second}}, word.Word.Word}, Either.or_control}
-use Rattle.shm_calls.specs.{Words.word_control, Steering.Steered}
+use Rattle.plans.specs.{declared.{or.Or.{Or, TheVariants.{First, Second}}, word.Word.Word}, Either.or_control}
+use Rattle.plans.specs.{Words.word_control, Steering.Steered}
 use Rattle.shm_count.specs.declared.{answer.UpFault.UpFault, point.{StepPoint.TheVariants.Era, StepState.StepState}}
 use Rattle.shm_count.specs.Step.Machines.{up_control}
 use Rattle.shm_count.specs.declared.point.Aim.TheVariants as aims

@@ -1,10 +1,10 @@
 -- a mending leaves the map of the table as it was, at each point on its way
 use Rattle.std.proofs.Common.{ℕ, false, ap, List}
 use Rattle.shm_graph.specs.{declared.{ask.Me.Me, memo.Memo.Memo}, Asks.Trail, Events.Event}
-use Rattle.shm_steps.specs.WordParts.{former_event}
-use Rattle.shm_calls.specs.{CallsControl.calls_control, CallsPart.calls_part, Either.{or_control, or_part}}
-use Rattle.shm_calls.specs.Words.{word_control, word_part}
-use Rattle.shm_count.specs.{CommitTest.{testing_plan, Control.testing_steered}, Steady.{IsSteady, SameTable}}
+use Rattle.kind_parts.specs.WordParts.{former_event}
+use Rattle.plans.specs.{CallsControl.calls_control, CallsPart.calls_part, Either.{or_control, or_part}}
+use Rattle.plans.specs.Words.{word_control, word_part}
+use Rattle.shm_count.specs.{CommitTest.{testing_plan, Control.testing_steered}, Steady.{IsSteady, SameMap}}
 use Rattle.shm_count.proofs.Steady.{calls_steady, event_steady, grown_steady, or_steady, table_of, word_steady}
 use Rattle.shm_count.proofs.Steady.Tests.{test_steady}
 use Rattle.shm_recover.specs.declared.mend.{MendPoint.MendPoint, MendState.MendState}
@@ -23,10 +23,10 @@ use Rattle.shm_recover.specs.declared.mend_unlatch.MendUnlatchPoint.TheVariants 
 
 -- ---- the second half of a change
 
-found_table : (me : Me) (a e n : ℕ) (r0 r : Memo) (es : List Event) → HasFound me a e n r0 r es → SameTable r0 r
+found_table : (me : Me) (a e n : ℕ) (r0 r : Memo) (es : List Event) → HasFound me a e n r0 r es → SameMap r0 r
 found_table me a e n r0 r es h = table_of r0 r (ap (λ (x : Memo). x.part) h.same.rest)
 
-lowering_known : (m : MendLowerState) (y : MendLowerPoint) (r0 r : Memo) (tr : Trail) (es : List Event) → LoweringKnows m y r0 r tr es → SameTable r0 r
+lowering_known : (m : MendLowerState) (y : MendLowerPoint) (r0 r : Memo) (tr : Trail) (es : List Event) → LoweringKnows m y r0 r tr es → SameMap r0 r
 lowering_known m lower.Header r0 r tr es (may, same, none, quiet) = table_of r0 r (ap (λ (x : Memo). x.part) same)
 lowering_known m lower.Row r0 r tr es h = found_table m.me m.block m.era m.header r0 r es h.0
 lowering_known m lower.Show r0 r tr es h = found_table m.me m.block m.era m.header r0 r es h.0
@@ -48,7 +48,7 @@ lowering_steady = calls_steady word_control lowering_plan (λ m. lowering_known 
 
 -- ---- the latch
 
-unlatching_known : (m : MendUnlatchState) (y : MendUnlatchPoint) (r0 r : Memo) (tr : Trail) (es : List Event) → UnlatchingKnows m y r0 r tr es → SameTable r0 r
+unlatching_known : (m : MendUnlatchState) (y : MendUnlatchPoint) (r0 r : Memo) (tr : Trail) (es : List Event) → UnlatchingKnows m y r0 r tr es → SameMap r0 r
 unlatching_known m unlatch.Whose r0 r tr es (may, same, none, quiet) = table_of r0 r (ap (λ (x : Memo). x.part) same)
 unlatching_known m unlatch.Look r0 r tr es h = table_of r0 r (ap (λ (x : Memo). x.part) h.0.same)
 unlatching_known m unlatch.Give r0 r tr es h = table_of r0 r (ap (λ (x : Memo). x.part) h.0.same)
@@ -60,13 +60,13 @@ unlatching_steady =
 
 -- ---- all
 
-dead_table : (me : Me) (r0 r : Memo) (es : List Event) → IsDead me r0 r es → SameTable r0 r
+dead_table : (me : Me) (r0 r : Memo) (es : List Event) → IsDead me r0 r es → SameMap r0 r
 dead_table me r0 r es h = table_of r0 r (ap (λ (x : Memo). x.part) h.same)
 
-mending_table : (me : Me) (r0 r : Memo) → IsMending me r0 r → SameTable r0 r
+mending_table : (me : Me) (r0 r : Memo) → IsMending me r0 r → SameMap r0 r
 mending_table me r0 r h = table_of r0 r (ap (λ (x : Memo). x.part) h.rest)
 
-mend_known : (m : MendState) (y : MendPoint) (r0 r : Memo) (tr : Trail) (es : List Event) → MendKnows m y r0 r tr es → SameTable r0 r
+mend_known : (m : MendState) (y : MendPoint) (r0 r : Memo) (tr : Trail) (es : List Event) → MendKnows m y r0 r tr es → SameMap r0 r
 mend_known m mend.Dead r0 r tr es (may, same, none, quiet) = table_of r0 r (ap (λ (x : Memo). x.part) same)
 mend_known m mend.Era r0 r tr es h = dead_table m.me r0 r es h.0
 mend_known m mend.Redo r0 r tr es h = dead_table m.me r0 r es h.0

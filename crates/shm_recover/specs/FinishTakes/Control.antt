@@ -4,7 +4,7 @@ use Rattle.shm_words.specs.Layout.{GeometryFits, address}
 use Rattle.shm_words.specs.declared.place.Place.TheVariants as place
 use Rattle.shm_graph.specs.declared.ask.{Ask.Ask, Me.Me}
 use Rattle.shm_graph.specs.declared.ask.Ask.TheVariants as ask
-use Rattle.shm_calls.specs.{declared.word.Word.Word, Steering.Steered}
+use Rattle.plans.specs.{declared.word.Word.Word, Steering.Steered}
 use Rattle.shm_recover.specs.declared.finish_takes.FinishPoint.{FinishPoint, TheVariants.{Head, Tail, Slot, Store}}
 use Rattle.shm_recover.specs.{declared.finish_takes.FinishState.FinishState, Others.other_at}
 

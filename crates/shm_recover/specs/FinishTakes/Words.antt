@@ -11,8 +11,8 @@ use Rattle.shm_graph.specs.{Held.HeldAt, Laws.framed, Reach.learnt, MemoAfterRea
 use Rattle.shm_graph.specs.Views.{own_word, targets, view}
 use Rattle.shm_graph.proofs.{Memos.Calls.FactHolds, States.Holders.Holds, StepKinds.Loads.choice}
 use Rattle.shm_graph.proofs.Spots.SpotPlaces.{spot-place}
-use Rattle.shm_calls.specs.{Words.IsWord, Proved.WordSteps.load_at}
-use Rattle.shm_steps.proofs.{BeginAt.word_target, Words.Own.{at_step, word_for}}
+use Rattle.plans.specs.{Words.IsWord, Proved.WordSteps.load_at}
+use Rattle.kind_parts.proofs.{BeginAt.word_target, Words.Own.{at_step, word_for}}
 
 -- no step is in progress, and a tail that was read is above the own head of the queue from s
 pub record IsFirstSlot (c : ℕ) (m : Memo) (s : ℕ) : Type 0 where

@@ -1,7 +1,7 @@
 -- a join as a part of larger machines; its laws are in proofs/JoinPart
 use Rattle.std.specs.Prelude.{◌≡◌, ℕ, List, []}
 use Rattle.shm_graph.specs.{declared.memo.Memo.Memo, Asks.Trail, Events.{Event, Nothing}}
-use Rattle.shm_calls.specs.Parts.{Part}
+use Rattle.plans.specs.Parts.{Part}
 use Rattle.shm_recover.specs.{declared.join.JoinState.JoinState, Join.Asks.join_trail}
 use Rattle.shm_recover.specs.Join.{CanJoin, JoinFits, JoinGives, join_fresh}
 

@@ -4,9 +4,8 @@ use Rattle.shm_words.specs.Layout.{GeometryFits, address}
 use Rattle.shm_words.specs.declared.place.Place.TheVariants as place
 use Rattle.shm_graph.specs.{declared.ask.{Ask.Ask, Me.Me}, Laws.Control}
 use Rattle.shm_graph.specs.declared.ask.Ask.TheVariants as ask
-use Rattle.shm_calls.specs.declared.{calls.Calls.Calls, or.Or.{Or, TheVariants.{First, Second}}, word.Word.Word}
-use Rattle.shm_calls.specs.{CallsControl.{calls_control, calls_of}, Either.or_control, Words.word_control}
-use Rattle.shm_calls.specs.Steering.{Steered}
+use Rattle.plans.specs.declared.{calls.Calls.Calls, or.Or.{Or, TheVariants.{First, Second}}, word.Word.Word}
+use Rattle.plans.specs.{CallsControl.{calls_control, calls_of}, Either.or_control, Words.word_control, Steering.Steered}
 use Rattle.shm_count.specs.declared.answer.EraSpent.{EraSpent}
 use Rattle.shm_ref.specs.declared.drop_roots.RootsState.{RootsState}
 use Rattle.shm_ref.specs.DropRoots.Control.{RootsCall, drop_root, roots_steered}
@@ -15,7 +14,7 @@ use Rattle.shm_recover.specs.declared.leave.LeaveState.{LeaveState}
 
 -- its calls, and what they answer
 abbrev pub LeaveCall : Type 0
-LeaveCall = Or (Calls RootsState RootsCall (Result (Unit {0}) EraSpent) (Result Bool EraSpent)) Word
+LeaveCall = Or (Calls RootsState RootsCall) Word
 
 abbrev pub LeaveAnswer : Type 0
 LeaveAnswer = Or (Result (Unit {0}) EraSpent) ℕ

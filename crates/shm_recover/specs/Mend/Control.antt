@@ -5,9 +5,8 @@ use Rattle.shm_words.specs.declared.place.Place.TheVariants as place
 use Rattle.shm_words.specs.declared.redo.Redo.TheVariants as redos
 use Rattle.shm_graph.specs.{declared.ask.{Ask.Ask, Me.Me}, Laws.Control}
 use Rattle.shm_graph.specs.declared.ask.Ask.TheVariants as ask
-use Rattle.shm_calls.specs.declared.{calls.Calls.Calls, or.Or.{Or, TheVariants.{First, Second}}, word.Word.Word}
-use Rattle.shm_calls.specs.{CallsControl.{calls_control, calls_of}, Either.or_control, Words.word_control}
-use Rattle.shm_calls.specs.Steering.{Steered}
+use Rattle.plans.specs.declared.{calls.Calls.Calls, or.Or.{Or, TheVariants.{First, Second}}, word.Word.Word}
+use Rattle.plans.specs.{CallsControl.{calls_control, calls_of}, Either.or_control, Words.word_control, Steering.Steered}
 use Rattle.shm_count.specs.declared.commit_test.Commit.{Commit, TheVariants.{Committed, NotCommitted}}
 use Rattle.shm_count.specs.declared.commit_test.TestingState.{TestingState}
 use Rattle.shm_count.specs.CommitTest.Control.{testing, testing_steered, is_first_half}
@@ -20,7 +19,7 @@ use Rattle.shm_recover.specs.MendUnlatch.Control.{unlatching, unlatching_steered
 
 -- its calls, and what they answer
 abbrev pub MendCall : Type 0
-MendCall = Or Word (Or (Calls TestingState Word Commit ℕ) (Or (Calls MendLowerState Word (Unit {0}) ℕ) (Calls MendUnlatchState Word (Unit {0}) ℕ)))
+MendCall = Or Word (Or (Calls TestingState Word) (Or (Calls MendLowerState Word) (Calls MendUnlatchState Word)))
 
 abbrev pub MendAnswer : Type 0
 MendAnswer = Or ℕ (Or Commit (Or (Unit {0}) (Unit {0})))

@@ -2,12 +2,12 @@
 use Rattle.std.specs.Prelude.{List}
 use Rattle.shm_graph.specs.{declared.{ask.Me.Me, memo.Memo.Memo}, Asks.Trail, Events.Event, Laws.Control}
 use Rattle.shm_graph.specs.Tells.{happens_along}
-use Rattle.shm_calls.specs.{declared.calls.Calls.Calls, CallsControl.{calls_control, calls_of, calls_does}}
-use Rattle.shm_calls.specs.CallsFit.{CallsFits, CallsGives}
+use Rattle.plans.specs.{declared.calls.Calls.Calls, CallsControl.{calls_control, calls_of, calls_does}}
+use Rattle.plans.specs.CallsFit.{CallsFits, CallsGives}
 use Rattle.shm_recover.specs.declared.mend.MendState.{MendState}
-use Rattle.shm_recover.specs.Mend.{Control.{MendAnswer, MendCall, mend_parts, mending, mend_steered}, mend_plan}
+use Rattle.shm_recover.specs.Mend.{Control.{MendCall, mend_parts, mending, mend_steered}, mend_plan}
 
-abbrev pub mend : Control (Calls MendState MendCall (Unit {0}) MendAnswer) (Unit {0})
+abbrev pub mend : Control (Calls MendState MendCall) (Unit {0})
 mend = calls_control mend_parts mend_steered
 
 abbrev pub MendFits : Me → Memo → Memo → Trail → Type 0

@@ -5,7 +5,7 @@ use Rattle.shm_words.specs.Layout.{GeometryFits, address}
 use Rattle.shm_words.specs.declared.place.Place.TheVariants as place
 use Rattle.shm_graph.specs.declared.ask.{Ask.Ask, Me.Me}
 use Rattle.shm_graph.specs.declared.ask.Ask.TheVariants as ask
-use Rattle.shm_calls.specs.{declared.word.Word.Word, Steering.Steered}
+use Rattle.plans.specs.{declared.word.Word.Word, Steering.Steered}
 use Rattle.shm_count.specs.Step.Control.{row_address}
 use Rattle.shm_recover.specs.declared.mend_lower.MendLowerPoint.{MendLowerPoint}
 use Rattle.shm_recover.specs.declared.mend_lower.MendLowerPoint.TheVariants.{Header, Row, Show, Exchange, Close}

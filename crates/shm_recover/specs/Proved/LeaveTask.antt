@@ -2,7 +2,7 @@
 use Rattle.std.proofs.{Common.{◌≡◌, ℕ, List, [], nat_lt, refl, sym, subst}, lemmas.Bool.true≢false}
 use Rattle.std.specs.Prelude.{IsErr, None, Result, Ok, Err, slice_index}
 use Rattle.shm_graph.specs.{declared.memo.Memo.Memo, Asks.Trail, Events.Event, Idle.IsIdle}
-use Rattle.shm_calls.specs.Tasks.{IsNew, TaskLaws}
+use Rattle.plans.specs.Tasks.{IsNew, TaskLaws}
 use Rattle.shm_count.specs.declared.answer.EraSpent.{EraSpent}
 use Rattle.shm_ref.specs.Proved.RootTasks.{left_idle}
 use Rattle.shm_recover.specs.{declared.leave.LeaveState.LeaveState, Leave.Control.{leave_parts, leaving}}

@@ -2,9 +2,8 @@
 use Rattle.std.specs.Prelude.{ℕ, ◌<◌, Bool, true, false, ◌==◌, if◌then◌else◌, Option, Some, None, Result, Ok, Err, List, [], ◌∷◌}
 use Rattle.shm_words.specs.Layout.{GeometryFits}
 use Rattle.shm_graph.specs.{declared.ask.Me.Me, Laws.Control}
-use Rattle.shm_calls.specs.declared.{calls.Calls.Calls, or.Or.{Or, TheVariants.{First, Second}}, word.Word.Word}
-use Rattle.shm_calls.specs.{CallsControl.{calls_control, calls_of}, Either.or_control, Words.word_control}
-use Rattle.shm_calls.specs.Steering.{Steered}
+use Rattle.plans.specs.declared.{calls.Calls.Calls, or.Or.{Or, TheVariants.{First, Second}}, word.Word.Word}
+use Rattle.plans.specs.{CallsControl.{calls_control, calls_of}, Either.or_control, Words.word_control, Steering.Steered}
 use Rattle.shm_count.specs.declared.answer.EraSpent.{EraSpent}
 use Rattle.shm_ref.specs.declared.drop_roots.RootsState.{RootsState}
 use Rattle.shm_ref.specs.DropRoots.Control.{RootsCall, drop_root, dropping_roots, roots_steered}
@@ -14,28 +13,28 @@ use Rattle.shm_recover.specs.declared.recover.RecoverPoint.TheVariants.{Mend, Ro
 use Rattle.shm_recover.specs.declared.{recover.RecoverState.RecoverState, scan.ScanState.ScanState}
 use Rattle.shm_recover.specs.{declared.take_back.BackState.BackState, FinishTakes.Control.{finishing, finish_steered}}
 use Rattle.shm_recover.specs.GiveUp.Control.{giving_up, give_steered}
-use Rattle.shm_recover.specs.Mend.Control.{MendAnswer, MendCall, mend_parts, mending, mend_steered}
-use Rattle.shm_recover.specs.Scan.Control.{ScanAnswer, ScanCall, scan_parts, scanning, scan_steered}
-use Rattle.shm_recover.specs.TakeBack.Control.{BackAnswer, BackCall, back_parts, taking_back, back_steered}
+use Rattle.shm_recover.specs.Mend.Control.{MendCall, mend_parts, mending, mend_steered}
+use Rattle.shm_recover.specs.Scan.Control.{ScanCall, scan_parts, scanning, scan_steered}
+use Rattle.shm_recover.specs.TakeBack.Control.{BackCall, back_parts, taking_back, back_steered}
 
 -- its calls, and what they answer
 abbrev pub MendCalls : Type 0
-MendCalls = Calls MendState MendCall (Unit {0}) MendAnswer
+MendCalls = Calls MendState MendCall
 
 abbrev pub RootsCalls : Type 0
-RootsCalls = Calls RootsState RootsCall (Result (Unit {0}) EraSpent) (Result Bool EraSpent)
+RootsCalls = Calls RootsState RootsCall
 
 abbrev pub BackCalls : Type 0
-BackCalls = Calls BackState BackCall (Result (Unit {0}) EraSpent) BackAnswer
+BackCalls = Calls BackState BackCall
 
 abbrev pub FinishCalls : Type 0
-FinishCalls = Calls FinishState Word (Unit {0}) ℕ
+FinishCalls = Calls FinishState Word
 
 abbrev pub ScanCalls : Type 0
-ScanCalls = Calls ScanState ScanCall (Result ℕ EraSpent) ScanAnswer
+ScanCalls = Calls ScanState ScanCall
 
 abbrev pub GiveCalls : Type 0
-GiveCalls = Calls GiveState Word (Unit {0}) ℕ
+GiveCalls = Calls GiveState Word
 
 abbrev pub RecoverCall : Type 0
 RecoverCall = Or MendCalls (Or RootsCalls (Or BackCalls (Or FinishCalls (Or ScanCalls GiveCalls))))

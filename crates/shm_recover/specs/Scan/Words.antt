@@ -11,9 +11,9 @@ use Rattle.shm_graph.specs.{Held.{HeldAt, IsDying}, Laws.{Frame, Stands}, MemoAf
 use Rattle.shm_graph.specs.{Spots.{class_at, spot_at}, Views.view}
 use Rattle.shm_graph.proofs.{Memos.Calls.FactHolds, Spots.{SpotPlaces.spot-place, Spotting.block_within}}
 use Rattle.shm_graph.proofs.States.Holders.{held_live_block}
-use Rattle.shm_calls.specs.{declared.word.Word.Word, Parts.IsHeld, Words.IsWord}
-use Rattle.shm_steps.specs.WordParts.{HeaderSeen, PageLoaded}
-use Rattle.shm_steps.proofs.Words.{Blocks.{header_see, paged_there}, Own.word_for, Shared.page_load}
+use Rattle.plans.specs.{declared.word.Word.Word, Parts.IsHeld, Words.IsWord}
+use Rattle.kind_parts.specs.WordParts.{HeaderSeen, PageLoaded}
+use Rattle.kind_parts.proofs.Words.{Blocks.{header_see, paged_there}, Own.word_for, Shared.page_load}
 use Rattle.shm_count.specs.{Proved.DyingBlocks.live_room, Step.Control.IsInside}
 use Rattle.shm_recover.specs.Scan.Control.{place_in, words_before}
 

@@ -9,9 +9,9 @@ use Rattle.shm_graph.specs.declared.{spot.Spot.TheVariants.{Era, QueueHead, Slot
 use Rattle.shm_graph.specs.{declared.memo.{Memo.Memo, Op.TheVariants.Nothing}, Core.core, Held.HeldAt, Laws.framed}
 use Rattle.shm_graph.specs.Views.{own_word, view}
 use Rattle.shm_graph.proofs.{Spots.SpotPlaces.spot-place, States.Holders.target_counted}
-use Rattle.shm_steps.specs.Conditions.{IsHere}
-use Rattle.shm_steps.proofs.{BeginSlots.room_unsent, Words.Own.{at_step, word_for}}
-use Rattle.shm_calls.specs.{Parts.IsHeld, Words.IsWord, Proved.WordSteps.load_at}
+use Rattle.kind_parts.specs.Conditions.{IsHere}
+use Rattle.kind_parts.proofs.{BeginSlots.room_unsent, Words.Own.{at_step, word_for}}
+use Rattle.plans.specs.{Parts.IsHeld, Words.IsWord, Proved.WordSteps.load_at}
 use Rattle.shm_count.specs.{Proved.DyingBlocks.live_room, Step.Control.IsInside}
 
 -- ---- the head

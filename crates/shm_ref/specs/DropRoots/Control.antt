@@ -2,14 +2,14 @@
 use Rattle.std.specs.Prelude.{◌+◌, ◌<◌, Bool, ◌==◌, if◌then◌else◌, Option, Some, None, Result, Ok, Err, []}
 use Rattle.shm_words.specs.Layout.{GeometryFits}
 use Rattle.shm_graph.specs.{declared.ask.Me.Me, Laws.Control}
-use Rattle.shm_calls.specs.{declared.calls.Calls.Calls, CallsControl.{calls_control, calls_of}, Steering.Steered}
+use Rattle.plans.specs.{declared.calls.Calls.Calls, CallsControl.{calls_control, calls_of}, Steering.Steered}
 use Rattle.shm_count.specs.declared.answer.EraSpent.{EraSpent}
 use Rattle.shm_ref.specs.declared.{drop_root.DropState.DropState, drop_roots.RootsState.RootsState}
-use Rattle.shm_ref.specs.DropRoot.Control.{DropCall, DropAnswer, drop_parts, dropping, drop_steered}
+use Rattle.shm_ref.specs.DropRoot.Control.{DropCall, drop_parts, dropping, drop_steered}
 
 -- its calls, each the drop of a root
 abbrev pub RootsCall : Type 0
-RootsCall = Calls DropState DropCall (Result Bool EraSpent) DropAnswer
+RootsCall = Calls DropState DropCall
 
 -- their control
 abbrev pub drop_root : Control RootsCall (Result Bool EraSpent)

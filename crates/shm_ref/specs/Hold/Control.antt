@@ -3,7 +3,7 @@ use Rattle.std.specs.Prelude.{ℕ, ◌+◌, ◌-◌, ◌%◌, ◌<◌, Bool, tru
 use Rattle.shm_words.specs.Layout.{GeometryFits, address}
 use Rattle.shm_words.specs.declared.place.Place.TheVariants as place
 use Rattle.shm_graph.specs.{declared.ask.{Ask.{Ask, TheVariants.{Store, Exchange}}, Me.Me}, Asks.{Trail, pair}}
-use Rattle.shm_calls.specs.{declared.word.Word.Word, Steering.Steered}
+use Rattle.plans.specs.{declared.word.Word.Word, Steering.Steered}
 use Rattle.shm_ref.specs.declared.{answer.Busy.Busy, hold.HoldPoint.{HoldPoint, TheVariants.{Want, Take, Back}}}
 use Rattle.shm_ref.specs.declared.hold.HoldState.{HoldState}
 

@@ -1,7 +1,7 @@
 -- a part that leaves what it asked, besides what it leaves: what is proved of it
 use Rattle.std.proofs.Common.{◌≡◌, ℕ, Bool, ap, ◌∙◌, [], ◌∷◌, ◌++◌}
 use Rattle.shm_graph.specs.{declared.ask.Ask.Ask, Asks.{Trail, pair}, Laws.Control, Trails.{Answers, Asked}}
-use Rattle.shm_calls.specs.Parts.{Part, PartLaws}
+use Rattle.plans.specs.Parts.{Part, PartLaws}
 use Rattle.shm_ref.specs.AskedParts.{asked_part}
 
 pub asked_part_laws : {S A : Type 0} (first : Bool) (k : Control S A) (p : Part S A) → PartLaws first k p → PartLaws first k (asked_part p)

@@ -4,7 +4,7 @@ use Rattle.std.specs.List.{Contains, filter}
 use Rattle.shm_graph.specs.declared.{ask.Me.Me, memo.{Memo.Memo, Stored.Stored}}
 use Rattle.shm_graph.specs.{declared.spot.Spot.TheVariants.{Body, Era, Home, Root}, Core.core, Reach.learnt}
 use Rattle.shm_graph.specs.{MemoAfterStore.with_own, Views.own_word}
-use Rattle.shm_steps.specs.Reparting.{sight}
+use Rattle.kind_parts.specs.Reparting.{sight}
 use Rattle.shm_count.specs.declared.{answer.UpFault.{UpFault, TheVariants.{CountFull, EraSpent}}, point.Aim.Aim}
 use Rattle.shm_count.specs.{Roots.rest, Slots.{Filled, Lost, Sifts, StepCause, Untouched}, Step.Parts.part_after}
 use Rattle.shm_count.specs.Tear.Memos.{is_slot_word}

@@ -5,7 +5,7 @@ use Rattle.shm_words.specs.Layout.{total_of}
 use Rattle.shm_graph.specs.{declared.{ask.Me.Me, memo.Memo.Memo, spot.Spot.Spot}, Held.HeldAt, Reach.is_reached}
 use Rattle.shm_graph.specs.Views.{view}
 use Rattle.shm_graph.proofs.States.{Holders.reach_counted, Reached.reached_here}
-use Rattle.shm_calls.specs.Parts.{IsHeld}
+use Rattle.plans.specs.Parts.{IsHeld}
 use Rattle.shm_count.specs.{Proved.DyingBlocks.live_room, Step.Control.IsInside}
 
 module _ (me : Me) (l : me.who < me.geometry.clients) where

@@ -6,8 +6,8 @@ use Rattle.shm_graph.specs.declared.{ask.{Ask.TheVariants.Load, Me.Me}, memo.{Me
 use Rattle.shm_graph.specs.{declared.spot.Spot.TheVariants.Home, Changes.called, Core.core, Laws.framed}
 use Rattle.shm_graph.specs.{MemoAfterRead.{home_read, is_held}, Spots.spot_at, Views.own_word}
 use Rattle.shm_graph.proofs.Spots.SpotPlaces.{spot-place}
-use Rattle.shm_calls.specs.Proved.WordSteps.{load_at}
-use Rattle.shm_steps.proofs.{Cores.core_cond, Words.Own.at_step}
+use Rattle.plans.specs.Proved.WordSteps.{load_at}
+use Rattle.kind_parts.proofs.{Cores.core_cond, Words.Own.at_step}
 use Rattle.shm_ref.specs.HomeParts.{home_address, OwnHomeRead, home_part}
 
 -- what a home that was read leaves is in the core

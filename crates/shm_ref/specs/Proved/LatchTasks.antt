@@ -5,7 +5,7 @@ use Rattle.std.specs.Prelude.{Result, Ok, Err}
 use Rattle.shm_graph.specs.{declared.{ask.Me.Me, memo.Memo.Memo, spot.Spot.TheVariants.Hold}, Asks.Trail, Events.Event}
 use Rattle.shm_graph.specs.{Idle.{IsIdle, hold_word}, Operations.IsReady, Reach.{is_reached, unlatched}}
 use Rattle.shm_graph.proofs.{Idles.idle_core, Spots.Spotting.same_spot_self}
-use Rattle.shm_calls.specs.{Tasks.{IsNew, TaskLaws}, Words.word_control}
+use Rattle.plans.specs.{Tasks.{IsNew, TaskLaws}, Words.word_control}
 use Rattle.shm_count.specs.Proved.Idles.{is_here}
 use Rattle.shm_ref.specs.declared.{answer.Busy.Busy, hold.HoldState.HoldState, home_of.HomeOfState.HomeOfState}
 use Rattle.shm_ref.specs.declared.{look.LookState.LookState, read.ReadState.ReadState}

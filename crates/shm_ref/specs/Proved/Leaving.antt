@@ -11,7 +11,7 @@ use Rattle.shm_graph.proofs.Spots.Spotting.{same_spot_self}
 use Rattle.shm_count.specs.{Lowering.StoppedAt, Proved.Lowering.without_new, Roots.{rest, root_word}}
 use Rattle.shm_count.specs.{Slots.{Took, Untouched}, Tear.{Events.{Visit, Walks, frees}, TornPartly, is_outside}}
 use Rattle.shm_count.specs.Tear.Memos.{Remains, is_slot_word}
-use Rattle.shm_steps.proofs.Cores.{here_same}
+use Rattle.kind_parts.proofs.Cores.{here_same}
 use Rattle.shm_ref.specs.Lefts.{is_root_of, Left, MayDrop, RootEvents}
 
 -- ---- lists

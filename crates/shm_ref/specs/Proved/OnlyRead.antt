@@ -8,12 +8,12 @@ use Rattle.shm_graph.specs.{Events.Event, Idle.{IsIdle, hold_word}, Ops.{cover, 
 use Rattle.shm_graph.specs.{Reach.{is_named, is_reached, learnt, named_blocks, shown}, MemoAfterRead.values_read}
 use Rattle.shm_graph.specs.Views.{own_word}
 use Rattle.shm_words.specs.Tags.{tag_refs}
-use Rattle.shm_steps.proofs.Cores.{here_same}
+use Rattle.kind_parts.proofs.Cores.{here_same}
 use Rattle.shm_count.specs.{Proved.Retaining.{named_same, slots_learnt}, Tear.Memos.is_slot_word}
 use Rattle.shm_ref.specs.declared.answer.LookFault.{LookFault, TheVariants.{NoSuchRef, NotHeld}}
 use Rattle.shm_ref.specs.declared.answer.{NoSuchWord.NoSuchWord, NotHeld.NotHeld as Unheld}
 use Rattle.shm_ref.specs.declared.{home_of.HomeOfState.HomeOfState, look.LookState.LookState, read.ReadState.ReadState}
-use Rattle.shm_ref.specs.{HomeOf.HomeLeaves, Lefts.MayDrop, Look.LookLeaves, Read.ReadLeaves}
+use Rattle.shm_ref.specs.{HomeOf.HomeOfLeaves, Lefts.MayDrop, Look.LookLeaves, Read.ReadLeaves}
 use Rattle.shm_ref.specs.{ReadParts.{MayAsk, tagged}, OnlyRead.OnlyRead}
 
 -- ---- what follows
@@ -73,7 +73,7 @@ read_more m r known values more slots e =
 read_same : (m r : Memo) (known : List Stored) → filter is_slot_word known ≡ filter is_slot_word m.known → core r ≡ core (record m { known = known }) → OnlyRead m r
 read_same m r known slots e = read_more m r known m.values [] slots (e ∙ ap (λ ls. core (record m { looks = ls; known = known })) (sym (append-nil m.looks)))
 
-pub home_reads : (m : HomeOfState) (r0 r : Memo) (tr : Trail) (es : List Event) (a : Result ℕ Unheld) → HomeLeaves m r0 r tr es a → OnlyRead r0 r
+pub home_reads : (m : HomeOfState) (r0 r : Memo) (tr : Trail) (es : List Event) (a : Result ℕ Unheld) → HomeOfLeaves m r0 r tr es a → OnlyRead r0 r
 home_reads m r0 r tr es (Ok b) h = by (b == 0) h.memo
   where
     by : (q : Bool) → core r ≡ core (if q then r0 else record r0 { looks = r0.looks ++ record { block = b; from = Home m.author } ∷ [] }) → OnlyRead r0 r

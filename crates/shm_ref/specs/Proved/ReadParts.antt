@@ -9,9 +9,9 @@ use Rattle.shm_graph.specs.declared.{ask.Me.Me, spot.Spot.{Spot, TheVariants.Tag
 use Rattle.shm_graph.specs.{declared.memo.Stored.Stored, Core.core, Idle.hold_word}
 use Rattle.shm_graph.specs.{Reach.{is_reached, known_at, learnt, named_blocks, not_at}, Spots.same_spot, Views.view}
 use Rattle.shm_graph.proofs.{States.{Holders.reach_counted, Reached.reached_here}, Spots.Spotting.same_spot_self}
-use Rattle.shm_calls.specs.Parts.{IsHeld}
+use Rattle.plans.specs.Parts.{IsHeld}
 use Rattle.shm_count.specs.{Proved.{DyingBlocks.live_room, Retaining.{named_same, slots_learnt}}, Tear.Control.or_empty}
-use Rattle.shm_steps.proofs.{BeginWords.known_here, Covering.tag_told, Reaching.look_reached, Words.Blocks.told_inside}
+use Rattle.kind_parts.proofs.{BeginWords.known_here, Covering.tag_told, Reaching.look_reached, Words.Blocks.told_inside}
 use Rattle.shm_ref.specs.ReadParts.{tagged, IsTag}
 
 -- ---- when reading may begin

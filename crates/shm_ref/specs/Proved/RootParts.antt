@@ -5,8 +5,8 @@ use Rattle.shm_words.specs.declared.place.Place.TheVariants as place
 use Rattle.shm_graph.specs.declared.{ask.Me.Me, spot.Spot.TheVariants.{Root, Era}, memo.Memo.Memo}
 use Rattle.shm_graph.specs.{declared.memo.Op.TheVariants.Nothing, Views.own_word}
 use Rattle.shm_graph.specs.declared.ask.Ask.TheVariants as ask
-use Rattle.shm_calls.specs.Parts.{IsHeld}
-use Rattle.shm_steps.proofs.{Reaching.root_reached, Words.Own.root_load}
+use Rattle.plans.specs.Parts.{IsHeld}
+use Rattle.kind_parts.proofs.{Reaching.root_reached, Words.Own.root_load}
 use Rattle.shm_count.specs.{declared.point.Aim.TheVariants.Down, Roots.{root_step, root_word}, Slots.MayStepAt}
 use Rattle.shm_count.specs.Step.{Control.IsInside, CanStep}
 use Rattle.shm_count.proofs.RootSpots.{fits_root, root_can}

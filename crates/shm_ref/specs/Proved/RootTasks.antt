@@ -5,7 +5,7 @@ use Rattle.shm_graph.specs.{declared.{memo.Memo.Memo, spot.Spot.TheVariants.{Bod
 use Rattle.shm_graph.specs.{Asks.Trail, Core.core, Events.Event, Held.is_loose, Idle.{IsIdle, hold_word}}
 use Rattle.shm_graph.specs.{Reach.{is_reached, learnt}, MemoAfterRead.{home_read, is_held, values_read}, Views.own_word}
 use Rattle.shm_graph.proofs.Idles.{idle_core}
-use Rattle.shm_calls.specs.Tasks.{IsNew, TaskLaws}
+use Rattle.plans.specs.Tasks.{IsNew, TaskLaws}
 use Rattle.shm_count.specs.{declared.{answer.EraSpent.EraSpent, point.Aim.TheVariants.Up}, Step.KeepsPart}
 use Rattle.shm_count.specs.Proved.{UpRoot.Laws.reach_inside, Idles.{filled_idle, took_idle, untouched_idle, is_here}}
 use Rattle.shm_ref.specs.declared.{answer.{HomeFault.HomeFault, SetFault.SetFault}, drop_root.DropState.DropState}

@@ -2,7 +2,7 @@
 use Rattle.std.proofs.Common.{◌≡◌, ℕ, refl, subst, Bool, true, false, [], ◌++◌, Option, Some, None}
 use Rattle.std.specs.Prelude.{Result, Ok, Err, ◌==◌, ◌-◌}
 use Rattle.shm_graph.specs.{declared.ask.Me.Me, Asks.Trail, Laws.Outcome}
-use Rattle.shm_calls.specs.{declared.or.Or.TheVariants.{First, Second}, Plans.plan_trail}
+use Rattle.plans.specs.{declared.or.Or.TheVariants.{First, Second}, Plans.plan_trail}
 use Rattle.shm_count.specs.declared.answer.{EraSpent.EraSpent, ShareFault.ShareFault, UpFault.UpFault}
 use Rattle.shm_count.specs.UpRoot.Control.{rooting}
 use Rattle.shm_count.specs.declared.answer.UpFault.TheVariants as up
@@ -99,11 +99,7 @@ module _ (me : Me) where
 
       dropped : (p : PutRootState) (y : PutRootPoint) (e : EraSpent) (tr t : Trail) → p.me ≡ me → put_root_part.asks (put_root_call p y) t (Second (Second (Second (Err e)))) → LoadsEra me e.era (tr ++ t)
       dropped p root.Drop e tr t k h = spent_drop p.me (root_or p.root) e tr t k h
-      dropped p root.Open e tr t k h = absurd h
-      dropped p root.Locate e tr t k h = absurd h
-      dropped p root.Replace e tr t k h = absurd h
-      dropped p root.Enter e tr t k h = absurd h
-      dropped p root.Unlatch e tr t k h = absurd h
+      dropped p _ e tr t k h = absurd h
 
       answered : (z : Bool) (o : Option PutFault) (u : Trail) → Faulty me o u → Faulty me (fault_of (put_answer z o)) u
       answered z None u h = tt
@@ -159,10 +155,7 @@ module _ (me : Me) where
 
       read : (p : FetchState) (y : FetchPoint) (n : ℕ) (tr t : Trail) → (p.me ≡ me) × FetchedSo p.outcome tr → let x = fetch_after (record p { point = y }) (Second (First n)) in (x.me ≡ me) × FetchedSo x.outcome (tr ++ t)
       read p fetch.Value n tr t k = (k.0, fetched_more p.outcome tr t k.1)
-      read p fetch.Search n tr t k = (k.0, fetched_more p.outcome tr t k.1)
-      read p fetch.Number n tr t k = (k.0, fetched_more p.outcome tr t k.1)
-      read p fetch.Share n tr t k = (k.0, fetched_more p.outcome tr t k.1)
-      read p fetch.Give n tr t k = (k.0, fetched_more p.outcome tr t k.1)
+      read p _ n tr t k = (k.0, fetched_more p.outcome tr t k.1)
 
       go : (p : FetchState) (y : FetchPoint) (tr t : Trail) (b : FetchAnswer) → (p.me ≡ me) × FetchedSo p.outcome tr → (fetch_part p y).asks (fetch_call p y) t b
           → Outcome (fetch_turns (record p { point = y }) b) (((fetch_after (record p { point = y }) b).me ≡ me) × FetchedSo (fetch_after (record p { point = y }) b).outcome (tr ++ t)) (λ a. FetchedSo a (tr ++ t))
@@ -363,9 +356,7 @@ module _ (me : Me) where
 
       changed : (p : UnlinkState) (y : UnlinkPoint) (f : UpFault) (tr t : Trail) → p.me ≡ me → (unlink_plan.part (record p { point = y })).asks (unlink_call_at p y) t (Second (Second (First (Err f)))) → Shows me (fault_answer (raised_fault f)) (tr ++ t)
       changed p unlink.Change f tr t k h = step_shows me p.me (link_at p) (aims.Change p.entry p.next) f tr t k h
-      changed p unlink.Look f tr t k h = absurd h
-      changed p unlink.Lower f tr t k h = absurd h
-      changed p unlink.Tear f tr t k h = absurd h
+      changed p _ f tr t k h = absurd h
 
       go : (p : UnlinkState) (y : UnlinkPoint) (tr t : Trail) (b : UnlinkAnswer) → p.me ≡ me → (unlink_plan.part (record p { point = y })).asks (unlink_call_at p y) t b → Outcome (unlink_turns p b) ((unlink_after p b).me ≡ me) (λ a. Cut a (tr ++ t))
       go p y tr t (First n) k h = k

@@ -5,8 +5,8 @@ use Rattle.std.specs.{List.Contains, Prelude.{Result, Ok, Err, if◌then◌else�
 use Rattle.shm_words.specs.Layout.{address, address_limit}
 use Rattle.shm_words.specs.declared.place.Place.TheVariants as place
 use Rattle.shm_graph.specs.{declared.ask.{Ask.TheVariants.Load, Me.Me}, Asks.{Trail, pair}, Laws.Outcome, Trails.Chosen}
-use Rattle.shm_laws.proofs.Keep.{newest}
-use Rattle.shm_calls.specs.{declared.or.Or.TheVariants.{First, Second}, Plans.plan_trail}
+use Rattle.kind_laws.proofs.Lists.{newest}
+use Rattle.plans.specs.{declared.or.Or.TheVariants.{First, Second}, Plans.plan_trail}
 use Rattle.shm_alloc.specs.declared.alloc.AllocFault.{AllocFault}
 use Rattle.shm_count.specs.declared.{answer.{EraSpent.EraSpent, ShareFault.ShareFault, UpFault.UpFault}, point.Aim.Aim}
 use Rattle.shm_count.specs.declared.up_root.{RootingPoint.RootingPoint, RootingState.RootingState}
@@ -199,10 +199,7 @@ module _ (me : Me) where
 
       changed : (p : EnterState) (y : EnterPoint) (f : UpFault) (tr t : Trail) → p.me ≡ me → (enter_part p y).asks (enter_call_at p y) t (Second (Second (Err f))) → Shows me (fault_answer (raised_fault f)) (tr ++ t)
       changed p enter.Change f tr t k h = step_shows me p.me (p.home + 2 + p.key % 16) (aims.Change p.first p.entry) f tr t k h
-      changed p enter.Make f tr t k h = absurd h
-      changed p enter.Value f tr t k h = absurd h
-      changed p enter.Next f tr t k h = absurd h
-      changed p enter.Link f tr t k h = absurd h
+      changed p _ f tr t k h = absurd h
 
       linked : (p : EnterState) (y : EnterPoint) (u : Trail) → p.me ≡ me → Outcome (raised_turns p y) ((raised_after p y).me ≡ me) (λ a. EnteredSo a u)
       linked p enter.Value u k = k

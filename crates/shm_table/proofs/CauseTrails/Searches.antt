@@ -6,7 +6,7 @@ use Rattle.shm_words.specs.{Layout.address, Redos.{first_word, second_word}}
 use Rattle.shm_words.specs.declared.place.Place.TheVariants as place
 use Rattle.shm_graph.specs.declared.{ask.{Ask.{Ask, TheVariants.{Load, Store, Exchange}}, Me.Me}, memo.Seen.Seen}
 use Rattle.shm_graph.specs.{Asks.{Trail, pair}, Trails.{Answers, Asked, Chosen}}
-use Rattle.shm_laws.proofs.Keep.{newest}
+use Rattle.kind_laws.proofs.Lists.{newest}
 use Rattle.shm_count.specs.declared.answer.Made.{Made}
 use Rattle.shm_alloc.specs.declared.alloc.AllocFault.{AllocFault, TheVariants.{EraSpent, RootsFull, Full}}
 use Rattle.shm_alloc.specs.declared.request.Request.{Request}

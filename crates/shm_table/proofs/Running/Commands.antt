@@ -3,9 +3,9 @@ use Rattle.std.proofs.Common.{◌≡◌, ℕ, refl, ap, ◌∙◌, subst, Bool, 
 use Rattle.std.specs.Prelude.{◌==◌, if◌then◌else◌}
 use Rattle.shm_graph.specs.{declared.{ask.Me.Me, memo.Memo.Memo}, Asks.Trail, Events.Event}
 use Rattle.shm_graph.specs.{Laws.{Control, Steady, is_some}, Tells.after_all, Bounds.redo_steps}
-use Rattle.shm_calls.specs.{declared.or.Or.TheVariants.{First, Second}, CallsFit.CallsFits}
-use Rattle.shm_calls.specs.Deciding.{StillRuns, where_decided}
-use Rattle.shm_steps.specs.Reparting.{map_in}
+use Rattle.plans.specs.{declared.or.Or.TheVariants.{First, Second}, CallsFit.CallsFits}
+use Rattle.plans.specs.{Deciding.{StillRuns, where_decided}, Proved.PlanKept.{kept_along, plan_kept}}
+use Rattle.kind_parts.specs.Reparting.{map_in}
 use Rattle.shm_script.specs.declared.{line.Line.Line, log.Answer.Answer}
 use Rattle.shm_script.specs.declared.line.Line.TheVariants as line
 use Rattle.shm_script.specs.declared.log.Answer.TheVariants as answer
@@ -27,10 +27,9 @@ use Rattle.shm_table.specs.{RecvKey.{Control.recv_parts, recv_plan}, SendKey.{Co
 use Rattle.shm_table.specs.{Staying.{MapCut, SameMap}, Unlink.Control.{unlink_parts, unlinking, unlink_steered}}
 use Rattle.shm_table.specs.Unlink.{unlink_plan}
 use Rattle.shm_table.specs.declared.del.DelPoint.TheVariants as deletes
-use Rattle.shm_table.proofs.{DecidingEvents.{kept_along, plan_kept}, Running.Entries.{MapBy, UnlinkDoes, unlink_so}}
-use Rattle.shm_table.proofs.Running.{Fetching.{get_still, send_key_still}, Puts.{copy_so, put_so, recv_so}}
-use Rattle.shm_table.proofs.Running.{Reading.{locate_still, unlatch_still}, Roots.{by_call, by_then, start_kept}}
-use Rattle.shm_table.proofs.Running.Still.{same_now}
+use Rattle.shm_table.proofs.Running.{Entries.{MapBy, UnlinkDoes, unlink_so}, Fetching.{get_still, send_key_still}}
+use Rattle.shm_table.proofs.Running.{Puts.{copy_so, put_so, recv_so}, Reading.{locate_still, unlatch_still}}
+use Rattle.shm_table.proofs.Running.{Roots.{by_call, by_then, start_kept}, Still.same_now}
 
 -- ---- removals
 

@@ -2,9 +2,9 @@
 use Rattle.std.proofs.Common.{◌≡◌, ◌≢◌, ℕ, ◌%◌, ◌<◌, refl, sym, ap, ◌∙◌, subst, arith, Bool, true, false, cond, eqb, List, Some}
 use Rattle.shm_graph.specs.{declared.{ask.Me.Me, memo.Memo.Memo, spot.Spot.TheVariants.{Body, Home}}, Asks.Trail}
 use Rattle.shm_graph.specs.{Events.Event, Tells.after_all, Views.own_word}
-use Rattle.shm_calls.specs.{declared.or.Or.TheVariants.{First, Second}, CallsFit.CallsFits}
-use Rattle.shm_steps.specs.{Beginning.IsOwnWord, Reparting.{IsKnown, IsValue, TableStep, sight}}
-use Rattle.shm_steps.specs.Reparting.TableStep.{Links, Prepares}
+use Rattle.plans.specs.{declared.or.Or.TheVariants.{First, Second}, CallsFit.CallsFits, Proved.PlanKept.kept_along}
+use Rattle.kind_parts.specs.{Beginning.IsOwnWord, Reparting.{IsKnown, IsValue, TableStep, sight}}
+use Rattle.kind_parts.specs.Reparting.TableStep.{Links, Prepares}
 use Rattle.shm_count.specs.Step.{ExchangeMade.step_exchanged, Parts.part_after}
 use Rattle.shm_count.specs.declared.point.Aim.TheVariants as aims
 use Rattle.shm_table.specs.declared.enter.{EnterPoint.EnterPoint, EnterState.EnterState}
@@ -15,8 +15,7 @@ use Rattle.shm_table.specs.Proved.Enter.Steps.{bucket_own, entry_own, first_apar
 use Rattle.shm_table.specs.Proved.{PutRoot.Steps.same_more, Staying.{Laws.same_map, Steps.map_word}}
 use Rattle.shm_table.specs.{PutRoot.Control.{EnterCalls, enter_control}, Staying.{MapSet, SameMap}}
 use Rattle.shm_table.specs.declared.enter.EnterPoint.TheVariants as entering
-use Rattle.shm_table.proofs.{DecidingEvents.kept_along, Running.{Entries.{MapBy, aimed_part, by_part}, Steps.PartBy}}
-use Rattle.shm_table.proofs.Running.Still.{alloc_still, same_now}
+use Rattle.shm_table.proofs.Running.{Entries.{MapBy, aimed_part, by_part}, Steps.PartBy, Still.{alloc_still, same_now}}
 
 -- ---- the count steps
 

@@ -2,8 +2,8 @@
 use Rattle.std.proofs.Common.{◌≡◌, ℕ, refl, sym, ap, ◌∙◌, subst, Bool, true, false, List}
 use Rattle.shm_graph.specs.declared.{ask.Me.Me, memo.Memo.Memo, spot.Spot.{Spot, TheVariants.Body}, table.Part.Part}
 use Rattle.shm_graph.specs.{Asks.Trail, Events.Event, Tells.after_all}
-use Rattle.shm_calls.specs.{declared.or.Or.TheVariants.{First, Second}, CallsFit.CallsFits}
-use Rattle.shm_steps.specs.Reparting.{map_in, sight}
+use Rattle.plans.specs.{declared.or.Or.TheVariants.{First, Second}, CallsFit.CallsFits, Proved.PlanKept.kept_along}
+use Rattle.kind_parts.specs.Reparting.{map_in, sight}
 use Rattle.shm_count.specs.{declared.point.{Aim.Aim, StepState.StepState}, Step.Control.{step_control, value_after}}
 use Rattle.shm_count.specs.Step.{ExchangeMade.step_exchanged, Parts.part_after, StepFits}
 use Rattle.shm_count.specs.declared.point.Aim.TheVariants as aims
@@ -17,8 +17,7 @@ use Rattle.shm_table.specs.Unlink.Control.{UnlinkCall, unlink_call_at, unlink_pa
 use Rattle.shm_table.specs.Unlink.{IsSeen as IsNextSeen, MayUnlink, UnlinkKnows, unlink_plan}
 use Rattle.shm_table.specs.declared.replace.ReplacePoint.TheVariants as replacing
 use Rattle.shm_table.specs.declared.unlink.UnlinkPoint.TheVariants as unlinking
-use Rattle.shm_table.proofs.{DecidingEvents.kept_along, Running.Steps.{PartBy, step_part}}
-use Rattle.shm_table.proofs.Running.Still.{same_now, tear_still, word_still}
+use Rattle.shm_table.proofs.Running.{Steps.{PartBy, step_part}, Still.{same_now, tear_still, word_still}}
 
 -- ---- the form
 

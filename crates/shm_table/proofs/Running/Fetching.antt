@@ -2,9 +2,9 @@
 use Rattle.std.proofs.Common.{◌≡◌, ℕ, refl, ap, ◌∙◌, subst, Bool, true, false, List}
 use Rattle.shm_graph.specs.{declared.{ask.Me.Me, memo.Memo.Memo}, Asks.Trail, Events.Event, Tells.after_all}
 use Rattle.shm_graph.specs.declared.spot.Spot.TheVariants as spot
-use Rattle.shm_calls.specs.{declared.or.Or.TheVariants.{First, Second}, CallsFit.CallsFits, Either.or_control}
-use Rattle.shm_calls.specs.Words.{word_control}
-use Rattle.shm_steps.specs.Reparting.TableStep.{Founds}
+use Rattle.plans.specs.{declared.or.Or.TheVariants.{First, Second}, CallsFit.CallsFits, Either.or_control}
+use Rattle.plans.specs.{Words.word_control, Proved.PlanKept.kept_along}
+use Rattle.kind_parts.specs.Reparting.TableStep.{Founds}
 use Rattle.shm_count.specs.{declared.point.Aim.Aim, Step.{Control.value_after, ExchangeMade.step_exchanged}}
 use Rattle.shm_count.specs.UpRoot.{AsPart.up_root, Control.rooting_parts, rooting_plan}
 use Rattle.shm_count.specs.declared.point.Aim.TheVariants as aims
@@ -32,7 +32,6 @@ use Rattle.shm_table.specs.declared.fetch_head.FetchHeadPoint.TheVariants as hea
 use Rattle.shm_table.specs.declared.get.GetPoint.TheVariants as getting
 use Rattle.shm_table.specs.declared.open_table.OpenPoint.TheVariants as opening
 use Rattle.shm_table.specs.declared.send_key.SendKeyPoint.TheVariants as keys
-use Rattle.shm_table.proofs.DecidingEvents.{kept_along}
 use Rattle.shm_table.proofs.Running.Reading.{drop_still, locate_still, rooting_still, send_still, unlatch_still}
 use Rattle.shm_table.proofs.Running.Steps.{PartBy, step_part}
 use Rattle.shm_table.proofs.Running.Still.{IsStill, alloc_still, calls_still, or_still, same_now, word_still}

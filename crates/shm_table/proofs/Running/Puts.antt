@@ -1,7 +1,7 @@
 -- puts, copies and receives: while one runs the own map is what it was, until its deciding step, and from then on its key has its value block
 use Rattle.std.proofs.Common.{◌≡◌, ℕ, refl, sym, subst, Bool, true, false, List, Option, Some, None}
 use Rattle.shm_graph.specs.{declared.{ask.Me.Me, memo.Memo.Memo}, Asks.Trail, Events.Event, Tells.after_all}
-use Rattle.shm_calls.specs.{declared.or.Or.TheVariants.{First, Second}, CallsFit.CallsFits}
+use Rattle.plans.specs.{declared.or.Or.TheVariants.{First, Second}, CallsFit.CallsFits, Proved.PlanKept.kept_along}
 use Rattle.shm_table.specs.declared.{answer.PutFault.PutFault, copy.{CopyPoint.CopyPoint, CopyState.CopyState}}
 use Rattle.shm_table.specs.declared.{put.{PutPoint.PutPoint, PutState.PutState}, recv.RecvPoint.RecvPoint}
 use Rattle.shm_table.specs.{declared.recv.RecvState.RecvState, Commands.ValueSo}
@@ -18,8 +18,8 @@ use Rattle.shm_table.specs.{RecvKey.{RecvKnows, recv_part, recv_plan}, Staying.{
 use Rattle.shm_table.specs.declared.copy.CopyPoint.TheVariants as copies
 use Rattle.shm_table.specs.declared.put.PutPoint.TheVariants as puts
 use Rattle.shm_table.specs.declared.recv.RecvPoint.TheVariants as receives
-use Rattle.shm_table.proofs.{DecidingEvents.kept_along, Running.Entries.MapBy}
-use Rattle.shm_table.proofs.Running.{Fetching.{fetch_head_still, fetch_still}, Reading.{drop_still, take_head_still}}
+use Rattle.shm_table.proofs.Running.{Entries.MapBy, Fetching.{fetch_head_still, fetch_still}}
+use Rattle.shm_table.proofs.Running.Reading.{drop_still, take_head_still}
 use Rattle.shm_table.proofs.Running.Roots.{RootDoes, by_call, by_then, put_root_so, start_kept}
 use Rattle.shm_table.proofs.Running.Still.{alloc_still, same_now}
 

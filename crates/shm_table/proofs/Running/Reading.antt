@@ -2,8 +2,8 @@
 use Rattle.std.proofs.Common.{◌%◌, ap, ◌∙◌, List}
 use Rattle.shm_graph.specs.{declared.memo.Memo.Memo, Asks.Trail, Events.Event}
 use Rattle.shm_graph.specs.declared.spot.Spot.TheVariants as spot
-use Rattle.shm_calls.specs.{CallsControl.calls_control, CallsFit.CallsFits, Either.or_control, Words.word_control}
-use Rattle.shm_steps.specs.Reparting.{sight}
+use Rattle.plans.specs.{CallsControl.calls_control, CallsFit.CallsFits, Either.or_control, Words.word_control}
+use Rattle.kind_parts.specs.Reparting.{sight}
 use Rattle.shm_count.specs.Step.{Control.first_point, Machines.{down_control, up_control}}
 use Rattle.shm_count.specs.{declared.up_root.{RootingPoint.RootingPoint, RootingState.RootingState}, StepsAt.DownFitsAt}
 use Rattle.shm_count.specs.{StepsFrom.FitsFrom, Tear.{Control.tear_control, TearFits}, UpRoot.AsPart.up_root}

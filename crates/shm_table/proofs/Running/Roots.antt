@@ -2,9 +2,9 @@
 use Rattle.std.proofs.Common.{◌≡◌, ℕ, refl, ◌∙◌, subst, Bool, true, false, List, Option, Some, None}
 use Rattle.shm_graph.specs.{declared.{ask.Me.Me, memo.Memo.Memo}, Asks.Trail, Events.Event, Laws.Control}
 use Rattle.shm_graph.specs.Tells.{after_all}
-use Rattle.shm_calls.specs.{declared.{calls.Calls.Calls, or.Or.TheVariants.{First, Second}}, CallsControl.calls_control}
-use Rattle.shm_calls.specs.{CallsFit.CallsFits, Plans.{PlanLaws, Planned}}
-use Rattle.shm_steps.specs.Reparting.{IsValue, sight}
+use Rattle.plans.specs.{declared.{calls.Calls.Calls, or.Or.TheVariants.{First, Second}}, CallsControl.calls_control}
+use Rattle.plans.specs.{CallsFit.CallsFits, Plans.{PlanLaws, Planned}, Proved.PlanKept.{kept_along, plan_kept}}
+use Rattle.kind_parts.specs.Reparting.{IsValue, sight}
 use Rattle.shm_table.specs.declared.{answer.PutFault.PutFault, put_root.PutRootPoint.PutRootPoint}
 use Rattle.shm_table.specs.declared.put_root.PutRootState.{PutRootState}
 use Rattle.shm_table.specs.Effects.{put_root_at, put_root_decided, replace_decided, enter_decided, settled}
@@ -16,14 +16,14 @@ use Rattle.shm_table.specs.PutRoot.{IsPutting, MapSo, PutRootKnows, put_root_par
 use Rattle.shm_table.specs.Replace.{Control.{replace_parts, replacing, replace_steered}, MayReplace, replace_plan}
 use Rattle.shm_table.specs.Staying.{MapSet, SameMap}
 use Rattle.shm_table.specs.declared.put_root.PutRootPoint.TheVariants as rooting
-use Rattle.shm_table.proofs.{DecidingEvents.{kept_along, plan_kept}, Running.Entering.{EnterDoes, enter_so}}
-use Rattle.shm_table.proofs.Running.{Entries.{MapBy, ReplaceDoes, replace_so}, Fetching.open_still}
-use Rattle.shm_table.proofs.Running.{Reading.{drop_still, locate_still, unlatch_still}, Still.same_now}
+use Rattle.shm_table.proofs.Running.{Entering.{EnterDoes, enter_so}, Entries.{MapBy, ReplaceDoes, replace_so}}
+use Rattle.shm_table.proofs.Running.{Fetching.open_still, Reading.{drop_still, locate_still, unlatch_still}}
+use Rattle.shm_table.proofs.Running.Still.{same_now}
 
 -- ---- the form
 
 -- what a plan was at its first call stays
-pub start_kept : {P C B A : Type 0} (k : Control C B) (q : Planned P C B A) → PlanLaws k q → (s : P) (m : Calls P C A B) (n : ℕ) → q.steered.start m.plan ≡ s → q.steered.start ((calls_control k q.steered).after m n).plan ≡ s
+pub start_kept : {P C B A : Type 0} (k : Control C B) (q : Planned P C B A) → PlanLaws k q → (s : P) (m : Calls P C) (n : ℕ) → q.steered.start m.plan ≡ s → q.steered.start ((calls_control k q.steered).after m n).plan ≡ s
 start_kept k q l s m n e = plan_kept k q (λ p. q.steered.start p ≡ s) (λ p b h. (l.stays p b).same_start ∙ h) m n e
 
 -- where the map is what it was when the call began, and the call does this

@@ -4,10 +4,10 @@ use Rattle.std.proofs.lemmas.Bool.{cases_eq, cond-false, ne_eqb}
 use Rattle.std.specs.Prelude.{slice_index_or, Option, None, Some}
 use Rattle.shm_graph.specs.{declared.{ask.Me.Me, memo.Memo.Memo}, Agents.died, Asks.Trail, Events.Event}
 use Rattle.shm_graph.specs.{MemoAfterStore.lane_with, Tells.after_all}
-use Rattle.shm_calls.specs.{declared.or.Or.TheVariants.{First, Second}, CallsFit.CallsFits}
-use Rattle.shm_calls.specs.Deciding.{StillRuns, where_decided}
-use Rattle.shm_steps.specs.Reparting.{map_in}
-use Rattle.shm_steps.proofs.Items.{put_at}
+use Rattle.plans.specs.{declared.or.Or.TheVariants.{First, Second}, CallsFit.CallsFits}
+use Rattle.plans.specs.{Deciding.{StillRuns, where_decided}, Proved.PlanKept.kept_along}
+use Rattle.kind_parts.specs.Reparting.{map_in}
+use Rattle.kind_parts.proofs.Items.{put_at}
 use Rattle.shm_script.specs.declared.{line.Line.Line, log.Answer.Answer}
 use Rattle.shm_script.specs.declared.line.Line.TheVariants as line
 use Rattle.shm_script.specs.declared.log.Answer.TheVariants as answer
@@ -20,7 +20,7 @@ use Rattle.shm_table.specs.SendKey.Control.{SendKeyCall, SendKeyCalls, send_key_
 use Rattle.shm_table.specs.SendKey.{GiveKnows, SendKeyKnows, got, send_key_part, send_key_plan}
 use Rattle.shm_table.specs.declared.get.GetPoint.TheVariants as getting
 use Rattle.shm_table.specs.declared.send_key.SendKeyPoint.TheVariants as keys
-use Rattle.shm_table.proofs.{DecidingEvents.kept_along, Running.Commands.{command_going, line_along, line_of}}
+use Rattle.shm_table.proofs.Running.Commands.{command_going, line_along, line_of}
 use Rattle.shm_table.proofs.Running.SentMachines.{copy_sends, del_sends, get_sends, get_sent, locate_sends, put_sends, recv_sends, send_sends, unlatch_sends}
 use Rattle.shm_table.proofs.Running.SentSteps.{SentSame, sent_now, word_sends}
 

@@ -2,7 +2,7 @@
 use Rattle.std.proofs.Common.{ℕ, ◌+◌, ◌%◌, refl, sym, ap, ◌∙◌, Bool, true, false, cond, List, Option, Some, None, inl, inr}
 use Rattle.shm_graph.specs.{declared.memo.Memo.Memo, Asks.Trail, Bounds.redo_steps, Events.Event}
 use Rattle.shm_graph.specs.declared.spot.Spot.TheVariants as spot
-use Rattle.shm_calls.specs.{CallsControl.calls_control, CallsFit.CallsFits, Either.or_control, Words.word_control}
+use Rattle.plans.specs.{CallsControl.calls_control, CallsFit.CallsFits, Either.or_control, Words.word_control}
 use Rattle.shm_count.specs.declared.up_root.{RootingPoint.RootingPoint, RootingState.RootingState}
 use Rattle.shm_count.specs.Step.{Control.{first_point, step_control}, Machines.{down_control, up_control}, PointHas}
 use Rattle.shm_count.specs.{Proved.Step.BeforeExchange.ready_part, StepsAt.{ChangeFitsAt, DownFitsAt, UpFitsAt}}

@@ -11,10 +11,10 @@ use Rattle.shm_graph.specs.{MemoAfterStore.{making_with, other_than, put, writte
 use Rattle.shm_graph.specs.declared.spot.Spot.TheVariants as spot
 use Rattle.shm_graph.specs.declared.memo.Op.TheVariants as op
 use Rattle.shm_graph.proofs.StepKinds.Loads.{choice}
-use Rattle.shm_laws.specs.HeaderExchanges.{dying_after}
-use Rattle.shm_steps.proofs.MemoCommits.{known_lowered, lowered_is}
-use Rattle.shm_calls.specs.{CallsControl.calls_control, CallsFit.CallsFits, Either.{OrFits, or_control}, Plans.Planned}
-use Rattle.shm_calls.specs.Words.{WordFits, word_control}
+use Rattle.kind_laws.specs.HeaderExchanges.{dying_after}
+use Rattle.kind_parts.proofs.MemoCommits.{known_lowered, lowered_is}
+use Rattle.plans.specs.{CallsControl.calls_control, CallsFit.CallsFits, Either.{OrFits, or_control}, Plans.Planned}
+use Rattle.plans.specs.Words.{WordFits, word_control}
 use Rattle.shm_count.specs.declared.point.{Aim.{Aim, TheVariants.{Up, Down, Change}}, Half.Half}
 use Rattle.shm_count.specs.declared.point.{Half.TheVariants.{First, Second}, StepPoint.StepPoint}
 use Rattle.shm_count.specs.declared.tear_point.TearPoint.{TearPoint}

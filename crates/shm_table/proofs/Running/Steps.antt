@@ -13,9 +13,9 @@ use Rattle.shm_graph.specs.MemoAfterStore.{making_with, other_than, put, written
 use Rattle.shm_graph.specs.declared.spot.Spot.TheVariants as spot
 use Rattle.shm_graph.specs.declared.memo.Op.TheVariants as op
 use Rattle.shm_graph.proofs.StepKinds.Loads.{choice}
-use Rattle.shm_laws.specs.HeaderExchanges.{dying_after}
-use Rattle.shm_steps.specs.Reparting.{Sight, sight}
-use Rattle.shm_steps.proofs.MemoCommits.{known_lowered, lowered_is}
+use Rattle.kind_laws.specs.HeaderExchanges.{dying_after}
+use Rattle.kind_parts.specs.Reparting.{Sight, sight}
+use Rattle.kind_parts.proofs.MemoCommits.{known_lowered, lowered_is}
 use Rattle.shm_count.specs.declared.point.{Aim.{Aim, TheVariants.{Up, Down, Change}}, Half.Half}
 use Rattle.shm_count.specs.declared.point.{Half.TheVariants.{First, Second}, StepPoint.StepPoint, StepState.StepState}
 use Rattle.shm_count.specs.Step.Control.{PartFits, PointFits, header_after, is_over, step_control, value_after}

@@ -6,10 +6,10 @@ use Rattle.shm_graph.specs.{declared.{ask.Me.Me, memo.{Memo.Memo, Op.{Op, TheVar
 use Rattle.shm_graph.specs.{Chains.part_set, Events.Event, Laws.{Control, is_some}, Mapped.OnTheWay}
 use Rattle.shm_graph.specs.{Ops.{cover, cover_of}, Reach.shown, Tells.happens_along, Views.own_word}
 use Rattle.shm_graph.specs.declared.spot.Spot.TheVariants as spot
-use Rattle.shm_calls.specs.{CallsControl.calls_control, CallsFit.CallsFits, Either.{OrFits, or_control}, Plans.Planned}
-use Rattle.shm_calls.specs.Words.{WordFits, word_control}
-use Rattle.shm_calls.specs.declared.or.Or.TheVariants as or
-use Rattle.shm_steps.specs.Reparting.{sight}
+use Rattle.plans.specs.{CallsControl.calls_control, CallsFit.CallsFits, Either.{OrFits, or_control}, Plans.Planned}
+use Rattle.plans.specs.{Words.{WordFits, word_control}, Proved.PlanKept.kept_along}
+use Rattle.plans.specs.declared.or.Or.TheVariants as or
+use Rattle.kind_parts.specs.Reparting.{sight}
 use Rattle.shm_count.specs.declared.{answer.UpFault.UpFault, point.{Aim.TheVariants.Down, StepNext.StepNext}}
 use Rattle.shm_count.specs.declared.{point.StepPoint.StepPoint, tear_point.TearNext.TheVariants.{Answer, Go}}
 use Rattle.shm_count.specs.declared.tear_point.{TearPoint.TearPoint, TearState.TearState}
@@ -23,7 +23,7 @@ use Rattle.shm_count.specs.declared.point.StepPoint.TheVariants as step
 use Rattle.shm_count.specs.declared.tear_point.TearPoint.TheVariants as tear
 use Rattle.shm_alloc.specs.Alloc.{Control.alloc_control, AllocFits}
 use Rattle.shm_table.specs.{Proved.{PutRoot.Steps.same_more, Staying.Laws.same_map}, Staying.SameMap}
-use Rattle.shm_table.proofs.{DecidingEvents.kept_along, Running.Steps.{lane_part, point_part, quiet_by, root_part}}
+use Rattle.shm_table.proofs.Running.Steps.{lane_part, point_part, quiet_by, root_part}
 
 -- ---- the form
 

@@ -1,7 +1,7 @@
 -- a command of a line as an operation: it begins as the one that the line tells does, and leaves what that leaves
 use Rattle.std.proofs.Common.{List, []}
 use Rattle.shm_graph.specs.{declared.memo.Memo.Memo, Asks.Trail, Events.Event}
-use Rattle.shm_calls.specs.{declared.or.Or.TheVariants.{First, Second}, Tasks.CallsMay}
+use Rattle.plans.specs.{declared.or.Or.TheVariants.{First, Second}, Tasks.CallsMay}
 use Rattle.shm_script.specs.declared.log.Answer.{Answer}
 use Rattle.shm_table.specs.{Command.CommandCall, CopyKey.{CopyLeaves, copy_plan}, Del.{DelLeaves, del_plan}}
 use Rattle.shm_table.specs.{Get.{GetLeaves, get_plan}, Put.{PutLeaves, put_plan}, RecvKey.{RecvLeaves, recv_plan}}

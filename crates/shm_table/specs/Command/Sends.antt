@@ -1,7 +1,7 @@
 -- what an identity has sent while a command of it runs
 use Rattle.std.specs.Prelude.{◌≡◌, ℕ, ◌==◌, if◌then◌else◌, slice_index_or, Option, Some, List, [], ◌∷◌, ◌++◌}
 use Rattle.shm_graph.specs.declared.memo.Memo.{Memo}
-use Rattle.shm_steps.specs.Reparting.{map_in}
+use Rattle.kind_parts.specs.Reparting.{map_in}
 use Rattle.shm_script.specs.declared.{line.Line.Line, log.Answer.Answer}
 use Rattle.shm_script.specs.declared.line.Line.TheVariants as line
 use Rattle.shm_script.specs.declared.log.Answer.TheVariants as answer

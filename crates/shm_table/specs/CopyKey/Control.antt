@@ -2,8 +2,8 @@
 use Rattle.std.specs.Prelude.{ℕ, ◌%◌, ◌<◌, Bool, true, false, Option, Some, None, Result, Ok, Err}
 use Rattle.shm_words.specs.Layout.{GeometryFits, address_limit}
 use Rattle.shm_graph.specs.{declared.ask.Me.Me, Laws.Control}
-use Rattle.shm_calls.specs.declared.{calls.Calls.Calls, or.Or.{Or, TheVariants.{First, Second}}}
-use Rattle.shm_calls.specs.{CallsControl.{calls_control, calls_of}, Either.or_control, Steering.Steered}
+use Rattle.plans.specs.declared.{calls.Calls.Calls, or.Or.{Or, TheVariants.{First, Second}}}
+use Rattle.plans.specs.{CallsControl.{calls_control, calls_of}, Either.or_control, Steering.Steered}
 use Rattle.shm_count.specs.declared.answer.EraSpent.{EraSpent}
 use Rattle.shm_ref.specs.{DropRoot.Control.{dropping, drop_steered}, DropRoots.Control.{RootsCall, drop_root}}
 use Rattle.shm_script.specs.{declared.log.Answer.Answer, Text.line_spelled}
@@ -13,7 +13,7 @@ use Rattle.shm_table.specs.declared.{answer.PutFault.PutFault, copy.{CopyPoint.C
 use Rattle.shm_table.specs.declared.fetch.{FetchState.FetchState, Fetched.Fetched}
 use Rattle.shm_table.specs.declared.fetch.Fetched.TheVariants.{Missing, Refused, Rooted}
 use Rattle.shm_table.specs.Answers.{fault_answer, spent_fault}
-use Rattle.shm_table.specs.Fetch.Control.{FetchAnswer, FetchCall, fetch_parts, fetching, fetch_steered}
+use Rattle.shm_table.specs.Fetch.Control.{FetchCall, fetch_parts, fetching, fetch_steered}
 use Rattle.shm_table.specs.PutRoot.Control.{PutRootCalls, decided_of, fault_of, putting_root, put_root_steered, put_root_control}
 use Rattle.shm_table.specs.declared.copy.CopyPoint.TheVariants as point
 
@@ -21,7 +21,7 @@ use Rattle.shm_table.specs.declared.copy.CopyPoint.TheVariants as point
 
 -- a fetch as a call
 abbrev pub FetchCalls : Type 0
-FetchCalls = Calls FetchState FetchCall Fetched FetchAnswer
+FetchCalls = Calls FetchState FetchCall
 
 abbrev pub fetch_control : Control FetchCalls Fetched
 fetch_control = calls_control fetch_parts fetch_steered
@@ -34,7 +34,7 @@ CopyAnswer = Or Fetched (Or (Result Bool PutFault) (Result Bool EraSpent))
 
 -- its states
 abbrev pub CopyCalls : Type 0
-CopyCalls = Calls CopyState CopyCall Answer CopyAnswer
+CopyCalls = Calls CopyState CopyCall
 
 -- before its first call
 abbrev pub copying : Me → ℕ → ℕ → ℕ → CopyState

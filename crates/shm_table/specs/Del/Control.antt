@@ -2,8 +2,8 @@
 use Rattle.std.specs.Prelude.{ℕ, ◌%◌, ◌<◌, Bool, true, false, Option, Some, None, Result, Ok, Err}
 use Rattle.shm_words.specs.Layout.{GeometryFits, address_limit}
 use Rattle.shm_graph.specs.{declared.ask.Me.Me, Laws.Control}
-use Rattle.shm_calls.specs.declared.{calls.Calls.Calls, or.Or.{Or, TheVariants.{First, Second}}}
-use Rattle.shm_calls.specs.{CallsControl.calls_of, Either.or_control, Steering.Steered}
+use Rattle.plans.specs.{declared.{calls.Calls.Calls, or.Or.{Or, TheVariants.{First, Second}}}, CallsControl.calls_of}
+use Rattle.plans.specs.{Either.or_control, Steering.Steered}
 use Rattle.shm_count.specs.declared.answer.UpFault.{UpFault}
 use Rattle.shm_script.specs.{declared.log.Answer.Answer, Text.line_spelled}
 use Rattle.shm_script.specs.declared.log.Answer.TheVariants as answer
@@ -23,7 +23,7 @@ DelCallAnswer = Or Found (Or (Result (Unit {0}) UpFault) (Unit {0}))
 
 -- its states
 abbrev pub DelCalls : Type 0
-DelCalls = Calls DelState DelCall Answer DelCallAnswer
+DelCalls = Calls DelState DelCall
 
 -- before its first call
 abbrev pub deleting : Me → ℕ → DelState

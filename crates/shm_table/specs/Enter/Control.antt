@@ -2,7 +2,7 @@
 use Rattle.std.specs.Prelude.{ℕ, ◌+◌, ◌-◌, ◌%◌, ◌^◌, ◌<◌, Bool, true, false, ◌==◌, nat_lt, if◌then◌else◌, Option, Some, None, Result, Ok, Err, [], ◌∷◌}
 use Rattle.shm_words.specs.Layout.{GeometryFits, address_limit}
 use Rattle.shm_graph.specs.{declared.{ask.Me.Me, spot.Spot.{Spot, TheVariants.Body}}, Laws.Control}
-use Rattle.shm_calls.specs.{declared.or.Or.{Or, TheVariants.{First, Second}}, Either.or_control, Steering.Steered}
+use Rattle.plans.specs.{declared.or.Or.{Or, TheVariants.{First, Second}}, Either.or_control, Steering.Steered}
 use Rattle.shm_count.specs.declared.{answer.{Made.Made as AMade, UpFault.UpFault}, point.StepPoint.TheVariants.Era}
 use Rattle.shm_count.specs.{declared.point.StepState.StepState, Step.{Control.step_control, Machines.up_control}}
 use Rattle.shm_count.specs.declared.point.Aim.TheVariants as aims

@@ -3,8 +3,8 @@ use Rattle.std.specs.Prelude.{ℕ, ◌%◌, ◌<◌, Bool, true, false, ◌==◌
 use Rattle.shm_words.specs.Layout.{GeometryFits, address, address_limit}
 use Rattle.shm_words.specs.declared.place.Place.TheVariants as place
 use Rattle.shm_graph.specs.{declared.ask.{Ask.{Ask, TheVariants.Load}, Me.Me}, Laws.Control}
-use Rattle.shm_calls.specs.{declared.{or.Or.{Or, TheVariants.{First, Second}}, word.Word.Word}, CallsControl.calls_of}
-use Rattle.shm_calls.specs.{Either.or_control, Words.word_control, Steering.Steered}
+use Rattle.plans.specs.{declared.{or.Or.{Or, TheVariants.{First, Second}}, word.Word.Word}, CallsControl.calls_of}
+use Rattle.plans.specs.{Either.or_control, Words.word_control, Steering.Steered}
 use Rattle.shm_count.specs.{declared.answer.ShareFault.ShareFault, UpRoot.Control.{rooting, rooting_steered}}
 use Rattle.shm_count.specs.UpRoot.AsPart.{RootingCalls, up_root}
 use Rattle.shm_table.specs.declared.fetch_head.FetchHeadPoint.{FetchHeadPoint}

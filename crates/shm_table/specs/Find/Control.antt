@@ -4,7 +4,7 @@ use Rattle.shm_words.specs.Layout.{GeometryFits, address, address_limit}
 use Rattle.shm_words.specs.declared.place.Place.TheVariants as place
 use Rattle.shm_graph.specs.declared.{ask.{Ask.{Ask, TheVariants.Load}, Me.Me}, spot.Spot.{Spot, TheVariants.Body}}
 use Rattle.shm_graph.specs.Asks.{Trail, pair}
-use Rattle.shm_calls.specs.{declared.word.Word.Word, Steering.Steered}
+use Rattle.plans.specs.{declared.word.Word.Word, Steering.Steered}
 use Rattle.shm_table.specs.declared.find.FindPoint.{FindPoint, TheVariants.{Home, Bucket, Key, Next}}
 use Rattle.shm_table.specs.declared.find.{FindState.FindState, Found.{Found, TheVariants.{Absent, At}}}
 

@@ -3,7 +3,7 @@ use Rattle.std.proofs.Common.{◌≡◌, ℕ, ◌%◌, false, List, [], ◌∷�
 use Rattle.std.specs.List.{Contains}
 use Rattle.shm_graph.specs.declared.{memo.Memo.Memo, spot.Spot.TheVariants.{Home, Body}, table.{Entry.Entry, Part.Part}}
 use Rattle.shm_graph.specs.Held.{is_loose}
-use Rattle.shm_steps.specs.Reparting.{chain_in, map_in}
+use Rattle.kind_parts.specs.Reparting.{chain_in, map_in}
 use Rattle.shm_table.specs.Find.{Control.Passed, AreOthers, IsChainRead, IsLook}
 
 -- ---- the author's

@@ -2,8 +2,8 @@
 use Rattle.std.specs.Prelude.{ℕ, ◌%◌, ◌<◌, Bool, true, false, Option, Some, None}
 use Rattle.shm_words.specs.Layout.{GeometryFits, address_limit}
 use Rattle.shm_graph.specs.{declared.ask.{Ask.Ask, Me.Me}, Laws.Control}
-use Rattle.shm_calls.specs.declared.{calls.Calls.Calls, or.Or.{Or, TheVariants.{First, Second}}, word.Word.Word}
-use Rattle.shm_calls.specs.{CallsControl.calls_of, Either.or_control, Words.word_control, Steering.Steered}
+use Rattle.plans.specs.declared.{calls.Calls.Calls, or.Or.{Or, TheVariants.{First, Second}}, word.Word.Word}
+use Rattle.plans.specs.{CallsControl.calls_of, Either.or_control, Words.word_control, Steering.Steered}
 use Rattle.shm_script.specs.{declared.log.Answer.Answer, Text.line_spelled}
 use Rattle.shm_script.specs.declared.log.Answer.TheVariants as answer
 use Rattle.shm_script.specs.declared.line.Line.TheVariants as line
@@ -22,7 +22,7 @@ GetAnswer = Or Found (Or ℕ (Unit {0}))
 
 -- its states
 abbrev pub GetCalls : Type 0
-GetCalls = Calls GetState GetCall Answer GetAnswer
+GetCalls = Calls GetState GetCall
 
 -- before its first call
 abbrev pub getting : Me → ℕ → ℕ → GetState

@@ -2,7 +2,7 @@
 use Rattle.std.specs.Prelude.{◌≡◌, ℕ, Some, List, [], ◌∷◌, ◌++◌}
 use Rattle.shm_graph.specs.{declared.{ask.Me.Me, memo.Step.Step, run.Move.{Move, TheVariants.Word}}, Asks.Trail}
 use Rattle.shm_graph.specs.{Laws.Control, Runs.{Leads, State, memos_of, moved}}
-use Rattle.shm_steps.specs.Reparting.{map_in}
+use Rattle.kind_parts.specs.Reparting.{map_in}
 use Rattle.shm_table.specs.Find.{Control.word_ask, Tells.HasKey}
 
 -- a machine asks for these, and answers this at the last one

@@ -1,6 +1,6 @@
 -- what a latch that was taken and a search say of maps, and reading what a key has: of the own map, and in a held state of that of the author
 use Rattle.std.proofs.Common.{◌≡◌, false}
-use Rattle.shm_calls.specs.{declared.or.Or.TheVariants.{First, Second}, CallsControl.calls_of}
+use Rattle.plans.specs.{declared.or.Or.TheVariants.{First, Second}, CallsControl.calls_of}
 use Rattle.shm_table.specs.{declared.get.GetPoint.TheVariants.{Known, Number}, Find.Control.word_ask}
 use Rattle.shm_table.specs.{Get.Control.GetCalls, Unlatch.Control.{unlatching, unlatch_steered}}
 

@@ -2,9 +2,8 @@
 use Rattle.std.specs.Prelude.{ℕ, ◌<◌, Bool, true, false, Option, Some, None, Result, Ok, Err, []}
 use Rattle.shm_words.specs.Layout.{GeometryFits}
 use Rattle.shm_graph.specs.{declared.ask.Me.Me, Laws.Control}
-use Rattle.shm_calls.specs.declared.{calls.Calls.Calls, or.Or.{Or, TheVariants.{First, Second}}, word.Word.Word}
-use Rattle.shm_calls.specs.{CallsControl.{calls_control, calls_of}, Either.or_control, Words.word_control}
-use Rattle.shm_calls.specs.Steering.{Steered}
+use Rattle.plans.specs.declared.{calls.Calls.Calls, or.Or.{Or, TheVariants.{First, Second}}, word.Word.Word}
+use Rattle.plans.specs.{CallsControl.{calls_control, calls_of}, Either.or_control, Words.word_control, Steering.Steered}
 use Rattle.shm_ref.specs.{declared.{answer.Busy.Busy, hold.HoldState.HoldState}, Hold.Control.{holding, hold_steered}}
 use Rattle.shm_ref.specs.Machines.{hold}
 use Rattle.shm_table.specs.declared.{find.{FindState.FindState, Found.Found}, locate.LocatePoint.LocatePoint}
@@ -13,14 +12,14 @@ use Rattle.shm_table.specs.Find.Control.{finding, find_steered}
 
 -- a search as a call, and its control
 abbrev pub FindCalls : Type 0
-FindCalls = Calls FindState Word Found ℕ
+FindCalls = Calls FindState Word
 
 abbrev pub find_control : Control FindCalls Found
 find_control = calls_control word_control find_steered
 
 -- its calls, and what they answer
 abbrev pub LocateCall : Type 0
-LocateCall = Or (Calls HoldState Word (Result (Unit {0}) Busy) ℕ) FindCalls
+LocateCall = Or (Calls HoldState Word) FindCalls
 
 abbrev pub LocateAnswer : Type 0
 LocateAnswer = Or (Result (Unit {0}) Busy) Found
@@ -71,7 +70,7 @@ locate_steered =
 
 -- it as a call of larger machines, and its control
 abbrev pub LocateCalls : Type 0
-LocateCalls = Calls LocateState LocateCall Found LocateAnswer
+LocateCalls = Calls LocateState LocateCall
 
 abbrev pub locate_control : Control LocateCalls Found
 locate_control = calls_control locate_parts locate_steered

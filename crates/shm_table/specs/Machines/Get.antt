@@ -1,7 +1,7 @@
 -- the reading of what a key has: its control, and what it gives as it is made
 use Rattle.std.specs.Prelude.{ℕ}
 use Rattle.shm_graph.specs.{declared.{ask.Me.Me, memo.Memo.Memo}, Asks.Trail, Laws.Control}
-use Rattle.shm_calls.specs.{CallsControl.{calls_control, calls_of}, CallsFit.CallsGives}
+use Rattle.plans.specs.{CallsControl.{calls_control, calls_of}, CallsFit.CallsGives}
 use Rattle.shm_script.specs.declared.log.Answer.{Answer}
 use Rattle.shm_table.specs.Get.{Control.{GetCalls, get_parts, getting, get_steered}, get_plan}
 

@@ -1,7 +1,7 @@
 -- a put: its control, and what it gives as it is made
 use Rattle.std.specs.Prelude.{ℕ}
 use Rattle.shm_graph.specs.{declared.{ask.Me.Me, memo.Memo.Memo}, Asks.Trail, Laws.Control}
-use Rattle.shm_calls.specs.{CallsControl.{calls_control, calls_of}, CallsFit.CallsGives}
+use Rattle.plans.specs.{CallsControl.{calls_control, calls_of}, CallsFit.CallsGives}
 use Rattle.shm_script.specs.declared.log.Answer.{Answer}
 use Rattle.shm_table.specs.Put.{Control.{PutCalls, put_parts, putting, put_steered}, put_plan}
 

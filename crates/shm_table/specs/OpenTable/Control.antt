@@ -3,8 +3,8 @@ use Rattle.std.specs.Prelude.{ℕ, ◌%◌, ◌<◌, Bool, true, false, ◌==◌
 use Rattle.shm_words.specs.Layout.{GeometryFits, address_limit}
 use Rattle.shm_graph.specs.{declared.ask.Me.Me, Laws.Control}
 use Rattle.shm_graph.specs.declared.ask.Ask.TheVariants as ask
-use Rattle.shm_calls.specs.{declared.{or.Or.{Or, TheVariants.{First, Second}}, word.Word.Word}, CallsControl.calls_of}
-use Rattle.shm_calls.specs.{Either.or_control, Words.word_control, Steering.Steered}
+use Rattle.plans.specs.{declared.{or.Or.{Or, TheVariants.{First, Second}}, word.Word.Word}, CallsControl.calls_of}
+use Rattle.plans.specs.{Either.or_control, Words.word_control, Steering.Steered}
 use Rattle.shm_count.specs.declared.{answer.{EraSpent.EraSpent, Made.Made, UpFault.UpFault}, point.StepState.StepState}
 use Rattle.shm_count.specs.Step.Machines.{up_control}
 use Rattle.shm_count.specs.declared.point.Aim.TheVariants as aims

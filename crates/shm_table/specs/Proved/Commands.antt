@@ -4,7 +4,7 @@ use Rattle.std.proofs.lemmas.List.Elements.{All-append, All-weaker}
 use Rattle.std.specs.List.{All, Contains}
 use Rattle.shm_graph.specs.{declared.{ask.Me.Me, memo.Memo.Memo}, Views.own_word}
 use Rattle.shm_graph.specs.declared.spot.Spot.TheVariants as spot
-use Rattle.shm_laws.proofs.Keep.{filter_from}
+use Rattle.kind_laws.proofs.Lists.{filter_from}
 use Rattle.shm_count.specs.{Roots.root_word, Tear.{Events.Visit, is_outside}}
 use Rattle.shm_ref.specs.Lefts.{Stopped}
 use Rattle.shm_table.specs.declared.answer.PutFault.{PutFault, TheVariants.{EraSpent, RootsFull, Full, CountFull}}

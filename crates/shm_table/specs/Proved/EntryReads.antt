@@ -8,11 +8,11 @@ use Rattle.shm_graph.specs.{Asks.{at_of, seen_of, words_after}, Blocks.classes, 
 use Rattle.shm_graph.specs.{Laws.{Frame, framed, Stands}, Ops.cover_of, Reach.learnt, MemoAfterRead.values_read}
 use Rattle.shm_graph.specs.{Spots.spot_at, Views.{at1, view}}
 use Rattle.shm_graph.proofs.Runs.Lists.{at1_here}
-use Rattle.shm_calls.specs.{declared.word.Word.Word, Words.IsWord}
-use Rattle.shm_steps.specs.{Reparting.{sight, IsKnown}, Walking.{IsSeeking, Reads}}
-use Rattle.shm_steps.specs.WordParts.{IsLatchedWord, IsPlainWord, ReferenceLoaded, WordLoaded}
-use Rattle.shm_steps.proofs.Partitions.{Seeking.{seek_kept, seek_known, seek_next}, Walked.walk_key}
-use Rattle.shm_steps.proofs.Words.{Blocks.{plain_load, reference_load, idle_settled}, Own.word_for}
+use Rattle.plans.specs.{declared.word.Word.Word, Words.IsWord}
+use Rattle.kind_parts.specs.{Reparting.{sight, IsKnown}, Walking.{IsSeeking, Reads}}
+use Rattle.kind_parts.specs.WordParts.{IsLatchedWord, IsPlainWord, ReferenceLoaded, WordLoaded}
+use Rattle.kind_parts.proofs.Partitions.{Seeking.{seek_kept, seek_known, seek_next}, Walked.walk_key}
+use Rattle.kind_parts.proofs.Words.{Blocks.{plain_load, reference_load, idle_settled}, Own.word_for}
 use Rattle.shm_count.specs.Proved.TableReading.{word_reads, look_reads}
 use Rattle.shm_table.specs.EntryReads.{EntryRead, EntryReads}
 

@@ -7,12 +7,12 @@ use Rattle.shm_words.proofs.Placing.{total_small}
 use Rattle.shm_graph.specs.declared.{ask.Me.Me, memo.{Memo.Memo, Op.TheVariants.Nothing}, spot.Spot.Spot}
 use Rattle.shm_graph.specs.{declared.{spot.Spot.TheVariants.Body, table.Entry.Entry}, Agents.recovers, Held.HeldAt}
 use Rattle.shm_graph.specs.{Ops.cover_of, Reach.is_reached, Spots.spot_address, Views.view}
-use Rattle.shm_calls.specs.Parts.{IsHeld}
-use Rattle.shm_steps.specs.{Beginning.IsOwnWord, Conditions.IsHere, Reparting.{sight, map_in, IsKnown, IsValue}}
-use Rattle.shm_steps.specs.{Reparting.TableStep.{Unlinks, Replaces}, Walking.{IsSeeking, is_looked}}
-use Rattle.shm_steps.proofs.{BeginAt.SlotHas, BeginWords.{own_word_has, word_address}, Reaching.look_reached}
-use Rattle.shm_steps.proofs.Partitions.{Reparted.table_mapped, Seeking.seek_own, Words.entry_word}
-use Rattle.shm_steps.proofs.Partitions.Walked.{entry_numbered, entry_some, entry_valued, next_other, value_some, walk_has}
+use Rattle.plans.specs.Parts.{IsHeld}
+use Rattle.kind_parts.specs.{Beginning.IsOwnWord, Conditions.IsHere, Reparting.{sight, map_in, IsKnown, IsValue}}
+use Rattle.kind_parts.specs.{Reparting.TableStep.{Unlinks, Replaces}, Walking.{IsSeeking, is_looked}}
+use Rattle.kind_parts.proofs.{BeginAt.SlotHas, BeginWords.{own_word_has, word_address}, Reaching.look_reached}
+use Rattle.kind_parts.proofs.Partitions.{Reparted.table_mapped, Seeking.seek_own, Words.entry_word}
+use Rattle.kind_parts.proofs.Partitions.Walked.{entry_numbered, entry_some, entry_valued, next_other, value_some, walk_has}
 use Rattle.shm_count.specs.declared.point.{Aim.{Aim, TheVariants.{Up, Down, Change}}, StepPoint.TheVariants.Era}
 use Rattle.shm_count.specs.Proved.{Deciding.{entry_goes, last_goes, value_changes}, Slots.Parts.era_room}
 use Rattle.shm_count.specs.{Slots.{IsSlotFor, MayStepAt}, Step.{Control.{AimFits, AimSmall, IsInside}, CanStep}}

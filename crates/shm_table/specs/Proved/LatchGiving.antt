@@ -9,10 +9,10 @@ use Rattle.shm_graph.specs.{Changes.is_lane_count, Held.HeldAt, Laws.{Frame, Kep
 use Rattle.shm_graph.specs.Views.{View, at1, view}
 use Rattle.shm_graph.proofs.Memos.{Calls.{FactHolds, call_held}, Frames.at1_twice, MemoParts.put_same}
 use Rattle.shm_graph.proofs.StepKinds.{Keeping.told_fixed, KindKeeping.kept_from}
-use Rattle.shm_laws.specs.Latches.{BackNeeds, back_view}
-use Rattle.shm_laws.proofs.{Latches.back_kept, Quiet.back_quiet}
-use Rattle.shm_steps.specs.Unlatching.{MayUnlatch}
-use Rattle.shm_steps.proofs.LatchBack.{back_step, kept, latch_back, values}
+use Rattle.kind_laws.specs.Latches.{BackNeeds, back_view}
+use Rattle.kind_laws.proofs.{Latches.back_kept, Quiet.back_quiet}
+use Rattle.kind_parts.specs.Unlatching.{MayUnlatch}
+use Rattle.kind_parts.proofs.LatchBack.{back_step, kept, latch_back, values}
 
 pub latch_given : (me : Me) (w : Spot → ℕ) (r : ℕ → Memo) (f : Frame) (tr : Trail) (at a : ℕ) → Stands me w r f tr → spot_at me.geometry (classes w) at ≡ Latch a → MayUnlatch (r me.who) a
     → KeptAt me w r (Store at 0) f (λ n m. Unit {0}) (spot_at me.geometry (classes w) at)

@@ -4,7 +4,7 @@ use Rattle.std.specs.Prelude.{None}
 use Rattle.shm_graph.specs.{declared.{ask.Me.Me, memo.Memo.Memo}, Asks.Trail, Events.Event, Held.is_loose, Idle.IsIdle}
 use Rattle.shm_graph.specs.Operations.{IsReady}
 use Rattle.shm_graph.proofs.Idles.{idle_core}
-use Rattle.shm_calls.specs.Tasks.{IsNew, TaskLaws}
+use Rattle.plans.specs.Tasks.{IsNew, TaskLaws}
 use Rattle.shm_script.specs.declared.log.Answer.{Answer}
 use Rattle.shm_script.specs.declared.line.Line.TheVariants as line
 use Rattle.shm_script.specs.declared.log.Answer.TheVariants as answer

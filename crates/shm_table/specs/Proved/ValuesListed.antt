@@ -7,7 +7,7 @@ use Rattle.shm_graph.specs.declared.{ask.Me.Me, memo.{Look.Look, Memo.Memo}, spo
 use Rattle.shm_graph.specs.{Core.core, Held.is_loose, Idle.{IsIdle, hold_word}, Reach.learnt}
 use Rattle.shm_graph.specs.{MemoAfterRead.{is_entry, values_read}, Telling.{role_in, roles}, Views.own_word}
 use Rattle.shm_graph.specs.declared.memo.Status.TheVariants as status
-use Rattle.shm_steps.specs.{Conditions.IsHere, WordParts.ReferenceLoaded}
+use Rattle.kind_parts.specs.{Conditions.IsHere, WordParts.ReferenceLoaded}
 use Rattle.shm_count.specs.declared.{answer.UpFault.{UpFault, TheVariants.{CountFull, EraSpent}}, point.Aim.Aim}
 use Rattle.shm_count.specs.{Roots.root_word, Slots.StepCause}
 use Rattle.shm_table.specs.{Proved.Find.SearchLoads.learnt_keeps, Staying.Keeps, ValuesListed.ReadsMore}

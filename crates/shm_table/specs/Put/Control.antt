@@ -2,8 +2,8 @@
 use Rattle.std.specs.Prelude.{ℕ, ◌%◌, ◌<◌, Bool, true, false, Option, Some, None, Result, Ok, Err, [], ◌∷◌}
 use Rattle.shm_words.specs.Layout.{GeometryFits, address_limit}
 use Rattle.shm_graph.specs.{declared.ask.Me.Me, Laws.Control}
-use Rattle.shm_calls.specs.declared.{calls.Calls.Calls, or.Or.{Or, TheVariants.{First, Second}}}
-use Rattle.shm_calls.specs.{CallsControl.calls_of, Either.or_control, Steering.Steered}
+use Rattle.plans.specs.{declared.{calls.Calls.Calls, or.Or.{Or, TheVariants.{First, Second}}}, CallsControl.calls_of}
+use Rattle.plans.specs.{Either.or_control, Steering.Steered}
 use Rattle.shm_count.specs.declared.answer.{EraSpent.EraSpent, Made.Made}
 use Rattle.shm_alloc.specs.declared.{alloc.AllocFault.AllocFault, point.AllocState.AllocState, request.Request.Request}
 use Rattle.shm_alloc.specs.Alloc.Control.{alloc_control}
@@ -30,7 +30,7 @@ value_request n = record { refs = 0; count = 1; plain = n ∷ 0 ∷ 0 ∷ 0 ∷ 
 
 -- its states
 abbrev pub PutCalls : Type 0
-PutCalls = Calls PutState PutCall Answer PutAnswer
+PutCalls = Calls PutState PutCall
 
 -- before its first call
 abbrev pub putting : Me → ℕ → ℕ → PutState

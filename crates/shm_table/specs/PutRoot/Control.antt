@@ -2,8 +2,8 @@
 use Rattle.std.specs.Prelude.{ℕ, ◌+◌, ◌-◌, ◌%◌, ◌<◌, nat_lt, Bool, true, false, if◌then◌else◌, Option, Some, None, IfSome, Result, Ok, Err, []}
 use Rattle.shm_words.specs.Layout.{GeometryFits, address_limit}
 use Rattle.shm_graph.specs.{declared.ask.Me.Me, Laws.Control}
-use Rattle.shm_calls.specs.declared.{calls.Calls.Calls, or.Or.{Or, TheVariants.{First, Second}}}
-use Rattle.shm_calls.specs.{CallsControl.{calls_control, calls_of}, Either.or_control, Steering.Steered}
+use Rattle.plans.specs.declared.{calls.Calls.Calls, or.Or.{Or, TheVariants.{First, Second}}}
+use Rattle.plans.specs.{CallsControl.{calls_control, calls_of}, Either.or_control, Steering.Steered}
 use Rattle.shm_count.specs.declared.answer.EraSpent.{EraSpent}
 use Rattle.shm_ref.specs.{DropRoot.Control.{dropping, drop_steered}, DropRoots.Control.{RootsCall, drop_root}}
 use Rattle.shm_table.specs.declared.{answer.PutFault.PutFault, enter.Entered.Entered}
@@ -11,29 +11,29 @@ use Rattle.shm_table.specs.declared.enter.{Entered.TheVariants.{Linked, Unlinked
 use Rattle.shm_table.specs.declared.{find.Found.{Found, TheVariants.{Absent, At}}, open_table.OpenState.OpenState}
 use Rattle.shm_table.specs.declared.put_root.{PutRootPoint.PutRootPoint, PutRootState.PutRootState}
 use Rattle.shm_table.specs.{declared.replace.ReplaceState.ReplaceState, Answers.spent_fault}
-use Rattle.shm_table.specs.Enter.Control.{EnterAnswer, EnterCall, enter_parts, entering, enter_steered}
+use Rattle.shm_table.specs.Enter.Control.{EnterCall, enter_parts, entering, enter_steered}
 use Rattle.shm_table.specs.Locate.Control.{locating, locate_steered, LocateCalls, locate_control}
-use Rattle.shm_table.specs.OpenTable.Control.{OpenAnswer, OpenCall, open_parts, opening, open_steered}
-use Rattle.shm_table.specs.Replace.Control.{ReplaceAnswer, ReplaceCall, replace_parts, replacing, replace_steered}
+use Rattle.shm_table.specs.OpenTable.Control.{OpenCall, open_parts, opening, open_steered}
+use Rattle.shm_table.specs.Replace.Control.{ReplaceCall, replace_parts, replacing, replace_steered}
 use Rattle.shm_table.specs.Unlatch.Control.{UnlatchCalls, unlatch_control, unlatching, unlatch_steered}
 use Rattle.shm_table.specs.declared.put_root.PutRootPoint.TheVariants as point
 
 -- ---- its calls
 
 abbrev pub OpenCalls : Type 0
-OpenCalls = Calls OpenState OpenCall (Result (Unit {0}) PutFault) OpenAnswer
+OpenCalls = Calls OpenState OpenCall
 
 abbrev pub open_control : Control OpenCalls (Result (Unit {0}) PutFault)
 open_control = calls_control open_parts open_steered
 
 abbrev pub ReplaceCalls : Type 0
-ReplaceCalls = Calls ReplaceState ReplaceCall (Result Bool PutFault) ReplaceAnswer
+ReplaceCalls = Calls ReplaceState ReplaceCall
 
 abbrev pub replace_control : Control ReplaceCalls (Result Bool PutFault)
 replace_control = calls_control replace_parts replace_steered
 
 abbrev pub EnterCalls : Type 0
-EnterCalls = Calls EnterState EnterCall Entered EnterAnswer
+EnterCalls = Calls EnterState EnterCall
 
 abbrev pub enter_control : Control EnterCalls Entered
 enter_control = calls_control enter_parts enter_steered
@@ -47,7 +47,7 @@ PutRootAnswer = Or (Or (Result (Unit {0}) PutFault) Found) (Or (Or (Result Bool 
 
 -- it as a call of larger machines
 abbrev pub PutRootCalls : Type 0
-PutRootCalls = Calls PutRootState PutRootCall (Result Bool PutFault) PutRootAnswer
+PutRootCalls = Calls PutRootState PutRootCall
 
 -- before its first call
 abbrev pub putting_root : Me → ℕ → ℕ → PutRootState

@@ -2,8 +2,8 @@
 use Rattle.std.specs.Prelude.{ℕ, ◌%◌, ◌<◌, Bool, true, false, Option, Some, None, Result, Ok, Err}
 use Rattle.shm_words.specs.Layout.{GeometryFits, address_limit}
 use Rattle.shm_graph.specs.{declared.ask.Me.Me, Laws.Control}
-use Rattle.shm_calls.specs.declared.{calls.Calls.Calls, or.Or.{Or, TheVariants.{First, Second}}}
-use Rattle.shm_calls.specs.{CallsControl.{calls_control, calls_of}, Either.or_control, Steering.Steered}
+use Rattle.plans.specs.declared.{calls.Calls.Calls, or.Or.{Or, TheVariants.{First, Second}}}
+use Rattle.plans.specs.{CallsControl.{calls_control, calls_of}, Either.or_control, Steering.Steered}
 use Rattle.shm_count.specs.declared.answer.EraSpent.{EraSpent}
 use Rattle.shm_ref.specs.{DropRoot.Control.{dropping, drop_steered}, DropRoots.Control.{RootsCall, drop_root}}
 use Rattle.shm_script.specs.{declared.log.Answer.Answer, Text.line_spelled}
@@ -14,22 +14,22 @@ use Rattle.shm_table.specs.declared.fetch_head.FetchedHead.{FetchedHead, TheVari
 use Rattle.shm_table.specs.declared.recv.{RecvPoint.RecvPoint, RecvState.RecvState}
 use Rattle.shm_table.specs.{declared.take_head.TakeHeadState.TakeHeadState, Answers.fault_answer}
 use Rattle.shm_table.specs.CopyKey.Control.{copy_answer, stuck_answer}
-use Rattle.shm_table.specs.FetchHead.Control.{FetchHeadAnswer, FetchHeadCall, fetch_head_parts, fetching_head, fetch_head_steered}
+use Rattle.shm_table.specs.FetchHead.Control.{FetchHeadCall, fetch_head_parts, fetching_head, fetch_head_steered}
 use Rattle.shm_table.specs.PutRoot.Control.{PutRootCalls, putting_root, put_root_steered, put_root_control}
-use Rattle.shm_table.specs.TakeHead.Control.{TakeHeadAnswer, TakeHeadCall, take_head_parts, taking_head, take_head_steered}
+use Rattle.shm_table.specs.TakeHead.Control.{TakeHeadCall, take_head_parts, taking_head, take_head_steered}
 use Rattle.shm_table.specs.declared.recv.RecvPoint.TheVariants as point
 
 -- ---- its calls
 
 -- the fetch and the taking as calls
 abbrev pub FetchHeadCalls : Type 0
-FetchHeadCalls = Calls FetchHeadState FetchHeadCall FetchedHead FetchHeadAnswer
+FetchHeadCalls = Calls FetchHeadState FetchHeadCall
 
 abbrev pub fetch_head_control : Control FetchHeadCalls FetchedHead
 fetch_head_control = calls_control fetch_head_parts fetch_head_steered
 
 abbrev pub TakeHeadCalls : Type 0
-TakeHeadCalls = Calls TakeHeadState TakeHeadCall (Result (Unit {0}) EraSpent) TakeHeadAnswer
+TakeHeadCalls = Calls TakeHeadState TakeHeadCall
 
 abbrev pub take_head_control : Control TakeHeadCalls (Result (Unit {0}) EraSpent)
 take_head_control = calls_control take_head_parts take_head_steered
@@ -42,7 +42,7 @@ RecvAnswer = Or (Or FetchedHead (Result (Unit {0}) EraSpent)) (Or (Result Bool P
 
 -- its states
 abbrev pub RecvCalls : Type 0
-RecvCalls = Calls RecvState RecvCall Answer RecvAnswer
+RecvCalls = Calls RecvState RecvCall
 
 -- before its first call
 abbrev pub receiving_key : Me → ℕ → ℕ → RecvState

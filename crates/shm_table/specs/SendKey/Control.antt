@@ -2,11 +2,11 @@
 use Rattle.std.specs.Prelude.{ℕ, ◌%◌, ◌<◌, Bool, true, false, Option, Some, None, Result, Ok, Err}
 use Rattle.shm_words.specs.Layout.{GeometryFits, address_limit}
 use Rattle.shm_graph.specs.{declared.ask.Me.Me, Laws.Control}
-use Rattle.shm_calls.specs.declared.{calls.Calls.Calls, or.Or.{Or, TheVariants.{First, Second}}, word.Word.Word}
-use Rattle.shm_calls.specs.{CallsControl.calls_of, Either.or_control, Words.word_control, Steering.Steered}
+use Rattle.plans.specs.declared.{calls.Calls.Calls, or.Or.{Or, TheVariants.{First, Second}}, word.Word.Word}
+use Rattle.plans.specs.{CallsControl.calls_of, Either.or_control, Words.word_control, Steering.Steered}
 use Rattle.shm_queue.specs.declared.answer.SendFault.{SendFault, TheVariants.{QueueFull, EraSpent, CountFull}}
 use Rattle.shm_queue.specs.{declared.send.SendState.SendState, Machines.send as send_control}
-use Rattle.shm_queue.specs.Send.Control.{SendCall, SendAnswer, sending, send_steered}
+use Rattle.shm_queue.specs.Send.Control.{SendCall, sending, send_steered}
 use Rattle.shm_script.specs.{declared.log.Answer.Answer, Text.line_spelled}
 use Rattle.shm_script.specs.declared.log.Answer.TheVariants as answer
 use Rattle.shm_script.specs.declared.line.Line.TheVariants as line
@@ -18,14 +18,14 @@ use Rattle.shm_table.specs.Unlatch.Control.{UnlatchCalls, unlatch_control, unlat
 
 -- its calls, and what they answer
 abbrev pub SendKeyCall : Type 0
-SendKeyCall = Or LocateCalls (Or Word (Or (Calls SendState SendCall (Result ℕ SendFault) SendAnswer) UnlatchCalls))
+SendKeyCall = Or LocateCalls (Or Word (Or (Calls SendState SendCall) UnlatchCalls))
 
 abbrev pub SendKeyAnswer : Type 0
 SendKeyAnswer = Or Found (Or ℕ (Or (Result ℕ SendFault) (Unit {0})))
 
 -- its states
 abbrev pub SendKeyCalls : Type 0
-SendKeyCalls = Calls SendKeyState SendKeyCall Answer SendKeyAnswer
+SendKeyCalls = Calls SendKeyState SendKeyCall
 
 -- before its first call
 abbrev pub sending_key : Me → ℕ → ℕ → SendKeyState

@@ -7,7 +7,7 @@ use Rattle.shm_graph.specs.declared.{ask.Me.Me, spot.Spot.{Spot, TheVariants.{Ho
 use Rattle.shm_graph.specs.{declared.memo.{Memo.Memo, Stored.Stored}, Held.is_loose, Spots.same_spot, Views.own_word}
 use Rattle.shm_graph.proofs.Spots.Spotting.{same_spot_self}
 use Rattle.shm_count.specs.{declared.answer.Made.Made, Roots.root_word, Proved.Step.Parts.lasting_not}
-use Rattle.shm_count.specs.Tear.Memos.{is_lasting, Knows}
+use Rattle.shm_count.specs.{Lasting.is_lasting, Tear.Memos.Knows}
 use Rattle.shm_alloc.specs.{declared.request.Request.Request, Proved.Alloc.{Carrying.value_made, Steps.ready_word}}
 use Rattle.shm_alloc.specs.Alloc.{AnswerHolds, MadeGives, goal_of}
 use Rattle.shm_table.specs.Staying.{Cleared, Keeps, is_set}
@@ -28,7 +28,7 @@ other_root c k j n = ap (λ z. eqb c c && z) n ∙ right (eqb c c)
 -- ---- what is as it was
 
 -- the latch, the own home, the partition, the roots and the zero-count blocks
-pub record Rests (c : ℕ) (m r : Memo) : Type 0 where
+pub record KeepsRest (c : ℕ) (m r : Memo) : Type 0 where
   pub latch : r.latch ≡ m.latch
   pub home : own_word r.own (Home c) ≡ own_word m.own (Home c)
   pub part : r.part ≡ m.part

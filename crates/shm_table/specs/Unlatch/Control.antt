@@ -4,8 +4,8 @@ use Rattle.shm_words.specs.Layout.{GeometryFits, address}
 use Rattle.shm_words.specs.declared.place.Place.TheVariants as place
 use Rattle.shm_graph.specs.{declared.ask.{Ask.Ask, Me.Me}, Laws.Control}
 use Rattle.shm_graph.specs.declared.ask.Ask.TheVariants as ask
-use Rattle.shm_calls.specs.{declared.{calls.Calls.Calls, word.Word.Word}, CallsControl.calls_control}
-use Rattle.shm_calls.specs.{Words.word_control, Steering.Steered}
+use Rattle.plans.specs.{declared.{calls.Calls.Calls, word.Word.Word}, CallsControl.calls_control, Words.word_control}
+use Rattle.plans.specs.Steering.{Steered}
 use Rattle.shm_table.specs.declared.unlatch.UnlatchPoint.{UnlatchPoint, TheVariants.{Give, Back}}
 use Rattle.shm_table.specs.declared.unlatch.UnlatchState.{UnlatchState}
 
@@ -57,7 +57,7 @@ unlatch_steered =
 
 -- it as a call of larger machines, and its control
 abbrev pub UnlatchCalls : Type 0
-UnlatchCalls = Calls UnlatchState Word (Unit {0}) ℕ
+UnlatchCalls = Calls UnlatchState Word
 
 abbrev pub unlatch_control : Control UnlatchCalls (Unit {0})
 unlatch_control = calls_control word_control unlatch_steered

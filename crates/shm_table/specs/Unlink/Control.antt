@@ -2,8 +2,8 @@
 use Rattle.std.specs.Prelude.{ℕ, ◌+◌, ◌%◌, ◌<◌, Bool, true, false, ◌==◌, if◌then◌else◌, Option, Some, None, Result, Ok, Err, []}
 use Rattle.shm_words.specs.Layout.{GeometryFits, address_limit}
 use Rattle.shm_graph.specs.{declared.ask.Me.Me, Laws.Control}
-use Rattle.shm_calls.specs.declared.{or.Or.{Or, TheVariants.{First, Second}}, word.Word.Word, calls.Calls.Calls}
-use Rattle.shm_calls.specs.{Either.or_control, Words.word_control, Steering.Steered, CallsControl.calls_control}
+use Rattle.plans.specs.declared.{or.Or.{Or, TheVariants.{First, Second}}, word.Word.Word, calls.Calls.Calls}
+use Rattle.plans.specs.{Either.or_control, Words.word_control, Steering.Steered, CallsControl.calls_control}
 use Rattle.shm_count.specs.declared.{answer.{EraSpent.EraSpent, UpFault.UpFault}, point.StepPoint.TheVariants.Era}
 use Rattle.shm_count.specs.declared.{point.StepState.StepState, tear_point.TearPoint.TheVariants.Begin}
 use Rattle.shm_count.specs.{declared.tear_point.TearState.TearState, Step.{Control.step_control, Machines.down_control}}
@@ -102,7 +102,7 @@ unlink_steered =
 
 -- it as a call of larger machines, and its control
 abbrev pub UnlinkCalls : Type 0
-UnlinkCalls = Calls UnlinkState UnlinkCall (Result (Unit {0}) UpFault) UnlinkAnswer
+UnlinkCalls = Calls UnlinkState UnlinkCall
 
 abbrev pub unlink_control : Control UnlinkCalls (Result (Unit {0}) UpFault)
 unlink_control = calls_control unlink_parts unlink_steered

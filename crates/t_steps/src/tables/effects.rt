@@ -2,7 +2,7 @@
 
 ghost use Rattle.std.specs.Prelude.{◌<◌};
 ghost use Rattle.shm_words.specs.Layout.{GeometryFits};
-ghost use Rattle.shm_table.specs.Command.{MayStand};
+ghost use Rattle.shm_table.specs.Command.{LineMayStand};
 
 use crate::tables::lines::{OwnLine, line_for, refuse};
 use shm_graph::{Machine, Turn};
@@ -77,7 +77,7 @@ fn answer(command: &mut Command, words: &mut Vec<u64>, shown: &mut Shown) -> Opt
 fn answer_to(own: OwnLine, words: &mut Vec<u64>, shown: &mut Shown) -> Option<Answer>
     requires fits { GeometryFits own.me.geometry }
     requires who { own.me.who < own.me.geometry.clients }
-    requires line { MayStand own.me own.line }
+    requires line { LineMayStand own.me own.line }
 {
     answer(&mut Command::new(own.me, &own.line), words, shown)
 }

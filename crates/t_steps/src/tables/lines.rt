@@ -2,7 +2,7 @@
 
 ghost use Rattle.std.specs.Prelude.{◌<◌, IfSome};
 ghost use Rattle.shm_words.specs.Layout.{GeometryFits};
-ghost use Rattle.shm_table.specs.Command.{MayStand};
+ghost use Rattle.shm_table.specs.Command.{LineMayStand};
 
 use shm_graph::Me;
 use shm_script::Line;
@@ -68,7 +68,7 @@ fn line_of(name: &str, f: &[u64; 6]) -> Option<Line> {
 /// The line, where its numbers of identities are of the pool, and another identity's where it sends or receives.
 fn standing(me: Me, line: Line) -> Option<Line>
     requires { GeometryFits me.geometry }
-    ensures { IfSome result (λ l. MayStand me l) }
+    ensures { IfSome result (λ l. LineMayStand me l) }
 {
     let clients = me.geometry.clients();
     match line {
@@ -95,7 +95,7 @@ pub struct OwnLine {
 /// The identity and the line of a row; none where the pool hasn't them.
 pub fn line_for(case: &Case, name: &str, f: &[u64; 6]) -> Option<OwnLine>
     ensures who { IfSome result (λ o. GeometryFits o.me.geometry × (o.me.who < o.me.geometry.clients)) }
-    ensures line { IfSome result (λ o. MayStand o.me o.line) }
+    ensures line { IfSome result (λ o. LineMayStand o.me o.line) }
 {
     let me = case.me(f[0])?;
     let line = standing(me, line_of(name, f)?)?;

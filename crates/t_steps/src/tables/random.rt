@@ -5,7 +5,7 @@
 
 ghost use Rattle.std.specs.Prelude.{◌<◌};
 ghost use Rattle.shm_words.specs.Layout.{GeometryFits};
-ghost use Rattle.shm_table.specs.Command.{MayStand};
+ghost use Rattle.shm_table.specs.Command.{LineMayStand};
 
 mod answers;
 mod lines;
@@ -85,7 +85,7 @@ fn run(words: &mut Vec<u64>, command: &mut Command, sum: &mut Sum) -> Option<()>
 fn run_line(words: &mut Vec<u64>, me: Me, line: &Line, sum: &mut Sum) -> Option<()>
     requires geometry { GeometryFits me.geometry }
     requires who { me.who < me.geometry.clients }
-    requires line { MayStand me line.now }
+    requires line { LineMayStand me line.now }
 {
     run(words, &mut Command::new(me, line), sum)
 }

@@ -3,9 +3,9 @@ use Rattle.std.proofs.Common.{◌≡◌, ℕ, ◌<◌, refl, sym, ap, ◌∙◌,
 use Rattle.std.specs.Prelude.{◌==◌}
 use Rattle.shm_graph.specs.{declared.{ask.Me.Me, memo.Memo.Memo}, Asks.{Trail, pair}, Core.core, Events.Event}
 use Rattle.shm_graph.proofs.Idles.{idle_core}
-use Rattle.shm_steps.proofs.Cores.{here_same}
-use Rattle.shm_calls.specs.{CallsPart.{MayCall, calls_part_laws}, Plans.{PlanLaws, PlanStays, Follows}}
-use Rattle.shm_calls.specs.{Tasks.{IsNew, TaskLaws}, Words.word_control}
+use Rattle.kind_parts.proofs.Cores.{here_same}
+use Rattle.plans.specs.{CallsPart.{MayCall, calls_part_laws}, Plans.{PlanLaws, PlanStays, Follows}}
+use Rattle.plans.specs.{Tasks.{IsNew, TaskLaws}, Words.word_control}
 use Rattle.shm_count.specs.Roots.{root_word}
 use Rattle.shm_ref.specs.{Proved.{LatchTasks.may_drop, RootOf.Laws.naming_laws}, Lefts.MayDrop}
 use Rattle.shm_ref.specs.RootOf.{naming_ask, naming_plan}

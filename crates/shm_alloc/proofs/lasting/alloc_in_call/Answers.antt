@@ -1,4 +1,4 @@
-use Rattle.shm_calls.specs.Proved.Grown.{grown_laws}
+use Rattle.plans.specs.Proved.Grown.{grown_laws}
 use Rattle.shm_alloc.specs.{Alloc.{Control.alloc_control, AsPart.alloc_making}, Proved.Alloc.AsPart.alloc_making_laws}
 use Rattle.shm_alloc.proofs.lasting.alloc_in_call.Goals as goal
 

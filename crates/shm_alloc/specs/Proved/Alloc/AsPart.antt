@@ -2,7 +2,7 @@
 use Rattle.std.proofs.Common.{◌≡◌, Bool, refl, sym, ap, ◌∙◌}
 use Rattle.std.specs.Prelude.{Result}
 use Rattle.shm_graph.specs.{declared.memo.Memo.Memo, Asks.Trail, Tells.happens_along}
-use Rattle.shm_calls.specs.{MadeStays.making_laws, Parts.PartLaws, Proved.Placed.placed}
+use Rattle.plans.specs.{MadeStays.making_laws, Parts.PartLaws, Proved.Placed.placed}
 use Rattle.shm_count.specs.declared.answer.Made.{Made}
 use Rattle.shm_alloc.specs.declared.{alloc.AllocFault.AllocFault, point.AllocPoint.{AllocPoint, TheVariants.Era}}
 use Rattle.shm_alloc.specs.{declared.point.AllocState.AllocState, Alloc.Control.alloc_control}

@@ -8,7 +8,8 @@ use Rattle.shm_graph.specs.declared.{ask.Me.Me, spot.Spot.Spot, memo.{Making.Mak
 use Rattle.shm_graph.specs.{Held.is_loose, MemoAfterRead.valued, Views.own_word}
 use Rattle.shm_graph.specs.declared.spot.Spot.TheVariants as spot
 use Rattle.shm_graph.proofs.{StepKinds.Loads.choice, Spots.Spotting.same_spot_self}
-use Rattle.shm_steps.specs.{Reparting.{sight, map_in, IsKnown, IsTagged, IsBare, IsValue}, Walking.{IsVacant, IsComing}}
+use Rattle.kind_parts.specs.Reparting.{sight, map_in, IsKnown, IsTagged, IsBare, IsValue}
+use Rattle.kind_parts.specs.Walking.{IsVacant, IsComing}
 use Rattle.shm_count.specs.{declared.answer.Made.Made, Proved.Carrying.{Carries, vacant_carried}}
 use Rattle.shm_alloc.specs.{declared.request.Request.Request, Alloc.Control.tag_asked}
 use Rattle.shm_alloc.specs.{Alloc.{AnswerHolds, MadeGives, IsPrepared, goal_of}, Proved.Alloc.Steps.ready_word}

@@ -16,7 +16,7 @@ use Rattle.shm_alloc.specs.Alloc.Control.{alloc_ask, alloc_ask_at, alloc_next, a
 use Rattle.shm_alloc.specs.Alloc.Events.{alloc_event, alloc_event_at, alloc_start, events_at, own_events}
 use Rattle.shm_alloc.specs.Alloc.Asks.{AllocTrails, alloc_trail, root_trail, segment_trail, page_trail, header_trail, class_trail, block_trail, reference_trail, plain_trail, first_trail, more_trail, live_trail}
 use Rattle.shm_alloc.specs.Alloc.{AllocFits, AllocGives, CanAlloc, PointHolds, AnswerHolds, AllocStays, claim_trail, point_trail, pages_after, segments_after}
-use Rattle.shm_calls.specs.{Grown.Grows, Proved.Grown.grows_now}
+use Rattle.plans.specs.{Grown.Grows, Proved.Grown.grows_now}
 
 -- ---- the numbers of what is left
 

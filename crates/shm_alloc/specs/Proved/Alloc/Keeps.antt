@@ -1,7 +1,8 @@
 -- each step of an allocation keeps the invariant, and its memo fits again or holds what is answered
 use Rattle.std.proofs.{Common.{true, ◌≡◌, ◌≢◌, ℕ, refl, false, [], ◌∷◌, ◌++◌}, lemmas.Bool.true≢false}
 use Rattle.shm_graph.specs.{declared.{ask.Me.Me, spot.Spot.Spot, memo.Memo.Memo}, Spots.spot_at, Blocks.classes}
-use Rattle.shm_graph.specs.{Asks.{Trail, at_of, pair, seen_of}, Laws.{Keeps, Then, Frame, Stands, KeptAt, Outcome}}
+use Rattle.shm_graph.specs.Asks.{Trail, at_of, pair, seen_of}
+use Rattle.shm_graph.specs.Laws.{EachStepKeeps, Then, Frame, Stands, KeptAt, Outcome}
 use Rattle.shm_graph.proofs.StepKinds.KindKeeping.{not_fresh}
 use Rattle.shm_alloc.specs.declared.{request.Request.Request, point.AllocPoint.AllocPoint}
 use Rattle.shm_alloc.specs.declared.point.AllocPoint.TheVariants.{Era, Root, Segment, Claim, Page, Class, Header, Tag, Reference, Plain, More, Redo, Commit, Slot, Close, Over}
@@ -13,7 +14,7 @@ use Rattle.shm_alloc.specs.Proved.Alloc.SearchSegments.{era_step, root_step, seg
 use Rattle.shm_alloc.specs.Proved.Alloc.SearchPages.{page_step, class_step, header_step}
 use Rattle.shm_alloc.specs.Proved.Alloc.MakingSteps.{tag_step, reference_step, plain_step}
 use Rattle.shm_alloc.specs.Proved.Alloc.Live.{more_step, redo_step, commit_step, slot_step, close_step}
-use Rattle.shm_calls.specs.{Grown.Grows, Proved.Grown.grows_more}
+use Rattle.plans.specs.{Grown.Grows, Proved.Grown.grows_more}
 
 -- the step at a point
 step_at : (me : Me) (q : Request) (r0 : Memo) (w : Spot → ℕ) (r : ℕ → Memo) (f : Frame) (tr : Trail) (p : AllocPoint) → is_over p ≡ false → Stands me w r f tr → (p ≢ Era → f.fresh ≡ false) → CanAlloc me r0 → RequestFits q → PointFits me q p → PointHolds me q r0 (r me.who) p
@@ -45,7 +46,7 @@ then_holds m r0 r x tr n fit grows h = go (alloc_next m n) refl h
     go (Answer a) e z = gives_ends m r0 r x tr n a fit e grows z
 
 -- each step of an allocation keeps the invariant, and what comes next holds of the memo
-pub alloc_keeps : Keeps alloc_control AllocFits AllocGives
+pub alloc_keeps : EachStepKeeps alloc_control AllocFits AllocGives
 alloc_keeps m r0 tr going w r f s fit =
     let k = step_at m.me m.request r0 w r f tr m.point going s (λ z. not_fresh m.me w r f tr s (fit.begun z)) fit.can fit.knows.request fit.knows.point fit.holds in
     let at : Spot = spot_at m.me.geometry (classes w) (at_of (alloc_ask m)) in

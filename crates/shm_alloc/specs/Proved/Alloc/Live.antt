@@ -21,11 +21,11 @@ use Rattle.shm_graph.specs.Laws.{Frame, framed, KeptAt}
 use Rattle.shm_graph.specs.declared.spot.Spot.TheVariants as spot
 use Rattle.shm_graph.specs.declared.memo.Op.TheVariants as op
 use Rattle.shm_graph.proofs.Spots.{SpotPlaces.spot-place, Spotting.{same_spot_self, same_spot_is}}
-use Rattle.shm_laws.specs.{Slotting.Writes, OwnWords.Closes}
-use Rattle.shm_steps.specs.{OwnWords.{MayAdd, MayBegin, IsReady, op_begun}, Preparing.MayAlloc}
-use Rattle.shm_steps.proofs.{Allocated.allocates, OwnStoresEra.era_closed}
-use Rattle.shm_steps.proofs.OwnStoresRedo.{redo_stored as begin_stored, more_stored as second_stored, root_begins_up, root_at, up_begun}
-use Rattle.shm_steps.proofs.{Prepared.{MakingHolds, making_holds}, SlotStores.root_stored, KeptAfter.kept_going}
+use Rattle.kind_laws.specs.{Slotting.Writes, OwnWords.Closes}
+use Rattle.kind_parts.specs.{OwnWords.{MayAdd, RedoMayBegin, SecondStored, op_begun}, Preparing.MayAlloc}
+use Rattle.kind_parts.proofs.{Allocated.allocates, OwnStoresEra.era_closed}
+use Rattle.kind_parts.proofs.OwnStoresRedo.{redo_stored as begin_stored, more_stored as second_stored, root_begins_up, root_at, up_begun}
+use Rattle.kind_parts.proofs.{Prepared.{MakingHolds, making_holds}, SlotStores.root_stored, KeptAfter.kept_going}
 use Rattle.shm_alloc.specs.declared.{request.Request.Request, point.Goal.Goal}
 use Rattle.shm_alloc.specs.declared.point.AllocPoint.TheVariants.{More, Redo, Commit, Slot, Close}
 use Rattle.shm_alloc.specs.Alloc.Control.{class_asked, tag_asked, header_made, redo_asked, alloc_next_at, GoalFits}
@@ -64,7 +64,7 @@ module _ (me : Me) (q : Request) (r0 : Memo) (w : Spot → ℕ) (r : ℕ → Mem
       let wide : me.geometry.wide ≡ true = point.3 in
       let e : spot_at me.geometry (classes w) at ≡ p = spot-place me.geometry (classes w) (place.RedoMore c) (and_from _ _ wide (lt-ltb c me.geometry.clients st.who)) in
       let add : MayAdd c m g.root b = may_add can point.0 h.stays h.op h.has.2 h.has.3 in
-      let begins : MayBegin me.geometry w r c red = root_begins_up me.geometry w r c st.held st.who g.root b add in
+      let begins : RedoMayBegin me.geometry w r c red = root_begins_up me.geometry w r c st.held st.who g.root b add in
       let value : redo_second true red ≡ x = ap (λ y. redo_second y red) (sym wide) ∙ ap (redo_second me.geometry.wide) (sym (fitted_same me.geometry.wide red begins.fits)) in
       kept_going me w r a f (λ n r'. NextHolds me q r0 r' (alloc_next_at me q (More g b) n)) p going e
       (subst (λ y. KeptAt me w r (Store at y) f (λ n m. Unit {0}) (spot_at me.geometry (classes w) at)) value
@@ -103,10 +103,10 @@ module _ (me : Me) (q : Request) (r0 : Memo) (w : Spot → ℕ) (r : ℕ → Mem
       let e : spot_at me.geometry (classes w) at ≡ p = spot-place me.geometry (classes w) (place.Redo c) (lt-ltb c me.geometry.clients st.who) in
       let goal : GoalHas c m g = goal_ready m h.own h.has.2 in
       let add : MayAdd c m g.root b = may_add can point.0 h.stays h.op goal h.has.3 in
-      let begins : MayBegin me.geometry w r c red = root_begins_up me.geometry w r c st.held st.who g.root b add in
+      let begins : RedoMayBegin me.geometry w r c red = root_begins_up me.geometry w r c st.held st.who g.root b add in
       let same : fitted me.geometry.wide red ≡ red = fitted_same me.geometry.wide red begins.fits in
       let value : redo_first me.geometry.wide red ≡ x = ap (redo_first me.geometry.wide) (sym same) in
-      let ready : IsReady me.geometry c m red = λ wide. ap (λ o. own_word o (spot.RedoMore c)) h.own ∙ (ready_more me g b r0.own wide ∙ (ap (redo_second me.geometry.wide) same ∙ ap (λ y. redo_second y red) wide)) in
+      let ready : SecondStored me.geometry c m red = λ wide. ap (λ o. own_word o (spot.RedoMore c)) h.own ∙ (ready_more me g b r0.own wide ∙ (ap (redo_second me.geometry.wide) same ∙ ap (λ y. redo_second y red) wide)) in
       let place : IsAt me.geometry (classes w) (spot.Root c g.root) = root_at me.geometry w r c st.held st.who g.root point.0.root in
       let begun : op_begun me.geometry c m (redo_first me.geometry.wide red) ≡ op.Alloc Begun (spot.Root c g.root) b g.era =
       up_begun me.geometry w r c st.held st.who g.root b place begins.fits ready ∙ (cond-true _ _ _ (made_here h.has.3) ∙ ap (λ y. op.Alloc Begun (spot.Root c g.root) b y) (sym goal.era)) in

@@ -14,9 +14,9 @@ use Rattle.shm_graph.specs.{MemoAfterStore.{class_told, making_with}, Laws.{Fram
 use Rattle.shm_graph.specs.declared.spot.Spot.TheVariants as spot
 use Rattle.shm_graph.specs.declared.memo.Op.TheVariants as op
 use Rattle.shm_graph.proofs.{StepKinds.Loads.choice, Spots.Spotting.{block_within, tag_spot, body_spot, same_spot_not}}
-use Rattle.shm_laws.proofs.Keep.{Contains-filter}
-use Rattle.shm_steps.proofs.{BlockTold.dying_false, Prepared.{MakingHolds, making_holds, tag_prepares, body_prepares}}
-use Rattle.shm_steps.proofs.KeptAfter.{kept_going}
+use Rattle.kind_laws.proofs.Lists.{Contains-filter}
+use Rattle.kind_parts.proofs.{BlockTold.dying_false, Prepared.{MakingHolds, making_holds, tag_prepares, body_prepares}}
+use Rattle.kind_parts.proofs.KeptAfter.{kept_going}
 use Rattle.shm_alloc.specs.declared.{request.Request.Request, point.{Goal.Goal, AllocPoint.AllocPoint}}
 use Rattle.shm_alloc.specs.declared.point.AllocPoint.TheVariants.{Tag, Reference, Plain, More, Redo}
 use Rattle.shm_alloc.specs.Alloc.Control.{class_asked, tag_asked, alloc_next_at, first_point, plain_from, references_from, RequestFits}
@@ -57,7 +57,7 @@ asked_fits me q r0 can fits = let u = can.who in let n = can.geometry.clients in
 -- ---- how far the making has come
 
 -- of the block that is prepared so many words are stored, and nothing else has changed
-pub record Makes (me : Me) (q : Request) (r0 r : Memo) (g : Goal) (b refs plain : ℕ) : Type 0 where
+pub record StoredSoFar (me : Me) (q : Request) (r0 r : Memo) (g : Goal) (b refs plain : ℕ) : Type 0 where
   pub stays : AllocStays r0 r
   pub op : r.op ≡ op.Nothing
   pub own : r.own ≡ r0.own
@@ -67,7 +67,7 @@ pub record Makes (me : Me) (q : Request) (r0 r : Memo) (g : Goal) (b refs plain 
   pub block : Prepares me.geometry.wide me.who q b refs plain r
 
 -- what the point after all words needs
-first_holds : (me : Me) (q : Request) (r0 r : Memo) (g : Goal) (b : ℕ) → Makes me q r0 r g b q.refs q.count → PointHolds me q r0 r (first_point me.geometry.wide g b)
+first_holds : (me : Me) (q : Request) (r0 r : Memo) (g : Goal) (b : ℕ) → StoredSoFar me q r0 r g b q.refs q.count → PointHolds me q r0 r (first_point me.geometry.wide g b)
 first_holds me q r0 r g b m = go me.geometry.wide refl
   where
     go : (x : Bool) → me.geometry.wide ≡ x → PointHolds me q r0 r (if x then More g b else Redo g b)
@@ -75,18 +75,18 @@ first_holds me q r0 r g b m = go me.geometry.wide refl
     go false e = record { stays = m.stays; op = m.op; own = m.own ∙ sym (ready_not me g b r0.own e); has = (m.known, m.values, goal_on me.who r r0 g (sym m.own) m.goal, m.block) }
 
 -- what the point after so many plain words needs
-pub plain_next : (me : Me) (q : Request) (r0 r : Memo) (g : Goal) (b i : ℕ) → i ≤ q.count → Makes me q r0 r g b q.refs i → PointHolds me q r0 r (plain_from me.geometry.wide q g b i)
+pub plain_next : (me : Me) (q : Request) (r0 r : Memo) (g : Goal) (b i : ℕ) → i ≤ q.count → StoredSoFar me q r0 r g b q.refs i → PointHolds me q r0 r (plain_from me.geometry.wide q g b i)
 plain_next me q r0 r g b i l m =
     choice (PointHolds me q r0 r) (nat_lt i q.count) (Plain g b i) (first_point me.geometry.wide g b)
     (λ e. record { stays = m.stays; op = m.op; own = m.own; has = (m.known, m.values, m.goal, m.block) })
-    (λ e. let all : i ≡ q.count = grind (arith, nat_tests) in first_holds me q r0 r g b (subst (λ n. Makes me q r0 r g b q.refs n) all m))
+    (λ e. let all : i ≡ q.count = grind (arith, nat_tests) in first_holds me q r0 r g b (subst (λ n. StoredSoFar me q r0 r g b q.refs n) all m))
 
 -- what the point after so many reference words needs
-pub references_next : (me : Me) (q : Request) (r0 r : Memo) (g : Goal) (b i : ℕ) → i ≤ q.refs → Makes me q r0 r g b i 0 → PointHolds me q r0 r (references_from me.geometry.wide q g b i)
+pub references_next : (me : Me) (q : Request) (r0 r : Memo) (g : Goal) (b i : ℕ) → i ≤ q.refs → StoredSoFar me q r0 r g b i 0 → PointHolds me q r0 r (references_from me.geometry.wide q g b i)
 references_next me q r0 r g b i l m =
     choice (PointHolds me q r0 r) (nat_lt i q.refs) (Reference g b i) (plain_from me.geometry.wide q g b 0)
     (λ e. record { stays = m.stays; op = m.op; own = m.own; has = (m.known, m.values, m.goal, m.block) })
-    (λ e. let all : i ≡ q.refs = grind (arith, nat_tests) in plain_next me q r0 r g b 0 (omega arith) (subst (λ n. Makes me q r0 r g b n 0) all m))
+    (λ e. let all : i ≡ q.refs = grind (arith, nat_tests) in plain_next me q r0 r g b 0 (omega arith) (subst (λ n. StoredSoFar me q r0 r g b n 0) all m))
 
 -- ---- the words that are stored
 
@@ -188,9 +188,9 @@ word_spot me q w r b i refs plain k held who made h room =
     body_spot me.geometry (classes w) b i block (held.sizes.classes _ _ (block_within me.geometry (classes w) b block).2) (subst (λ z. 2 + i < z) (sym sized) room)
 
 -- word i of the block is stored, and what comes next needs the making with it
-pub word_step : (me : Me) (q : Request) (r0 : Memo) (w : Spot → ℕ) (r : ℕ → Memo) (f : Frame) (tr : Trail) (g : Goal) (b i x refs plain refs' plain' : ℕ) (next : AllocPoint) → Stands me w r f tr → f.fresh ≡ false → CanAlloc me r0 → Makes me q r0 (r me.who) g b refs plain → 2 + i < class_asked q → x < 2 ^ 64
+pub word_step : (me : Me) (q : Request) (r0 : Memo) (w : Spot → ℕ) (r : ℕ → Memo) (f : Frame) (tr : Trail) (g : Goal) (b i x refs plain refs' plain' : ℕ) (next : AllocPoint) → Stands me w r f tr → f.fresh ≡ false → CanAlloc me r0 → StoredSoFar me q r0 (r me.who) g b refs plain → 2 + i < class_asked q → x < 2 ^ 64
     → ((k : Making) → IsPrepared me.geometry.wide me.who q b refs plain k → IsPrepared me.geometry.wide me.who q b refs' plain' (with_word k (spot.Body b i) x))
-    → ((r' : Memo) → Makes me q r0 r' g b refs' plain' → PointHolds me q r0 r' next)
+    → ((r' : Memo) → StoredSoFar me q r0 r' g b refs' plain' → PointHolds me q r0 r' next)
     → KeptAt me w r (Store (b + 2 + i) x) f (λ n r'. PointHolds me q r0 r' next) (spot_at me.geometry (classes w) (b + 2 + i))
 word_step me q r0 w r f tr g b i x refs plain refs' plain' next st going can h room small more holds =
     let c = me.who in

@@ -17,8 +17,8 @@ use Rattle.shm_graph.specs.declared.memo.Fact.TheVariants as facts
 use Rattle.shm_graph.specs.declared.memo.Op.TheVariants as op
 use Rattle.shm_graph.proofs.{Machines.Calling.called_part, Spots.SpotPlaces.{spot-place, body_spot_at}}
 use Rattle.shm_graph.proofs.StepKinds.{Loads.choice, LoadKeeping.load_kept}
-use Rattle.shm_steps.proofs.{BlockTold.class_is_read, BodyLoads.header_loaded, PageSteps.class_stored}
-use Rattle.shm_steps.proofs.{KeptAfter.kept_with, Cores.called_facts}
+use Rattle.kind_parts.proofs.{BlockTold.class_is_read, BodyLoads.header_loaded, PageSteps.class_stored}
+use Rattle.kind_parts.proofs.{KeptAfter.kept_with, Cores.called_facts}
 use Rattle.shm_alloc.specs.declared.{request.Request.Request, point.{Goal.Goal, Search.Search}}
 use Rattle.shm_alloc.specs.declared.point.AllocPoint.TheVariants.{Page, Class, Header, Tag}
 use Rattle.shm_alloc.specs.declared.point.AllocNext.TheVariants.{Point}
@@ -26,7 +26,7 @@ use Rattle.shm_alloc.specs.Alloc.Control.{class_asked, block_of, segment_at, pag
 use Rattle.shm_alloc.specs.{Alloc.{GoalHas, CanAlloc, NextHolds}, Proved.Alloc.Steps.{PointKeeps, goal_on}}
 use Rattle.shm_alloc.specs.Proved.Alloc.SearchSteps.{searched, Looks, Remains, remains, called_owned, looks_on, owned_on, page_done, own_same}
 use Rattle.shm_alloc.specs.Proved.Turning.{segment_below, page_below, index_below}
-use Rattle.shm_laws.proofs.Keep.{newest}
+use Rattle.kind_laws.proofs.Lists.{newest}
 
 -- ---- the class of a page
 

@@ -12,7 +12,7 @@ use Rattle.shm_graph.specs.{MemoAfterRead.{read_on, row_read}, MemoAfterExchange
 use Rattle.shm_graph.specs.Laws.{Frame, framed, Stands}
 use Rattle.shm_graph.specs.declared.spot.Spot.TheVariants as spot
 use Rattle.shm_graph.proofs.{Spots.SpotPlaces.spot-place, StepKinds.{Loads.choice, LoadKeeping.{load_kept, lost_kept}}}
-use Rattle.shm_steps.proofs.{PageSteps.claimed, KeptAfter.kept_with}
+use Rattle.kind_parts.proofs.{PageSteps.claimed, KeptAfter.kept_with}
 use Rattle.shm_alloc.specs.declared.{alloc.AllocFault.TheVariants.{EraSpent, RootsFull}, request.Request.Request}
 use Rattle.shm_alloc.specs.declared.point.{Goal.Goal, Search.Search, AllocPoint.TheVariants.{Era, Root, Segment, Claim}}
 use Rattle.shm_alloc.specs.declared.point.AllocNext.TheVariants.{Point, Answer}
@@ -21,7 +21,7 @@ use Rattle.shm_alloc.specs.Alloc.{GoalHas, CanAlloc, PointHolds, NextHolds}
 use Rattle.shm_alloc.specs.Proved.Alloc.Steps.{KeepsAt, PointKeeps, is_here, goal_on}
 use Rattle.shm_alloc.specs.Proved.Alloc.SearchSteps.{searched, Looks, Remains, remains, called_owned, called_searched, looks_on, owned_on, refused, segment_done, own_same}
 use Rattle.shm_alloc.specs.Proved.Turning.{segment_below}
-use Rattle.shm_laws.proofs.Keep.{newest}
+use Rattle.kind_laws.proofs.Lists.{newest}
 
 -- an own word that is read is the one that the memo has
 own_read : (me : Me) (w : Spot → ℕ) (r : ℕ → Memo) (f : Frame) (tr : Trail) (r' : Memo) (p : Spot) → Stands me w r f tr → owner_is me.who p ≡ true → Remains (r me.who) r' → own_word r'.own p ≡ w p

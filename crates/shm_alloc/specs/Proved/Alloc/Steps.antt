@@ -8,7 +8,7 @@ use Rattle.shm_graph.specs.{Spots.{spot_at, same_spot}, Blocks.classes, Views.ow
 use Rattle.shm_graph.specs.declared.spot.Spot.TheVariants as spot
 use Rattle.shm_graph.specs.declared.memo.Status.TheVariants as status
 use Rattle.shm_graph.proofs.Spots.Spotting.{same_spot_self}
-use Rattle.shm_steps.specs.Conditions.{IsHere}
+use Rattle.kind_parts.specs.Conditions.{IsHere}
 use Rattle.shm_alloc.specs.declared.{request.Request.Request, point.{Goal.Goal, AllocPoint.AllocPoint}}
 use Rattle.shm_alloc.specs.Alloc.Control.{alloc_ask_at, alloc_next_at, redo_asked, RequestFits, PointFits}
 use Rattle.shm_alloc.specs.Alloc.{GoalHas, AllocStays, CanAlloc, PointHolds, NextHolds, more_stored, readied}

@@ -9,7 +9,7 @@ use Rattle.shm_graph.specs.{Blocks.{classes, IsBlock}, Held.ZeroAt, Asks.{Trail,
 use Rattle.shm_graph.specs.{Laws.{Frame, framed, Stands, event_by, event_on, event_of}, Tells.Tells}
 use Rattle.shm_graph.specs.declared.spot.Spot.TheVariants as spot
 use Rattle.shm_graph.proofs.{Spots.{SpotPlaces.spot-place, Spotting.{block_within, tag_spot}}, Memos.LoadTold.is_head}
-use Rattle.shm_steps.proofs.Prepared.{MakingHolds, making_holds}
+use Rattle.kind_parts.proofs.Prepared.{MakingHolds, making_holds}
 use Rattle.shm_alloc.specs.declared.{request.Request.Request, point.AllocPoint.AllocPoint}
 use Rattle.shm_alloc.specs.declared.point.AllocPoint.TheVariants.{Era, Root, Segment, Claim, Page, Class, Header, Tag, Reference, Plain, More, Redo, Commit, Slot, Close, Over}
 use Rattle.shm_alloc.specs.Proved.{Turning.{segment_below, page_below}, Alloc.MakingSteps.word_spot}

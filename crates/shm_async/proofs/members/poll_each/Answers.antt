@@ -1,5 +1,5 @@
 use Rattle.std.proofs.{Common.{◌<◌, length, ◌∙◌, subst, arith}, lemmas.List.length-set}
-use Rattle.shm_async.specs.Members.{IsHere}
+use Rattle.shm_async.specs.Members.{MemberHere}
 use Rattle.shm_async.proofs.Gathering.{members_set}
 use Rattle.shm_async.proofs.members.poll_each.Goals as goal
 
@@ -11,5 +11,5 @@ loop-at-preserved g c =
     let few : at.at < length at.members = omega arith in
     record {
       many = length-set at.members at.at c.poll_one-left.new.slot ∙ i.many;
-      here = λ t p h. members_set t p at.members at.at x.result c.poll_one-left.new.slot (i.here t p h) few x.is (λ k z. c.poll_one-left.ensures t p k (subst (IsHere t p k) x.is z));
+      here = λ t p h. members_set t p at.members at.at x.result c.poll_one-left.new.slot (i.here t p h) few x.is (λ k z. c.poll_one-left.ensures t p k (subst (MemberHere t p k) x.is z));
     }

@@ -10,7 +10,7 @@ use Rattle.shm_client.proofs.commands.command.Goals as goal
 use Rattle.shm_client.specs.Running.{LeavesOpen, MapSo, RunLeaves}
 use Rattle.shm_count.specs.Roots.{member}
 use Rattle.shm_script.specs.declared.log.Answer.{Answer}
-use Rattle.shm_table.specs.Command.{CommandCall, CommandGives, MayStand, command_control, command_does, command_of}
+use Rattle.shm_table.specs.Command.{CommandCall, CommandGives, LineMayStand, command_control, command_does, command_of}
 use Rattle.shm_table.specs.{Command.Operates.{CommandLeaves, CommandMay}, Proved.Command.Operates.command_may}
 use Rattle.shm_table.specs.Staying.{Ended}
 
@@ -18,7 +18,7 @@ use Rattle.shm_table.specs.Staying.{Ended}
 
 pub new-machine-requires-clause-line : goal.new-machine-requires-clause-line
 new-machine-requires-clause-line c =
-    subst (λ (x : Me). MayStand x c.args.line.now) (sym c.me.ensures.is) (run_stands _ c.args.line.now (memo_of c.args.pool.now c.args.who) c.requires.may)
+    subst (λ (x : Me). LineMayStand x c.args.line.now) (sym c.me.ensures.is) (run_stands _ c.args.line.now (memo_of c.args.pool.now c.args.who) c.requires.may)
 
 -- it is the command of the line
 abbrev machine : (c : After-new-machine) → CommandCall

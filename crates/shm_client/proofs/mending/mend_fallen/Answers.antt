@@ -5,7 +5,7 @@ use Rattle.shm_graph.specs.{Agents.{died, entered, recovers}, Asks.call_before, 
 use Rattle.shm_graph.proofs.Memos.MemoSteps.{recovers-entered}
 use Rattle.shm_plain.specs.{Pools.{MayStep, Pool, after_fall, memo_of, readied}, Calls.Did}
 use Rattle.shm_plain.proofs.Called.{Called}
-use Rattle.shm_calls.specs.{CallsControl.{calls_control, calls_of}, CallsFit.{CallsFits, CallsGives}}
+use Rattle.plans.specs.{CallsControl.{calls_control, calls_of}, CallsFit.{CallsFits, CallsGives}}
 use Rattle.shm_count.specs.Roots.{member}
 use Rattle.shm_recover.specs.{declared.mend.MendState.MendState, Mend.Control.{mend_parts, mending, mend_steered}}
 use Rattle.shm_recover.specs.Mend.{IsMended, MayMend, mend_plan}

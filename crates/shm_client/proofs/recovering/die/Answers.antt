@@ -1,6 +1,6 @@
 use Rattle.std.proofs.Common.{◌≡◌, sym, subst, true}
 use Rattle.shm_graph.specs.{Agents.last_agent, Runs.fell_by}
-use Rattle.shm_steps.specs.Reparting.{map_in}
+use Rattle.kind_parts.specs.Reparting.{map_in}
 use Rattle.shm_plain.specs.Pools.{Pool, memo_of}
 use Rattle.shm_client.proofs.Fallen.{dead_fell, dead_map}
 use Rattle.shm_client.proofs.recovering.die.Goals as goal

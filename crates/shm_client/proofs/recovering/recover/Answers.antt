@@ -3,11 +3,11 @@ use Rattle.std.specs.{Prelude.{Option, Some, None, Ok, Err, IfOk, IfSome}, Optio
 use Rattle.shm_graph.specs.declared.{ask.Me.Me, memo.{Kind.TheVariants.Recoverer, Memo.Memo, Status.TheVariants.Gone}}
 use Rattle.shm_graph.specs.{Agents.entered, Asks.Trail, Events.Event}
 use Rattle.shm_graph.proofs.Memos.MemoSteps.{recovers-entered}
-use Rattle.shm_steps.specs.Reparting.{map_in}
+use Rattle.kind_parts.specs.Reparting.{map_in}
 use Rattle.shm_plain.specs.{Pools.{Pool, memo_of}, Calls.{Did, Ran}}
 use Rattle.shm_plain.proofs.Called.{Called}
-use Rattle.shm_calls.specs.{CallsControl.{calls_control, calls_does, calls_of}, CallsFit.{CallsFits, CallsGives}}
-use Rattle.shm_calls.specs.{Proved.CallsKeep.{calls_begin, calls_tells}, Plans.PlanLaws}
+use Rattle.plans.specs.{CallsControl.{calls_control, calls_does, calls_of}, CallsFit.{CallsFits, CallsGives}}
+use Rattle.plans.specs.{Proved.CallsKeep.{calls_begin, calls_tells}, Plans.PlanLaws}
 use Rattle.shm_count.specs.{declared.answer.EraSpent.EraSpent, Roots.member}
 use Rattle.shm_ref.specs.Proved.DropRoots.Laws.{roots_laws}
 use Rattle.shm_recover.specs.{declared.recover.RecoverState.RecoverState, Proved.FinishTakes.Laws.finish_laws}

@@ -6,7 +6,7 @@ use Rattle.shm_count.specs.{CountParts.step_left, Step.{Control.{step_control, i
 use Rattle.shm_count.specs.Step.Machines.{up_answer, up_control, up_told, down_answer, down_control, down_told}
 use Rattle.shm_count.specs.StepsAt.{UpFitsAt, UpGivesAt, up_laws_at, up_tells_at, up_gave, DownFitsAt, DownGivesAt, down_laws_at, down_tells_at, down_gave, ChangeFitsAt, ChangeGivesAt, change_laws_at, change_tells_at}
 use Rattle.shm_count.specs.Proved.Step.Going as steps
-use Rattle.shm_calls.specs.Proved.CallTells.{mapped_events}
+use Rattle.plans.specs.Proved.CallTells.{mapped_events}
 
 pub returns-clause-up : goal.returns-clause-up
 returns-clause-up c p m a ms b r tr x up n call g =

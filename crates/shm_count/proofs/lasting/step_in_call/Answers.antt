@@ -1,4 +1,4 @@
-use Rattle.shm_calls.specs.Proved.Grown.{grown_laws}
+use Rattle.plans.specs.Proved.Grown.{grown_laws}
 use Rattle.shm_count.specs.MadeSteps.{change_making, change_making_laws, down_making, down_making_laws, up_making, up_making_laws}
 use Rattle.shm_count.specs.Step.{Control.step_control, Machines.{down_control, up_control}}
 use Rattle.shm_count.proofs.lasting.step_in_call.Goals as goal

@@ -1,4 +1,4 @@
-use Rattle.shm_calls.specs.Proved.Grown.{grown_laws}
+use Rattle.plans.specs.Proved.Grown.{grown_laws}
 use Rattle.shm_count.specs.{MadeSteps.tear_making, Proved.MadeSteps.tear_making_laws, Tear.Control.tear_control}
 use Rattle.shm_count.proofs.lasting.tear_in_call.Goals as goal
 

@@ -10,10 +10,10 @@ use Rattle.shm_graph.specs.{declared.memo.Memo.Memo, Agents.recovers, Asks.{Trai
 use Rattle.shm_graph.specs.{Blocks.classes, Core.core, Events.Event, Laws.{Frame, Outcome, Stands}, Ops.on_of}
 use Rattle.shm_graph.specs.{MemoAfterRead.{next_row, test_from, test_on}, Spots.spot_at, Views.own_word}
 use Rattle.shm_graph.proofs.Spots.Spotting.{spot_zero}
-use Rattle.shm_calls.specs.{Proved.CallTells.within_more, Parts.IsHeld, Plans.{Follows, PlanLaws, PlanStays}}
-use Rattle.shm_calls.specs.Words.{IsWord, word_control, word_part, word_part_laws}
-use Rattle.shm_steps.specs.WordParts.{TestBegun}
-use Rattle.shm_steps.proofs.Words.Test.{test_begin, test_row, test_spare}
+use Rattle.plans.specs.{Proved.CallTells.within_more, Parts.IsHeld, Plans.{Follows, PlanLaws, PlanStays}}
+use Rattle.plans.specs.Words.{IsWord, word_control, word_part, word_part_laws}
+use Rattle.kind_parts.specs.WordParts.{TestBegun}
+use Rattle.kind_parts.proofs.Words.Test.{test_begin, test_row, test_spare}
 use Rattle.shm_count.specs.declared.commit_test.Commit.{Commit, TheVariants.{Committed, NotCommitted}}
 use Rattle.shm_count.specs.declared.commit_test.TestingPoint.{TestingPoint, TheVariants.{Header, Row}}
 use Rattle.shm_count.specs.declared.commit_test.TestingState.{TestingState}

@@ -14,10 +14,10 @@ use Rattle.shm_graph.specs.{Views.own_word, Core.core}
 use Rattle.shm_graph.specs.declared.spot.Spot.TheVariants as spot
 use Rattle.shm_graph.specs.declared.memo.Op.TheVariants as op
 use Rattle.shm_graph.proofs.StepKinds.Loads.{choice}
-use Rattle.shm_laws.proofs.Keep.{newest, Contains-filter, filter_from}
-use Rattle.shm_laws.specs.HeaderExchanges.{dying_after}
-use Rattle.shm_steps.proofs.{MemoCommits.{known_lowered, lowered_is}, Cores.body_word}
-use Rattle.shm_steps.specs.Reparting.{sight}
+use Rattle.kind_laws.proofs.Lists.{newest, Contains-filter, filter_from}
+use Rattle.kind_laws.specs.HeaderExchanges.{dying_after}
+use Rattle.kind_parts.proofs.{MemoCommits.{known_lowered, lowered_is}, Cores.body_word}
+use Rattle.kind_parts.specs.Reparting.{sight}
 use Rattle.shm_count.specs.declared.point.{Aim.TheVariants.Down, Half.TheVariants.First}
 use Rattle.shm_count.specs.Proved.DownLeaves.{count_less, joined, kept_lowered, one_less}
 use Rattle.shm_count.specs.Proved.Retaining.{slots_learnt, slots_forgotten, slots_sifted, named_same, named_sifted, value_sifted}

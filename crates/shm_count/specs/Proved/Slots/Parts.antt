@@ -3,7 +3,7 @@ use Rattle.std.proofs.{Common.{◌≡◌, ◌+◌, ◌^◌, ◌<◌, refl, ap, s
 use Rattle.shm_graph.specs.{declared.{ask.Me.Me, memo.Memo.Memo}, Held.room_of, Views.own_word}
 use Rattle.shm_graph.specs.declared.spot.Spot.TheVariants as spot
 use Rattle.shm_graph.specs.declared.memo.Op.TheVariants as op
-use Rattle.shm_calls.specs.Parts.{IsHeld}
+use Rattle.plans.specs.Parts.{IsHeld}
 
 -- in a held state in which no step of an identity is in progress its own era leaves room for two in a header
 pub era_room : (me : Me) (m : Memo) → IsHeld me m → me.who < me.geometry.clients → m.op ≡ op.Nothing → own_word m.own (spot.Era me.who me.who) + 1 < 2 ^ 47

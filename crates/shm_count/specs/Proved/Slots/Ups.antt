@@ -8,8 +8,8 @@ use Rattle.shm_graph.specs.{MemoAfterStore.{put, written, stored_on, with_own, e
 use Rattle.shm_graph.specs.declared.spot.Spot.TheVariants as spot
 use Rattle.shm_graph.specs.declared.memo.Op.TheVariants as op
 use Rattle.shm_graph.proofs.Spots.Spotting.{same_spot_self}
-use Rattle.shm_steps.specs.Reparting.{sight}
-use Rattle.shm_steps.proofs.Cores.{body_word}
+use Rattle.kind_parts.specs.Reparting.{sight}
+use Rattle.kind_parts.proofs.Cores.{body_word}
 use Rattle.shm_count.specs.declared.point.{Aim.TheVariants.Up, Half.TheVariants.First}
 use Rattle.shm_count.specs.Slots.{IsFilled, slotted, known_at, unsent_at, Filled}
 use Rattle.shm_count.specs.Step.{Done, begun, set_memo, slot_memo, closed_memo, Parts.part_after}

@@ -27,11 +27,11 @@ use Rattle.shm_graph.specs.{Views.{view, own_word}, Core.core}
 use Rattle.shm_graph.specs.declared.spot.Spot.TheVariants as spot
 use Rattle.shm_graph.proofs.{StepKinds.{LoadKeeping.load_kept, Loads.choice}, Spots.SpotPlaces.spot-place}
 use Rattle.shm_graph.proofs.{Spots.Spotting.same_spot_self, Memos.MemoSteps.recovers_on}
-use Rattle.shm_laws.specs.OwnWords.{BeginNeeds}
-use Rattle.shm_steps.specs.OwnWords.{op_begun, IsReady}
-use Rattle.shm_steps.proofs.{BodyLoads.header_loaded, OwnStores.row_stored, OwnStoresRedo.{redo_stored, more_stored}}
-use Rattle.shm_steps.proofs.KeptAfter.{kept_going}
-use Rattle.shm_steps.proofs.Cores.{called_core, era_core, era_counts, era_facts, header_core, here_same}
+use Rattle.kind_laws.specs.OwnWords.{BeginNeeds}
+use Rattle.kind_parts.specs.OwnWords.{op_begun, SecondStored}
+use Rattle.kind_parts.proofs.{BodyLoads.header_loaded, OwnStores.row_stored, OwnStoresRedo.{redo_stored, more_stored}}
+use Rattle.kind_parts.proofs.KeptAfter.{kept_going}
+use Rattle.kind_parts.proofs.Cores.{called_core, era_core, era_counts, era_facts, header_core, here_same}
 
 -- ---- what a step owes
 
@@ -246,8 +246,8 @@ redo_step me slot x p r0 w r f tr e st going can fits h =
     let spells : record_of g w r c st.held st.who x p ≡ red = ap (λ y. redo_at x y (own_word m.own (spot.Era c c))) (sym can.at) ∙ ap (redo_at x slot) (sym own) in
     let in_range : RedoFits g.wide red = subst (RedoFits g.wide) spells begins.0.fits in
     let value : redo_first g.wide red ≡ v = ap (redo_first g.wide) (sym (fitted_same g.wide red in_range)) in
-    let ready : IsReady g c m red = λ wide. ap (λ (y : Memo). own_word y.own (spot.RedoMore c)) same ∙ (ready_more me slot x e r0 wide ∙ (ap (redo_second g.wide) (fitted_same g.wide red in_range) ∙ ap (λ b. redo_second b red) wide)) in
-    let ready_here : IsReady g c m (record_of g w r c st.held st.who x p) = subst (IsReady g c m) (sym spells) ready in
+    let ready : SecondStored g c m red = λ wide. ap (λ (y : Memo). own_word y.own (spot.RedoMore c)) same ∙ (ready_more me slot x e r0 wide ∙ (ap (redo_second g.wide) (fitted_same g.wide red in_range) ∙ ap (λ b. redo_second b red) wide)) in
+    let ready_here : SecondStored g c m (record_of g w r c st.held st.who x p) = subst (SecondStored g c m) (sym spells) ready in
     let first_is : redo_first g.wide (record_of g w r c st.held st.who x p) ≡ v = ap (redo_first g.wide) spells ∙ value in
     let began : op_begun g c m v ≡ begun_op x p e = ap (op_begun g c m) (sym first_is) ∙ (begins.1 ready_here ∙ ap (begun_op x p) (sym own)) in
     let i : spot_at g (classes w) at ≡ s = spot-place g (classes w) (place.Redo c) (lt-ltb c g.clients st.who) in

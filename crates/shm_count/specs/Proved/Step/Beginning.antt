@@ -10,11 +10,11 @@ use Rattle.shm_graph.specs.{Views.{view, own_word}, Core.core}
 use Rattle.shm_graph.specs.declared.spot.Spot.TheVariants as spot
 use Rattle.shm_graph.specs.declared.memo.Op.TheVariants as op
 use Rattle.shm_graph.proofs.Memos.KnownChange.{KnownHolds}
-use Rattle.shm_steps.specs.{Beginning.{HasRoom, MayStoreIn, IsOwnWord}, Conditions.IsHere}
-use Rattle.shm_steps.specs.OwnWords.{op_begun, MayBegin, IsReady}
-use Rattle.shm_steps.proofs.BeginAt.{SlotHas, fixed_told, up_begun_at, down_begun_at, change_begun_at, up_at, down_at, change_at}
-use Rattle.shm_steps.proofs.BeginSlots.{root_has, home_has, room_left, room_unsent, tail_has, head_has}
-use Rattle.shm_steps.proofs.{BeginWords.own_word_has, OwnStoresRedo.root_at, Cores.here_same}
+use Rattle.kind_parts.specs.{Beginning.{HasRoom, MayStoreIn, IsOwnWord}, Conditions.IsHere}
+use Rattle.kind_parts.specs.OwnWords.{op_begun, RedoMayBegin, SecondStored}
+use Rattle.kind_parts.proofs.BeginAt.{SlotHas, fixed_told, up_begun_at, down_begun_at, change_begun_at, up_at, down_at, change_at}
+use Rattle.kind_parts.proofs.BeginSlots.{root_has, home_has, room_left, room_unsent, tail_has, head_has}
+use Rattle.kind_parts.proofs.{BeginWords.own_word_has, OwnStoresRedo.root_at, Cores.here_same}
 use Rattle.shm_count.specs.declared.point.{Aim.{Aim, TheVariants.{Up, Down, Change}}, Half.TheVariants.First}
 use Rattle.shm_count.specs.Step.Control.{block_at, raises, redo_at}
 use Rattle.shm_count.specs.Step.{HasPut, CanUp, CanDown, CanChange, CanAim, begun_op}
@@ -206,7 +206,7 @@ module _ (g : Geometry) (w : Spot → ℕ) (r : ℕ → Memo) (c : ℕ) (h : Hel
 
   -- it begins the step
   pub begins_here : (x : Aim) (p : Spot) → CanAim g.wide g.clients c m x p → (raises x First ≡ true → is_reached c m (block_at x First) ≡ true)
-      → MayBegin g w r c (record_of x p) × (IsReady g c m (record_of x p) → op_begun g c m (redo_first g.wide (record_of x p)) ≡ begun_op x p (own_word m.own (spot.Era c c)))
+      → RedoMayBegin g w r c (record_of x p) × (SecondStored g c m (record_of x p) → op_begun g c m (redo_first g.wide (record_of x p)) ≡ begun_op x p (own_word m.own (spot.Era c c)))
   begins_here (Up b) p can reach = let a = up_has b p can in (up_at g w r c h l p b a.0 a.1 a.2 (reach refl), up_begun_at g w r c h l p b 0 a.1 (reach refl))
   begins_here (Down b) p can reach = let a = down_has b p can in (down_at g w r c h l p b a.0 a.1 a.2 a.3, down_begun_at g w r c h l p b a.1 a.2 a.0.idle)
   begins_here (Change d b) p can reach =

@@ -13,10 +13,10 @@ use Rattle.shm_graph.specs.{Changes.{called, memo_on}, Agents.recovers, Core.cor
 use Rattle.shm_graph.specs.declared.spot.Spot.TheVariants as spot
 use Rattle.shm_graph.specs.declared.memo.Op.TheVariants as op
 use Rattle.shm_graph.proofs.{Spots.SpotPlaces.spot-place, Memos.MemoSteps.recovers_on}
-use Rattle.shm_laws.specs.{Slotting.Writes, OwnWords.Closes}
-use Rattle.shm_steps.specs.Conditions.{IsHere, MayWrite}
-use Rattle.shm_steps.proofs.{SlotStores.{home_stored, queue_stored, body_stored, root_stored}, OwnStoresEra.era_closed}
-use Rattle.shm_steps.proofs.{KeptAfter.kept_going, Cores.{HasSlot, here_same}}
+use Rattle.kind_laws.specs.{Slotting.Writes, OwnWords.Closes}
+use Rattle.kind_parts.specs.Conditions.{IsHere, MayWrite}
+use Rattle.kind_parts.proofs.{SlotStores.{home_stored, queue_stored, body_stored, root_stored}, OwnStoresEra.era_closed}
+use Rattle.kind_parts.proofs.{KeptAfter.kept_going, Cores.{HasSlot, here_same}}
 use Rattle.shm_count.specs.declared.point.{Aim.{Aim, TheVariants.{Change, Down, Up}}, Half.TheVariants.{First, Second}}
 use Rattle.shm_count.specs.declared.point.Half.{Half}
 use Rattle.shm_count.specs.Proved.Step.Cores.{set_op, stored_core, can_slot, IsSet, PointKeeps, IsStepSlot, is_set, is_stored, closed_core}

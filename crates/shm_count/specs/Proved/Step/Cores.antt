@@ -11,9 +11,9 @@ use Rattle.shm_graph.specs.{Spots.spot_at, Reach.{learnt, sifted}, Views.own_wor
 use Rattle.shm_graph.specs.{Asks.{at_of, Trail}, Laws.{Stands, Frame, KeptAt}, Blocks.classes, Core.core}
 use Rattle.shm_graph.specs.declared.spot.Spot.TheVariants as spot
 use Rattle.shm_graph.specs.declared.memo.Op.TheVariants as op
-use Rattle.shm_laws.specs.HeaderExchanges.{dying_after}
-use Rattle.shm_steps.proofs.MemoCommits.{untaken_list, known_left, known_lowered, lowered_is, with_untaken_is, unsent_list, with_unsent_is}
-use Rattle.shm_steps.proofs.Cores.{HasSlot, body_word, core_cond}
+use Rattle.kind_laws.specs.HeaderExchanges.{dying_after}
+use Rattle.kind_parts.proofs.MemoCommits.{untaken_list, known_left, known_lowered, lowered_is, with_untaken_is, unsent_list, with_unsent_is}
+use Rattle.kind_parts.proofs.Cores.{HasSlot, body_word, core_cond}
 use Rattle.shm_count.specs.declared.point.{Aim.{TheVariants.{Down, Change, Up}, Aim}, Half.TheVariants.{First, Second}}
 use Rattle.shm_count.specs.declared.point.{Half.Half, StepPoint.StepPoint}
 use Rattle.shm_count.specs.Step.{CanUp, CanStep, CanChange, CanAim, set_memo, closed_memo, CanDown, PointHolds, NextHolds}

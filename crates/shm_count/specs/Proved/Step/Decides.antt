@@ -3,7 +3,7 @@ use Rattle.std.proofs.Common.{◌≡◌, ℕ, Bool, true, false, refl, sym, subs
 use Rattle.std.specs.Prelude.{◌||◌, ◌==◌, nat_lt, if◌then◌else◌, is_ok, Some, None, Result, Ok, Err}
 use Rattle.shm_words.specs.Headers.{header_of}
 use Rattle.shm_graph.specs.declared.ask.Me.{Me}
-use Rattle.shm_calls.specs.{Deciding.Decides, Proved.Deciding.{decides_told, mapped_decides}}
+use Rattle.plans.specs.{Deciding.Decides, Proved.Deciding.{decides_told, mapped_decides}}
 use Rattle.shm_count.specs.declared.{answer.UpFault.{UpFault, TheVariants.{CountFull, EraSpent}}, point.Aim.Aim}
 use Rattle.shm_count.specs.declared.point.{Aim.TheVariants.{Up, Down, Change}, StepNext.StepNext}
 use Rattle.shm_count.specs.declared.point.{StepNext.TheVariants.{Point, Answer}, Half.Half}

@@ -15,7 +15,7 @@ use Rattle.shm_count.specs.Step.Asks.{StepTrails, step_trail, point_trail, redo_
 use Rattle.shm_count.specs.Step.Events.{step_event, step_event_at, step_start, event_of_half, events_before, events_at, own_events}
 use Rattle.shm_count.specs.{Step.{CanStep, PointHolds, Gives, StepFits, StepGives}, Proved.Step.Status.gives_status}
 use Rattle.shm_count.specs.declared.point.StepPoint.TheVariants as point
-use Rattle.shm_calls.specs.{Grown.Grows, Proved.Grown.grows_now}
+use Rattle.plans.specs.{Grown.Grows, Proved.Grown.grows_now}
 
 -- ---- trails
 

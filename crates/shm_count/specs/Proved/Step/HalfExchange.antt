@@ -11,10 +11,10 @@ use Rattle.shm_graph.specs.{MemoAfterExchange.{exchanged_on, committed}, Reach.s
 use Rattle.shm_graph.specs.{Blocks.classes, Held.{HeldAt, is_loose}, Core.core}
 use Rattle.shm_graph.specs.declared.spot.Spot.TheVariants as spot
 use Rattle.shm_graph.proofs.Memos.MemoSteps.{recovers_on}
-use Rattle.shm_steps.specs.{Raising.{is_read, IsReparted}, Reparting.{TableStep, Begins}}
-use Rattle.shm_steps.proofs.{Partitions.Laws.begun_reparted, BodyLoads.header_lost, RaiseBlock.block_raised}
-use Rattle.shm_steps.proofs.{ChangeLowered.change_lowered, PartsSet.reparted_unread, LowerBlock.block_lowered}
-use Rattle.shm_steps.proofs.{ChangeRaised.change_raised, KeptAfter.kept_going, Cores.{header_core, here_same}}
+use Rattle.kind_parts.specs.{Raising.{is_read, IsReparted}, Reparting.{TableStep, Begins}}
+use Rattle.kind_parts.proofs.{Partitions.Laws.begun_reparted, BodyLoads.header_lost, RaiseBlock.block_raised}
+use Rattle.kind_parts.proofs.{ChangeLowered.change_lowered, PartsSet.reparted_unread, LowerBlock.block_lowered}
+use Rattle.kind_parts.proofs.{ChangeRaised.change_raised, KeptAfter.kept_going, Cores.{header_core, here_same}}
 use Rattle.shm_count.specs.declared.point.{Half.{TheVariants.{First, Second}, Half}, Aim.TheVariants.{Down, Up, Change}}
 use Rattle.shm_count.specs.declared.point.{Aim.Aim, StepNext.StepNext}
 use Rattle.shm_count.specs.Step.{begun_op, InHalf, CanStep, HasRead, NextHolds, set_memo, IsShown, IsDyingWord}

@@ -12,7 +12,7 @@ use Rattle.shm_graph.specs.declared.spot.Spot.TheVariants as spot
 use Rattle.shm_graph.specs.declared.memo.Op.TheVariants as op
 use Rattle.shm_graph.proofs.States.Holders.{Holds, target_counted, held_over_counted, reach_counted}
 use Rattle.shm_graph.proofs.{States.Reached.reached_here, StepKinds.Loads.choice, Spots.Spotting.in_pool}
-use Rattle.shm_steps.proofs.BeginAt.{quiet_target}
+use Rattle.kind_parts.proofs.BeginAt.{quiet_target}
 use Rattle.shm_count.specs.declared.{answer.UpFault.TheVariants.CountFull, point.Aim.Aim}
 use Rattle.shm_count.specs.declared.point.{Aim.TheVariants.{Up, Down, Change}, Half.{Half, TheVariants.{First, Second}}}
 use Rattle.shm_count.specs.declared.point.{StepPoint.TheVariants.{Exchange, Row}, StepNext.TheVariants.{Point, Answer}}

@@ -1,7 +1,8 @@
 -- each word step of a count step keeps the invariant, and its memo fits again or holds what is answered
 use Rattle.std.proofs.{Common.{true, ◌≡◌, ◌≢◌, ℕ, refl, false, [], ◌∷◌, ◌++◌}, lemmas.Bool.true≢false}
 use Rattle.shm_graph.specs.{declared.{ask.Me.Me, spot.Spot.Spot, memo.Memo.Memo}, Spots.spot_at, Blocks.classes}
-use Rattle.shm_graph.specs.{Asks.{Trail, at_of, pair, seen_of}, Laws.{Keeps, Then, Frame, Stands, KeptAt, Outcome}}
+use Rattle.shm_graph.specs.Asks.{Trail, at_of, pair, seen_of}
+use Rattle.shm_graph.specs.Laws.{EachStepKeeps, Then, Frame, Stands, KeptAt, Outcome}
 use Rattle.shm_graph.proofs.StepKinds.KindKeeping.{not_fresh}
 use Rattle.shm_count.specs.declared.point.{Aim.Aim, StepPoint.StepPoint}
 use Rattle.shm_count.specs.declared.point.StepPoint.TheVariants.{Era, Redo, More, Load, Row, Show, Exchange, Slot, Close, Over}
@@ -11,7 +12,7 @@ use Rattle.shm_count.specs.{Step.{CanStep, PointHolds, NextHolds, StepFits, Step
 use Rattle.shm_count.specs.Proved.Step.Going.{fits_goes, gives_ends}
 use Rattle.shm_count.specs.Proved.Step.BeforeExchange.{era_step, more_step, redo_step, load_step, row_step, show_step}
 use Rattle.shm_count.specs.Proved.Step.{HalfExchange.exchange_step, Committing.{slot_step, close_step}}
-use Rattle.shm_calls.specs.{Grown.Grows, Proved.Grown.grows_more}
+use Rattle.plans.specs.{Grown.Grows, Proved.Grown.grows_more}
 
 -- the step at a point
 pub step_at : (me : Me) (slot : ℕ) (x : Aim) (p : Spot) (r0 : Memo) (w : Spot → ℕ) (r : ℕ → Memo) (f : Frame) (tr : Trail) (y : StepPoint) → is_over y ≡ false → Stands me w r f tr → (y ≢ Era → f.fresh ≡ false) → CanStep me slot x p r0 → PointFits me x y → PointHolds me slot x p r0 (r me.who) y
@@ -36,7 +37,7 @@ then_holds p m r0 r x tr n fit grows h = go (step_next m n) refl h
     go (Point y) e z = fits_goes p m r0 r x tr n y fit e (knows_after m n fit.knows y e) grows z
     go (Answer a) e z = gives_ends p m r0 r x tr n a fit e grows z
 
-pub step_keeps : (p : Spot) → Keeps step_control (StepFits p) (StepGives p)
+pub step_keeps : (p : Spot) → EachStepKeeps step_control (StepFits p) (StepGives p)
 step_keeps p m r0 tr going w r f s fit =
     let k = step_at m.me m.slot m.aim p r0 w r f tr m.point going s (λ z. not_fresh m.me w r f tr s (fit.begun z)) fit.can fit.knows.point fit.holds in
     let at : Spot = spot_at m.me.geometry (classes w) (at_of (step_ask m)) in

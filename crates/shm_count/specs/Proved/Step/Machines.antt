@@ -1,8 +1,8 @@
 -- the machines of count steps: their controls, when each fits, what it gives, and its laws: what is proved of it
 use Rattle.std.proofs.{Common.{◌≡◌, ℕ, Bool, true, false, refl, sym, ap}, lemmas.Bool.true≢false}
 use Rattle.std.specs.Prelude.{Result, Ok, Err}
-use Rattle.shm_graph.specs.{declared.{ask.Me.Me, spot.Spot.Spot, memo.Memo.Memo}, Asks.Trail, Laws.{Laws, Keeps}}
-use Rattle.shm_graph.specs.Mapped.{SomeFits, SomeGives, AmongFits, AmongGives}
+use Rattle.shm_graph.specs.{declared.{ask.Me.Me, spot.Spot.Spot, memo.Memo.Memo}, Asks.Trail}
+use Rattle.shm_graph.specs.{Laws.{Laws, EachStepKeeps}, Mapped.{SomeFits, SomeGives, AmongFits, AmongGives}}
 use Rattle.shm_graph.specs.Proved.Mapped.{mapped_laws, some_laws, among_laws}
 use Rattle.shm_count.specs.declared.{answer.{EraSpent.EraSpent, UpFault.UpFault}, point.Aim.Aim}
 use Rattle.shm_count.specs.declared.point.{Aim.TheVariants.{Up, Down, Change}, StepState.StepState}
@@ -38,7 +38,7 @@ down_same p m r0 r tr (Err (fault.CountFull b n)) u g = absurd (down_full m.me m
 
 -- ---- the laws, from the one of the steps
 
-module _ (keeps : (p : Spot) → Keeps step_control (StepFits p) (StepGives p)) where
+module _ (keeps : (p : Spot) → EachStepKeeps step_control (StepFits p) (StepGives p)) where
   -- the laws of a step at some spot
   step_laws : Laws step_control (SomeFits StepFits) (SomeGives StepGives)
   step_laws = some_laws step_control StepFits StepGives step_steady step_inside step_back keeps

@@ -12,7 +12,7 @@ use Rattle.shm_graph.specs.declared.spot.Spot.TheVariants as spot
 use Rattle.shm_graph.specs.declared.memo.Op.TheVariants as op
 use Rattle.shm_graph.proofs.{StepKinds.Loads.choice, Spots.Spotting.{same_spot_self, same_spot_is, same_spot_not}}
 use Rattle.shm_words.specs.Redos.{first_word}
-use Rattle.shm_steps.proofs.Cores.{reach_same}
+use Rattle.kind_parts.proofs.Cores.{reach_same}
 use Rattle.shm_count.specs.declared.point.{Aim.{Aim, TheVariants.{Up, Down, Change}}, Half.Half}
 use Rattle.shm_count.specs.declared.point.Half.TheVariants.{First, Second}
 use Rattle.shm_count.specs.Step.Control.{last_era, redo_at, EraFits, PartFits}

@@ -9,13 +9,13 @@ use Rattle.shm_graph.specs.{MemoAfterStore.{written, making_with, with_own}, Vie
 use Rattle.shm_graph.specs.declared.spot.Spot.TheVariants as spot
 use Rattle.shm_graph.specs.declared.memo.Op.TheVariants as op
 use Rattle.shm_graph.proofs.{Spots.Spotting.same_spot_is, StepKinds.Loads.choice}
-use Rattle.shm_steps.specs.Reparting.{sight, link_after}
-use Rattle.shm_steps.proofs.MemoCommits.{known_lowered, lowered_is}
-use Rattle.shm_laws.specs.HeaderExchanges.{dying_after}
+use Rattle.kind_parts.specs.Reparting.{sight, link_after}
+use Rattle.kind_parts.proofs.MemoCommits.{known_lowered, lowered_is}
+use Rattle.kind_laws.specs.HeaderExchanges.{dying_after}
 use Rattle.shm_count.specs.declared.point.{Aim.{Aim, TheVariants.{Up, Down, Change}}, Half.TheVariants.First}
 use Rattle.shm_count.specs.Step.Control.{redo_at, value_after, header_after}
 use Rattle.shm_count.specs.Step.{AtFirst, is_row, begun, set_memo, slot_memo, Parts.{part_after, IsTableSpot, p}}
-use Rattle.shm_count.specs.Tear.Memos.{is_lasting}
+use Rattle.shm_count.specs.Lasting.{is_lasting}
 
 -- a link of a chain is one, and so the word of each table step
 link_spot : (d i : ℕ) (es : List Entry) → IsTableSpot (link_after d i es)

@@ -6,7 +6,7 @@ use Rattle.shm_words.specs.{Layout.address, Headers.{header_of, header_word}, Re
 use Rattle.shm_words.specs.declared.place.Place.TheVariants as place
 use Rattle.shm_graph.specs.declared.{ask.{Ask.{Ask, TheVariants.{Load, Store, Exchange}}, Me.Me}, memo.Seen.Seen}
 use Rattle.shm_graph.specs.{Asks.{Trail, pair}, Trails.{Answers, Asked, Chosen}}
-use Rattle.shm_laws.proofs.Keep.{newest}
+use Rattle.kind_laws.proofs.Lists.{newest}
 use Rattle.shm_count.specs.declared.{answer.UpFault.{UpFault, TheVariants.{EraSpent, CountFull}}, point.Aim.Aim}
 use Rattle.shm_count.specs.declared.point.{Aim.TheVariants.{Up, Down, Change}, Half.TheVariants.First}
 use Rattle.shm_count.specs.Refusing.{IsReading, ReadsCount}

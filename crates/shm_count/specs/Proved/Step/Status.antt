@@ -10,7 +10,7 @@ use Rattle.shm_graph.specs.Views.{own_word}
 use Rattle.shm_graph.specs.declared.spot.Spot.TheVariants as spot
 use Rattle.shm_graph.specs.declared.memo.Op.TheVariants as op
 use Rattle.shm_graph.proofs.StepKinds.Loads.{choice}
-use Rattle.shm_steps.proofs.MemoCommits.{lowered_is, with_unsent_is, with_untaken_is}
+use Rattle.kind_parts.proofs.MemoCommits.{lowered_is, with_unsent_is, with_untaken_is}
 use Rattle.shm_count.specs.declared.{answer.UpFault.{UpFault, TheVariants.{EraSpent, CountFull}}, point.Aim.Aim}
 use Rattle.shm_count.specs.declared.point.{Aim.TheVariants.{Up, Down, Change}, Half.{Half, TheVariants.{First, Second}}}
 use Rattle.shm_count.specs.declared.point.{StepPoint.StepPoint, StepNext.{StepNext, TheVariants.{Point, Answer}}}

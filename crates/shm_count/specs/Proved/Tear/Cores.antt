@@ -13,7 +13,7 @@ use Rattle.shm_count.specs.{declared.tear_point.TearPoint.TearPoint, Tear.{Contr
 use Rattle.shm_count.specs.Tear.{Settled, Linked, is_outside, IsPaid, TearHolds}
 use Rattle.shm_count.specs.{Tear.Memos.{TearStays, Knows, IsTagged, Retains}, Proved.Retaining.retains_then}
 use Rattle.shm_count.specs.declared.tear_point.TearPoint.TheVariants as point
-use Rattle.shm_steps.proofs.Cores.{called_core}
+use Rattle.kind_parts.proofs.Cores.{called_core}
 
 -- ---- what stays
 

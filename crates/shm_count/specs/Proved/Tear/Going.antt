@@ -22,7 +22,7 @@ use Rattle.shm_count.specs.declared.point.StepNext.TheVariants as next
 use Rattle.shm_count.specs.declared.tear_point.TearPoint.TheVariants as point
 use Rattle.shm_count.specs.Step.Asks as steps
 use Rattle.shm_count.specs.Proved.Step.Going as going
-use Rattle.shm_calls.specs.{Grown.Grows, Proved.Grown.grows_now}
+use Rattle.plans.specs.{Grown.Grows, Proved.Grown.grows_now}
 
 -- ---- trails
 

@@ -1,7 +1,7 @@
 -- each word step of a tear-down keeps the invariant, and its memo fits again or holds what is answered
 use Rattle.std.proofs.{Common.{true, ◌≡◌, ◌≢◌, ℕ, false, List}, lemmas.Bool.true≢false}
 use Rattle.shm_graph.specs.{declared.{ask.Me.Me, spot.Spot.Spot, memo.Memo.Memo}, Asks.{Trail, at_of, seen_of}}
-use Rattle.shm_graph.specs.{Blocks.classes, Spots.spot_at, Events.Event, Laws.{Frame, Stands, Keeps, Laws}}
+use Rattle.shm_graph.specs.{Blocks.classes, Spots.spot_at, Events.Event, Laws.{Frame, Stands, EachStepKeeps, Laws}}
 use Rattle.shm_graph.specs.Tells.{happens_along}
 use Rattle.shm_graph.proofs.StepKinds.KindKeeping.{not_fresh}
 use Rattle.shm_count.specs.declared.tear_point.TearPoint.{TearPoint}
@@ -11,7 +11,7 @@ use Rattle.shm_count.specs.{Tear.{CanTear, TearHolds, TearFits, TearGives}, Prov
 use Rattle.shm_count.specs.Proved.Tear.Laws.{IsRunning, fit_runs, tear_steady, tear_inside, tear_back}
 use Rattle.shm_count.specs.Proved.Tear.{Lowering.down_step, TagLoads.{TearKept, begin_step, enter_step, return_step}}
 use Rattle.shm_count.specs.Proved.Tear.{Storing.{link_step, free_step}, Words.word_step}
-use Rattle.shm_calls.specs.Proved.Grown.{grows_more}
+use Rattle.plans.specs.Proved.Grown.{grows_more}
 
 -- the step at a point
 pub tear_at : (me : Me) (first : ℕ) (r0 : Memo) (b : ℕ) (w : Spot → ℕ) (r : ℕ → Memo) (f : Frame) (tr : Trail) (es : List Event) (y : TearPoint) → IsRunning y → Stands me w r f tr → (y ≢ Begin → f.fresh ≡ false) → CanTear me first r0 → TearPointFits me y → TearHolds me first r0 b y (r me.who) es tr
@@ -25,7 +25,7 @@ tear_at me first r0 b w r f tr es (Free g) o s going can l h = free_step me firs
 tear_at me first r0 b w r f tr es Return o s going can l h = return_step me first r0 b w r f tr es s h
 tear_at me first r0 b w r f tr es Over o s going can l h = absurd ((h.2).shows)
 
-pub tear_keeps : Keeps tear_control TearFits TearGives
+pub tear_keeps : EachStepKeeps tear_control TearFits TearGives
 tear_keeps m r0 tr going w r f s fit =
     let es : List Event = happens_along tear_control tear_event (tear_start m) tr in
     let k = tear_at m.me m.first r0 m.block w r f tr es m.point (fit_runs m r0 (r m.me.who) tr fit) s (λ z. not_fresh m.me w r f tr s (fit.begun z)) fit.can fit.knows.point fit.holds in

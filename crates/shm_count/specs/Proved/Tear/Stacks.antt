@@ -10,7 +10,7 @@ use Rattle.shm_graph.specs.{declared.memo.Memo.Memo, Spots.same_spot, Reach.{lea
 use Rattle.shm_graph.specs.MemoAfterStore.{is_of, not_of, not_block}
 use Rattle.shm_graph.specs.Events as event
 use Rattle.shm_graph.proofs.Spots.Spotting.{same_spot_not}
-use Rattle.shm_laws.proofs.Keep.{newest, Contains-filter}
+use Rattle.kind_laws.proofs.Lists.{newest, Contains-filter}
 use Rattle.shm_count.specs.Tear.Events.{Walk, Freed, Kept, Fell, InOrder, events_of, Visit, Walks, freed_by, frees}
 use Rattle.shm_count.specs.Tear.{IsVisited, Linked, is_visit_of, is_outside, IsApart, Memos.{Knows, IsTagged, Lowered}}
 

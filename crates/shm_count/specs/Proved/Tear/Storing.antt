@@ -11,9 +11,9 @@ use Rattle.shm_graph.specs.{MemoAfterStore.{is_of, not_of, not_block}, Core.core
 use Rattle.shm_graph.specs.declared.memo.Op.TheVariants as op
 use Rattle.shm_graph.specs.Events as event
 use Rattle.shm_graph.proofs.{Spots.Spotting.same_spot_not, Memos.MemoSteps.recovers_on}
-use Rattle.shm_steps.specs.{Conditions.IsHere, Preparing.KnowsDying}
-use Rattle.shm_steps.proofs.{BlockTold.{dying_true, dying_block}, DyingSteps.{frees, links}, KeptAfter.kept_with}
-use Rattle.shm_steps.proofs.Cores.{here_same}
+use Rattle.kind_parts.specs.{Conditions.IsHere, Preparing.KnowsDying}
+use Rattle.kind_parts.proofs.{BlockTold.{dying_true, dying_block}, DyingSteps.{frees, links}, KeptAfter.kept_with}
+use Rattle.kind_parts.proofs.Cores.{here_same}
 use Rattle.shm_count.specs.declared.tear_point.TearNext.TheVariants.{Go, Answer}
 use Rattle.shm_count.specs.Proved.Retaining.{retains_core, retains_then, slots_learnt, slots_forgotten, named_counted}
 use Rattle.shm_count.specs.Proved.Tear.Cores.{stays_then, stays_core, link_core, free_core, settled_same, on_words}

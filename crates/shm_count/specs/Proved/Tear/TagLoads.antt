@@ -18,8 +18,8 @@ use Rattle.shm_graph.specs.{declared.memo.Memo.Memo, Asks.{Trail, at_of, pair}, 
 use Rattle.shm_graph.specs.{Events.Event, Laws.{Frame, framed, Stands, KeptAt}, Reach.learnt}
 use Rattle.shm_graph.specs.{Spots.{same_spot, spot_at}, Tells.is_event}
 use Rattle.shm_graph.proofs.{StepKinds.Loads.choice, Spots.Spotting.same_spot_is, Memos.MemoSteps.recovers_on}
-use Rattle.shm_steps.proofs.{BeginWords.known_here, BlockTold.dying_true, BodyLoads.tag_loaded, Covering.dying_told}
-use Rattle.shm_steps.proofs.KeptAfter.{kept_with}
+use Rattle.kind_parts.proofs.{BeginWords.known_here, BlockTold.dying_true, BodyLoads.tag_loaded, Covering.dying_told}
+use Rattle.kind_parts.proofs.KeptAfter.{kept_with}
 
 -- ---- what a tear-down owes
 

@@ -4,7 +4,7 @@ use Rattle.shm_graph.specs.declared.{ask.{Ask.{Ask, TheVariants.Store}, Me.Me}, 
 use Rattle.shm_graph.specs.{Spots.spot_at, Blocks.{classes, IsBlock}, Asks.{at_of, Trail, seen_of}}
 use Rattle.shm_graph.specs.{Events.{Event, Free}, Laws.{event_on, framed, Stands, Frame}, Tells.{Tells, happens_along}}
 use Rattle.shm_graph.specs.declared.spot.Spot.TheVariants as spot
-use Rattle.shm_steps.proofs.BlockTold.{dying_block}
+use Rattle.kind_parts.proofs.BlockTold.{dying_block}
 use Rattle.shm_count.specs.{declared.tear_point.TearPoint.TearPoint, Proved.DyingBlocks.dying_tag_spot}
 use Rattle.shm_count.specs.Proved.Tear.Laws.{IsRunning, fit_runs}
 use Rattle.shm_count.specs.Tear.Control.{word_address, tear_ask_at, is_over, tear_control, TearPointFits}

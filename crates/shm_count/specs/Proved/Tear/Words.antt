@@ -12,10 +12,10 @@ use Rattle.shm_graph.specs.{Reach.{learnt, shown}, Spots.spot_at, Telling.{Claim
 use Rattle.shm_graph.specs.Core.{core}
 use Rattle.shm_graph.specs.declared.memo.Op.TheVariants as op
 use Rattle.shm_graph.proofs.{Machines.Calling.called_part, Memos.{LoadTold.claim_found, MemoSteps.recovers_on}}
-use Rattle.shm_steps.specs.{Conditions.IsHere, LoadNeeds.{IsCovered, IsSettled, MayLookBy, MayLook}}
-use Rattle.shm_steps.proofs.{BeginWords.{listed_covered, known_here}, BlockTold.dying_true, BodyLoads.word_loaded}
-use Rattle.shm_steps.proofs.{KeptAfter.kept_with, Cores.{room_least, here_same}}
-use Rattle.shm_steps.proofs.BeginWords as begin
+use Rattle.kind_parts.specs.{Conditions.IsHere, LoadNeeds.{IsCovered, IsSettled, MayLookBy, MayLook}}
+use Rattle.kind_parts.proofs.{BeginWords.{listed_covered, known_here}, BlockTold.dying_true, BodyLoads.word_loaded}
+use Rattle.kind_parts.proofs.{KeptAfter.kept_with, Cores.{room_least, here_same}}
+use Rattle.kind_parts.proofs.BeginWords as begin
 use Rattle.shm_count.specs.declared.tear_point.TearNext.TheVariants.{Go}
 use Rattle.shm_count.specs.Proved.DyingBlocks.{dying_spot, dying_target, dying_part}
 use Rattle.shm_count.specs.Proved.Retaining.{retains_core, slots_learnt}

@@ -4,7 +4,7 @@ use Rattle.std.specs.Prelude.{Result, Ok, Err}
 use Rattle.shm_graph.specs.{declared.{ask.Me.Me, memo.Memo.Memo, spot.Spot.TheVariants.Root}, Asks.{Trail, IsWithin}}
 use Rattle.shm_graph.specs.{Bounds.up_steps, Events.Event}
 use Rattle.shm_graph.proofs.Spots.Spotting.{same_spot_self}
-use Rattle.shm_calls.specs.{CallsControl.calls_of, CallsPart.MayCall}
+use Rattle.plans.specs.{CallsControl.calls_of, CallsPart.MayCall}
 use Rattle.shm_count.specs.declared.answer.ShareFault.{ShareFault, TheVariants.{EraSpent, RootsFull, CountFull}}
 use Rattle.shm_count.specs.{Roots.root_word, UpRoot.Control.{rooting, rooting_parts, rooting_steered}}
 use Rattle.shm_count.specs.{UpRoot.{MayUpRoot, Rooted, UpRootLeaves, rooting_plan}, Proved.UpRoot.Laws.rooting_begin}

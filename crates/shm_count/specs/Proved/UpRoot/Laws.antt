@@ -18,12 +18,11 @@ use Rattle.shm_graph.specs.{Asks.{Trail, IsWithin}, Core.core, Events.Event, Law
 use Rattle.shm_graph.specs.Views.{own_word, view}
 use Rattle.shm_graph.specs.declared.spot.Spot.TheVariants as spot
 use Rattle.shm_graph.proofs.States.{Holders.reach_counted, Reached.reached_here}
-use Rattle.shm_steps.specs.WordParts.{CountLoaded, OwnLoaded}
-use Rattle.shm_steps.proofs.{Cores.here_same, Words.Own.{era_load, root_load}}
-use Rattle.shm_calls.specs.{declared.or.Or.TheVariants.{First, Second}, Proved.CallTells.within_more}
-use Rattle.shm_calls.specs.{Proved.{Either.or_part_laws, Words.word_more}, Parts.{IsHeld, PartLaws}}
-use Rattle.shm_calls.specs.Plans.{PlanLaws, PlanStays, IsCall, Follows}
-use Rattle.shm_calls.specs.Words.{word_control, word_part_laws, WordLeaves}
+use Rattle.kind_parts.specs.WordParts.{CountLoaded, OwnLoaded}
+use Rattle.kind_parts.proofs.{Cores.here_same, Words.Own.{era_load, root_load}}
+use Rattle.plans.specs.{declared.or.Or.TheVariants.{First, Second}, Proved.{CallTells.within_more, Either.or_part_laws}}
+use Rattle.plans.specs.{Proved.Words.word_more, Parts.{IsHeld, PartLaws}, Plans.{PlanLaws, PlanStays, IsCall, Follows}}
+use Rattle.plans.specs.Words.{word_control, word_part_laws, WordLeaves}
 
 -- what is known before the first call
 pub rooting_begin : (m : RootingState) (r : Memo) → m.root ≡ 0 → MayUpRoot m.me m.block r → RootingKnows m Era r r [] []

@@ -17,9 +17,9 @@ use Rattle.shm_count.specs.declared.{answer.UpFault.TheVariants.{EraSpent, Count
 use Rattle.shm_count.specs.{declared.point.StepState.StepState, Slots.{Filled, Untouched, Parts.untouched}}
 use Rattle.shm_count.specs.{StepsFrom.{FromLeaves, IsFrom, from_part, from_part_laws}, UpRoot.Control.taken_up}
 use Rattle.shm_count.specs.UpRoot.{MayTakeUp, TookUp, taken_part}
-use Rattle.shm_steps.specs.{Raising.is_read, Reparting.sight}
-use Rattle.shm_calls.specs.{MappedParts.mapped_part, Proved.{MappedParts.mapped_part_laws, Parts.weaker_laws}}
-use Rattle.shm_calls.specs.Parts.{PartLaws}
+use Rattle.kind_parts.specs.{Raising.is_read, Reparting.sight}
+use Rattle.plans.specs.{MappedParts.mapped_part, Proved.{MappedParts.mapped_part_laws, Parts.weaker_laws}}
+use Rattle.plans.specs.Parts.{PartLaws}
 
 -- no partition is read from a root
 root_unread : (part : Part) (c k : ℕ) → is_read part (spot.Root c k) ≡ false

@@ -1,7 +1,7 @@
 use Rattle.std.proofs.Common.{◌≡◌, sym, ap, ◌∙◌, subst, rules}
 use Rattle.std.specs.Prelude.{Some}
 use Rattle.shm_graph.specs.declared.{ask.Me.Me, run.Account.Account}
-use Rattle.shm_agents.specs.{Agents.{Stands, logged}, declared.agents.Standing.TheVariants.AtWork}
+use Rattle.shm_agents.specs.{Agents.{AgentsStand, logged}, declared.agents.Standing.TheVariants.AtWork}
 use Rattle.shm_pool.specs.{Posts.IsPosted, Tokens.{Its, Token}}
 use Rattle.shm_replay.proofs.Gathering.{same_some}
 use Rattle.shm_script.specs.{Values.Scripted, Logged.Logged}
@@ -23,9 +23,9 @@ work-requires-clause-stands g c = λ κs within.
     let a = c.requires.agents in
     let token = c.args.token in
     let same : c.args.script.now ≡ a.script = same_some c.args.script.now a.script (sym c.requires.script ∙ a.at) in
-    subst (λ (k : Token). Stands k.of.start c.args.script.now c.args.agents k.account) (sym c.new-post.ensures.same)
-    (subst (λ (p : Its). Stands p.start c.args.script.now c.args.agents token.account) (sym c.requires.token.0)
-    (subst (λ (s : Scripted). Stands c.args.pool.now.start s c.args.agents token.account) (sym same) a.stands))
+    subst (λ (k : Token). AgentsStand k.of.start c.args.script.now c.args.agents k.account) (sym c.new-post.ensures.same)
+    (subst (λ (p : Its). AgentsStand p.start c.args.script.now c.args.agents token.account) (sym c.requires.token.0)
+    (subst (λ (s : Scripted). AgentsStand c.args.pool.now.start s c.args.agents token.account) (sym same) a.stands))
 
 pub work-requires-clause-client : goal.work-requires-clause-client
 work-requires-clause-client g c = λ κs within. let a = c.requires.agents in begins_client c.args.pool.now.start a.script c.args.agents c.args.token.account a.stands (ap (λ (e : Account). e.memo.agents) c.requires.token.1)

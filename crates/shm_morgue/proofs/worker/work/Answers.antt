@@ -1,6 +1,6 @@
 use Rattle.std.proofs.Common.{◌≡◌, ℕ, zero, suc, ◌<◌, ◌⊎◌, Bool, true, false, inl, inr, refl, sym, ◌∙◌, subst, arith}
 use Rattle.shm_graph.specs.declared.ask.Me.{Me}
-use Rattle.shm_agents.specs.Agents.{Stands, is_client}
+use Rattle.shm_agents.specs.Agents.{AgentsStand, is_client}
 use Rattle.shm_pool.specs.{Posts.IsPosted, Tokens.Its}
 use Rattle.shm_morgue.specs.Dead.{HasParted}
 use Rattle.shm_morgue.proofs.Parting.{parts_on}
@@ -27,7 +27,7 @@ turn-requires-clause-has g c = let i = c.loop-agents.invariant.work in
 
 pub turn-requires-clause-stands : goal.turn-requires-clause-stands
 turn-requires-clause-stands g c = let i = c.loop-agents.invariant.work in
-    subst (λ (p : Its). Stands p.start c.args.script.now c.loop-agents.agents c.loop-agents.post.account) (sym i.of) i.stands
+    subst (λ (p : Its). AgentsStand p.start c.args.script.now c.loop-agents.agents c.loop-agents.post.account) (sym i.of) i.stands
 
 pub turn-requires-clause-here : goal.turn-requires-clause-here
 turn-requires-clause-here g c = let client : is_client c.loop-agents.agents ≡ true = cc in (client_here c.loop-agents.agents client).0
@@ -38,7 +38,7 @@ loop-agents-preserved g c =
     let e = c.turn.ensures in
     let client : is_client c.loop-agents.agents ≡ true = cc in
     let of : c.turn.new.pool.of ≡ c.args.post.now.of = by_life c.loop-agents.agents.life.left (c.turn.new.pool.of ≡ c.loop-agents.post.of) e.stepped e.fell ∙ i.of in
-    let stands = subst (λ (p : Its). Stands p.start c.args.script.now c.turn.new.self c.turn.new.pool.account) of e.stands in
+    let stands = subst (λ (p : Its). AgentsStand p.start c.args.script.now c.turn.new.self c.turn.new.pool.account) of e.stands in
     record {
       work = record {
         of = of;

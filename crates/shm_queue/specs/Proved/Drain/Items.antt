@@ -5,7 +5,7 @@ use Rattle.std.specs.Prelude.{slice_index, slice_index_or}
 use Rattle.shm_graph.specs.declared.{ask.Me.Me, spot.Spot.TheVariants.{Era, QueueHead}, memo.Memo.Memo}
 use Rattle.shm_graph.specs.{declared.memo.Op.TheVariants.Nothing, Core.core, Events.Event, Spots.same_spot}
 use Rattle.shm_graph.specs.Views.{own_word}
-use Rattle.shm_steps.proofs.Items.{put_at}
+use Rattle.kind_parts.proofs.Items.{put_at}
 use Rattle.shm_count.specs.{Roots.rest, Tear.Events.frees}
 use Rattle.shm_queue.specs.{Drain.{Drained, ItemsEvents, TakenItem, blocks_from}, Take.{Received, TakeEvents}}
 

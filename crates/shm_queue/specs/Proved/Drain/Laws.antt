@@ -14,12 +14,12 @@ use Rattle.shm_queue.specs.declared.answer.TakeFault.TheVariants as fault
 use Rattle.shm_graph.specs.declared.{spot.Spot.TheVariants.{QueueHead, Tail}, memo.Fact.TheVariants.Counter}
 use Rattle.shm_graph.specs.{declared.memo.Memo.Memo, Asks.{Trail, IsWithin}, Bounds.{tear_steps, redo_steps}, Core.core}
 use Rattle.shm_graph.specs.{Events.Event, Laws.Outcome, Views.own_word}
-use Rattle.shm_steps.specs.WordParts.{StatusLoaded}
-use Rattle.shm_steps.proofs.{Cores.here_same, Words.Own.status_load}
-use Rattle.shm_calls.specs.{declared.or.Or.TheVariants.{First, Second}, Proved.CallTells.within_more}
-use Rattle.shm_calls.specs.{Proved.{Either.or_part_laws, Grown.grown_laws}, CallsPart.{calls_part, calls_part_laws}}
-use Rattle.shm_calls.specs.{Either.or_part, Grown.Grows, Parts.IsHeld, Plans.{PlanLaws, PlanStays, IsCall, Follows}}
-use Rattle.shm_calls.specs.Words.{word_control, word_part, word_part_laws, WordLeaves}
+use Rattle.kind_parts.specs.WordParts.{StatusLoaded}
+use Rattle.kind_parts.proofs.{Cores.here_same, Words.Own.status_load}
+use Rattle.plans.specs.{declared.or.Or.TheVariants.{First, Second}, Proved.{CallTells.within_more, Either.or_part_laws}}
+use Rattle.plans.specs.{Proved.Grown.grown_laws, CallsPart.{calls_part, calls_part_laws}, Either.or_part, Grown.Grows}
+use Rattle.plans.specs.{Parts.IsHeld, Plans.{PlanLaws, PlanStays, IsCall, Follows}}
+use Rattle.plans.specs.Words.{word_control, word_part, word_part_laws, WordLeaves}
 use Rattle.shm_count.specs.{declared.answer.EraSpent.EraSpent, Tear.Events.frees}
 
 -- ---- senders

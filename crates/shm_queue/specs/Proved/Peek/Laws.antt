@@ -5,12 +5,12 @@ use Rattle.std.specs.Prelude.{◌==◌, if◌then◌else◌, Some, None, Result,
 use Rattle.shm_graph.specs.{Bounds.redo_steps, declared.memo.{Fact.TheVariants.Counter, Memo.Memo, Stored.Stored}}
 use Rattle.shm_graph.specs.{Asks.{Trail, IsWithin}, Core.core, Events.Event, Laws.Outcome, Views.own_word}
 use Rattle.shm_graph.specs.declared.spot.Spot.TheVariants as spot
-use Rattle.shm_steps.specs.WordParts.{HeadSlotLoaded}
-use Rattle.shm_steps.proofs.Words.{Own.head_load, Queues.head_slot_load}
-use Rattle.shm_calls.specs.{declared.or.Or.TheVariants.{First, Second}, Proved.CallTells.within_more}
-use Rattle.shm_calls.specs.{Proved.{Either.or_part_laws, Grown.grown_laws}, Either.or_part, Grown.Grows, Parts.IsHeld}
-use Rattle.shm_calls.specs.Plans.{PlanLaws, PlanStays, IsCall, Follows}
-use Rattle.shm_calls.specs.Words.{word_control, word_part, word_part_laws, WordLeaves}
+use Rattle.kind_parts.specs.WordParts.{HeadSlotLoaded}
+use Rattle.kind_parts.proofs.Words.{Own.head_load, Queues.head_slot_load}
+use Rattle.plans.specs.{declared.or.Or.TheVariants.{First, Second}, Proved.{CallTells.within_more, Either.or_part_laws}}
+use Rattle.plans.specs.{Proved.Grown.grown_laws, Either.or_part, Grown.Grows, Parts.IsHeld}
+use Rattle.plans.specs.Plans.{PlanLaws, PlanStays, IsCall, Follows}
+use Rattle.plans.specs.Words.{word_control, word_part, word_part_laws, WordLeaves}
 use Rattle.shm_count.specs.{declared.answer.ShareFault.ShareFault, Slots.Untouched, UpRoot.{MayUpRoot, UpRootLeaves}}
 use Rattle.shm_count.specs.{UpRoot.AsPart.{up_root, up_root_part}, Proved.UpRoot.AsPart.may_up_root}
 use Rattle.shm_count.specs.declared.answer.ShareFault.TheVariants as share

@@ -4,10 +4,10 @@ use Rattle.std.specs.{Prelude.{Result, Ok, Err, slice_index}, List.Contains}
 use Rattle.shm_graph.specs.{declared.memo.{Memo.Memo, Stored.Stored}, Asks.Trail, Bounds.{tear_steps, redo_steps}}
 use Rattle.shm_graph.specs.{Events.Event, Views.own_word}
 use Rattle.shm_graph.specs.declared.spot.Spot.TheVariants as spot
-use Rattle.shm_steps.proofs.Cores.{here_same}
-use Rattle.shm_calls.specs.{declared.or.Or.TheVariants.{First, Second}, Proved.CallTells.within_more}
-use Rattle.shm_calls.specs.{Proved.{Either.or_part_laws, Grown.grown_laws}, CallsPart.{calls_part, calls_part_laws}}
-use Rattle.shm_calls.specs.{Either.or_part, Plans.{PlanLaws, PlanStays, IsCall, Follows}}
+use Rattle.kind_parts.proofs.Cores.{here_same}
+use Rattle.plans.specs.{declared.or.Or.TheVariants.{First, Second}, Proved.{CallTells.within_more, Either.or_part_laws}}
+use Rattle.plans.specs.{Proved.Grown.grown_laws, CallsPart.{calls_part, calls_part_laws}, Either.or_part}
+use Rattle.plans.specs.Plans.{PlanLaws, PlanStays, IsCall, Follows}
 use Rattle.shm_count.specs.{declared.answer.Made.Made, Tear.Events.frees}
 use Rattle.shm_queue.specs.declared.answer.{PeekFault.PeekFault, TakeFault.TakeFault}
 use Rattle.shm_queue.specs.declared.receive.ReceivePoint.{ReceivePoint, TheVariants.{Look, Item}}

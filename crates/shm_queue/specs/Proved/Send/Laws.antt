@@ -10,11 +10,11 @@ use Rattle.shm_graph.specs.declared.ask.Ask.TheVariants as ask
 use Rattle.shm_graph.specs.declared.spot.Spot.TheVariants as spot
 use Rattle.shm_graph.specs.Events as event
 use Rattle.shm_graph.proofs.Spots.Spotting.{same_spot_self}
-use Rattle.shm_steps.specs.Reparting.{sight}
-use Rattle.shm_steps.proofs.{Cores.here_same, Items.put_at, Words.{Own.tail_load, Queues.tail_store}}
-use Rattle.shm_calls.specs.{declared.or.Or.TheVariants.{First, Second}, Proved.CallTells.within_more}
-use Rattle.shm_calls.specs.{Proved.Either.or_part_laws, Parts.IsHeld, Plans.{PlanLaws, PlanStays, IsCall, Follows}}
-use Rattle.shm_calls.specs.Words.{word_control, word_part, word_part_laws, IsWord, WordLeaves}
+use Rattle.kind_parts.specs.Reparting.{sight}
+use Rattle.kind_parts.proofs.{Cores.here_same, Items.put_at, Words.{Own.tail_load, Queues.tail_store}}
+use Rattle.plans.specs.{declared.or.Or.TheVariants.{First, Second}, Proved.{CallTells.within_more, Either.or_part_laws}}
+use Rattle.plans.specs.{Parts.IsHeld, Plans.{PlanLaws, PlanStays, IsCall, Follows}}
+use Rattle.plans.specs.Words.{word_control, word_part, word_part_laws, IsWord, WordLeaves}
 use Rattle.shm_count.specs.declared.answer.UpFault.{UpFault}
 use Rattle.shm_count.specs.Slots.{Filled, StepLeft, Untouched, known_at, slotted, unsent_at}
 use Rattle.shm_count.specs.{Slots.Parts.{up_slot_part, up_slot_laws}, Proved.Slots.Parts.era_room}

@@ -9,12 +9,12 @@ use Rattle.shm_graph.specs.{MemoAfterStore.{head_stored, not_block}, Views.own_w
 use Rattle.shm_graph.specs.declared.ask.Ask.TheVariants as ask
 use Rattle.shm_graph.specs.declared.spot.Spot.TheVariants as spot
 use Rattle.shm_graph.specs.Events as event
-use Rattle.shm_steps.specs.WordParts.{HeadSlotLoaded}
-use Rattle.shm_steps.proofs.{Cores.here_same, Words.{Own.head_load, Queues.{head_slot_load, head_store}}}
-use Rattle.shm_calls.specs.{declared.or.Or.TheVariants.{First, Second}, Proved.CallTells.within_more}
-use Rattle.shm_calls.specs.{Proved.{Either.or_part_laws, Grown.grown_laws}, Either.{or_control, or_part}, Grown.Grows}
-use Rattle.shm_calls.specs.{Parts.IsHeld, Plans.{PlanLaws, PlanStays, IsCall, Follows}}
-use Rattle.shm_calls.specs.Words.{word_control, word_part, word_part_laws, IsWord, WordLeaves}
+use Rattle.kind_parts.specs.WordParts.{HeadSlotLoaded}
+use Rattle.kind_parts.proofs.{Cores.here_same, Words.{Own.head_load, Queues.{head_slot_load, head_store}}}
+use Rattle.plans.specs.{declared.or.Or.TheVariants.{First, Second}, Proved.{CallTells.within_more, Either.or_part_laws}}
+use Rattle.plans.specs.{Proved.Grown.grown_laws, Either.{or_control, or_part}, Grown.Grows, Parts.IsHeld}
+use Rattle.plans.specs.Plans.{PlanLaws, PlanStays, IsCall, Follows}
+use Rattle.plans.specs.Words.{word_control, word_part, word_part_laws, IsWord, WordLeaves}
 use Rattle.shm_count.specs.{declared.answer.EraSpent.EraSpent as ASpent, CountParts.tear_part}
 use Rattle.shm_count.specs.{Proved.{CountParts.tear_part_laws, Lowering.{torn_leaves, without_new}}, Slots.StepLeft}
 use Rattle.shm_count.specs.{Step.{Machines.{down_control, down_told}, Asks.step_trail}, Tear.Control.tear_control}

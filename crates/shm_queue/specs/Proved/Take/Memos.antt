@@ -8,10 +8,10 @@ use Rattle.shm_graph.specs.{declared.{memo.Stored.Stored, table.Part.Part}, Core
 use Rattle.shm_graph.specs.{Reach.{is_named, learnt}, MemoAfterRead.valued, Spots.same_spot}
 use Rattle.shm_graph.specs.{MemoAfterStore.{head_stored, lane_with, other_than, put}, Views.own_word}
 use Rattle.shm_graph.proofs.Spots.Spotting.{same_spot_self}
-use Rattle.shm_steps.specs.Reparting.{sight}
-use Rattle.shm_steps.proofs.Items.{put_at}
-use Rattle.shm_count.specs.{Roots.rest, Slots.{Lost, Sifts, Took, emptied}, Step.Parts.part_after}
-use Rattle.shm_count.specs.Tear.Memos.{is_lasting, is_slot_word}
+use Rattle.kind_parts.specs.Reparting.{sight}
+use Rattle.kind_parts.proofs.Items.{put_at}
+use Rattle.shm_count.specs.{Roots.rest, Slots.{Lost, Sifts, Took, emptied}, Step.Parts.part_after, Lasting.is_lasting}
+use Rattle.shm_count.specs.Tear.Memos.{is_slot_word}
 use Rattle.shm_queue.specs.{Proved.QueueSteps.{put_here, same_part, spare_part}, Take.{Received, slot_memo, taken_memo}}
 
 -- ---- what is known

@@ -1,7 +1,7 @@
 use Rattle.std.proofs.Common.{refl}
 use Rattle.shm_graph.specs.declared.memo.Kind.TheVariants.{Recoverer}
 use Rattle.shm_graph.proofs.Memos.MemoSteps.{recovers-entered}
-use Rattle.shm_calls.specs.Proved.CallsKeep.{calls_begin}
+use Rattle.plans.specs.Proved.CallsKeep.{calls_begin}
 use Rattle.shm_recover.specs.{Mend.{Control.{mend_parts, mending}, mend_plan}, Proved.Mend.Laws.{mend_begin, mend_laws}}
 use Rattle.shm_recover.proofs.mend.mend_begins.Goals as goal
 

@@ -1,4 +1,4 @@
-use Rattle.shm_calls.specs.Proved.CallsKeep.{calls_tells}
+use Rattle.plans.specs.Proved.CallsKeep.{calls_tells}
 use Rattle.shm_recover.specs.{Mend.{Control.mend_parts, mend_plan}, Proved.Mend.Laws.mend_laws}
 use Rattle.shm_recover.proofs.mend.mend_events.Goals as goal
 

@@ -1,5 +1,5 @@
 use Rattle.std.proofs.Common.{refl}
-use Rattle.shm_calls.specs.Proved.CallsKeep.{calls_begin}
+use Rattle.plans.specs.Proved.CallsKeep.{calls_begin}
 use Rattle.shm_recover.specs.Recover.{Control.{recover_parts, recovering}, recover_plan}
 use Rattle.shm_recover.specs.Proved.{Recover.Laws.{recover_begin, recover_laws}, FinishTakes.Laws.finish_laws}
 use Rattle.shm_recover.specs.Proved.{GiveUp.Laws.give_laws, Mend.Laws.mend_laws, Scan.Laws.scan_laws}

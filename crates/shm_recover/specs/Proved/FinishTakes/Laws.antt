@@ -9,9 +9,9 @@ use Rattle.shm_graph.specs.{Held.HeldAt, Laws.Outcome, Spots.same_spot, MemoAfte
 use Rattle.shm_graph.specs.Views.{own_word, view}
 use Rattle.shm_graph.specs.declared.ask.Ask.TheVariants as ask
 use Rattle.shm_graph.proofs.Spots.Spotting.{same_spot_self}
-use Rattle.shm_steps.proofs.{Cores.here_same, Items.put_at, Words.{Own.head_load, Queues.head_store}}
-use Rattle.shm_calls.specs.{Proved.CallTells.within_more, Parts.IsHeld, Plans.{PlanLaws, PlanStays}}
-use Rattle.shm_calls.specs.Words.{word_control, word_part_laws, IsWord, WordLeaves}
+use Rattle.kind_parts.proofs.{Cores.here_same, Items.put_at, Words.{Own.head_load, Queues.head_store}}
+use Rattle.plans.specs.{Proved.CallTells.within_more, Parts.IsHeld, Plans.{PlanLaws, PlanStays}}
+use Rattle.plans.specs.Words.{word_control, word_part_laws, IsWord, WordLeaves}
 use Rattle.shm_queue.specs.Proved.QueueWords.{head_small}
 use Rattle.shm_recover.specs.declared.finish_takes.FinishPoint.{FinishPoint, TheVariants.{Head, Tail, Slot, Store}}
 use Rattle.shm_recover.specs.declared.finish_takes.FinishState.{FinishState}

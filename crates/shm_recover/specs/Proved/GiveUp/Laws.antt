@@ -5,10 +5,10 @@ use Rattle.std.specs.{Prelude.{◌==◌, if◌then◌else◌, slice_index}, List
 use Rattle.shm_graph.specs.{declared.{ask.Me.Me, spot.Spot.TheVariants.Hold, memo.Memo.Memo}, Asks.Trail, Core.core}
 use Rattle.shm_graph.specs.{Events.Event, Laws.{GoneNow, Outcome}, MemoAfterStore.not_segment, Views.own_word}
 use Rattle.shm_graph.specs.declared.memo.Status.TheVariants as status
-use Rattle.shm_laws.proofs.Keep.{filter_from}
-use Rattle.shm_steps.proofs.{Cores.here_same, Words.{Own.gone_store, Shared.{segment_give, segment_load}}}
-use Rattle.shm_calls.specs.{Proved.CallTells.within_more, Parts.IsHeld, Plans.{PlanLaws, PlanStays}}
-use Rattle.shm_calls.specs.Words.{word_control, word_part_laws, IsWord, WordLeaves}
+use Rattle.kind_laws.proofs.Lists.{filter_from}
+use Rattle.kind_parts.proofs.{Cores.here_same, Words.{Own.gone_store, Shared.{segment_give, segment_load}}}
+use Rattle.plans.specs.{Proved.CallTells.within_more, Parts.IsHeld, Plans.{PlanLaws, PlanStays}}
+use Rattle.plans.specs.Words.{word_control, word_part_laws, IsWord, WordLeaves}
 use Rattle.shm_count.specs.Roots.{root_word}
 use Rattle.shm_recover.specs.declared.give_up.GivePoint.{GivePoint, TheVariants.{Look, Give, Status}}
 use Rattle.shm_recover.specs.declared.give_up.GiveState.{GiveState}

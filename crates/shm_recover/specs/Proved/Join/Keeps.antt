@@ -9,11 +9,11 @@ use Rattle.shm_graph.specs.declared.spot.Spot.TheVariants.{Status, Hold, Segment
 use Rattle.shm_graph.specs.declared.memo.{Op.TheVariants.Nothing, Making.Making, Memo.Memo, Step.Step}
 use Rattle.shm_graph.specs.{Views.{view, own_word}, Held.{HeldAt, MakingTie}, Idle.hold_word}
 use Rattle.shm_graph.specs.{Spots.{spot_at, segment_of}, Blocks.classes, Asks.{Trail, pair}, Changes.called}
-use Rattle.shm_graph.specs.{Laws.{Laws, Keeps, Then, framed}, Core.core}
+use Rattle.shm_graph.specs.{Laws.{Laws, EachStepKeeps, Then, framed}, Core.core}
 use Rattle.shm_graph.specs.declared.memo.Status.TheVariants as status
 use Rattle.shm_graph.proofs.{Spots.{Spotting.in_pool, SpotPlaces.spot-place}, Machines.Calling.called_part}
 use Rattle.shm_graph.proofs.StepKinds.Keeping.{live_kept}
-use Rattle.shm_steps.proofs.Cores.{called_core}
+use Rattle.kind_parts.proofs.Cores.{called_core}
 use Rattle.shm_recover.specs.declared.join.{JoinPoint.{JoinPoint, TheVariants.{Start, Over}}, JoinState.JoinState}
 use Rattle.shm_recover.specs.Join.Asks.{join_ask}
 use Rattle.shm_recover.specs.Join.{IsMember, CanJoin, join_control, join_fresh, is_over, JoinFits, JoinGives}
@@ -57,7 +57,7 @@ start_of m e = go m.point e
     go Start e = refl
     go Over e = absurd (true≢false e)
 
-join_keeps : Keeps join_control JoinFits JoinGives
+join_keeps : EachStepKeeps join_control JoinFits JoinGives
 join_keeps m r0 tr going w r f s fit =
     let same = fit.start (start_of m going) in
     let at = address m.me.geometry (place.Status m.me.who) in

@@ -6,14 +6,13 @@ use Rattle.std.specs.List.{Contains}
 use Rattle.shm_graph.specs.{Bounds.{redo_steps, tear_steps}, declared.{ask.Me.Me, spot.Spot.TheVariants.Hold}}
 use Rattle.shm_graph.specs.{declared.memo.Memo.Memo, Asks.Trail, Events.Event, MemoAfterStore.not_segment}
 use Rattle.shm_graph.specs.{Views.own_word, Core.core}
-use Rattle.shm_laws.proofs.Keep.{filter_from}
-use Rattle.shm_calls.specs.{declared.or.Or.TheVariants.{First, Second}, Proved.CallTells.within_more}
-use Rattle.shm_calls.specs.{Proved.Either.or_part_laws, CallsControl.calls_control}
-use Rattle.shm_calls.specs.{CallsPart.{calls_part, calls_part_laws}, Parts.IsHeld}
-use Rattle.shm_calls.specs.Plans.{PlanLaws, PlanStays, IsCall, Follows}
-use Rattle.shm_calls.specs.Words.{word_control, word_part, word_part_laws, WordLeaves}
+use Rattle.kind_laws.proofs.Lists.{filter_from}
+use Rattle.plans.specs.{declared.or.Or.TheVariants.{First, Second}, Proved.{CallTells.within_more, Either.or_part_laws}}
+use Rattle.plans.specs.{CallsControl.calls_control, CallsPart.{calls_part, calls_part_laws}, Parts.IsHeld}
+use Rattle.plans.specs.Plans.{PlanLaws, PlanStays, IsCall, Follows}
+use Rattle.plans.specs.Words.{word_control, word_part, word_part_laws, WordLeaves}
 use Rattle.shm_count.specs.{declared.answer.EraSpent.EraSpent, Roots.root_word, Tear.Events.frees}
-use Rattle.shm_steps.proofs.{Cores.here_same, Words.{Own.gone_store, Shared.{segment_give, segment_load}}}
+use Rattle.kind_parts.proofs.{Cores.here_same, Words.{Own.gone_store, Shared.{segment_give, segment_load}}}
 use Rattle.shm_ref.specs.{declared.drop_roots.RootsState.RootsState, Proved.Leaving.may_still}
 use Rattle.shm_ref.specs.{Proved.DropRoots.Laws.{roots_begin, roots_laws}, Lefts.MayDrop}
 use Rattle.shm_ref.specs.DropRoots.{Control.{drop_root, roots_steered}, AreGone, RootsLeaves, roots_plan}

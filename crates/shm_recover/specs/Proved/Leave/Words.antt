@@ -5,7 +5,7 @@ use Rattle.std.specs.List.{Contains}
 use Rattle.shm_graph.specs.declared.{ask.Me.Me, spot.Spot.{Spot, TheVariants.{Root, Segment}}, memo.Memo.Memo}
 use Rattle.shm_graph.specs.{Blocks.classes, Held.HeldAt, Laws.GoneNow, Views.view}
 use Rattle.shm_graph.proofs.Spots.SpotPlaces.{at_is_in}
-use Rattle.shm_calls.specs.Parts.{IsHeld}
+use Rattle.plans.specs.Parts.{IsHeld}
 use Rattle.shm_count.specs.Roots.{root_word}
 use Rattle.shm_recover.specs.Leave.{IsLeaving}
 

@@ -12,13 +12,13 @@ use Rattle.shm_graph.specs.{Held.OpTie, Ops.{IsUncommitted, on_of, slot_of}, Ref
 use Rattle.shm_graph.specs.{MemoAfterStore.{era_stored, op_closed, op_written}, Views.own_word}
 use Rattle.shm_graph.specs.declared.ask.Ask.TheVariants as ask
 use Rattle.shm_graph.specs.declared.spot.Spot.TheVariants as spot
-use Rattle.shm_laws.specs.OwnWords.{Closes}
-use Rattle.shm_calls.specs.{declared.or.Or.TheVariants.{First, Second}, Proved.CallTells.within_more}
-use Rattle.shm_calls.specs.{Proved.Either.or_part_laws, CallsControl.calls_control}
-use Rattle.shm_calls.specs.{CallsPart.{calls_part, calls_part_laws}, Either.{or_control, or_part}}
-use Rattle.shm_calls.specs.{Parts.{IsHeld, PartLaws}, Plans.{Follows, IsCall, PlanLaws, PlanStays}}
-use Rattle.shm_calls.specs.Words.{IsWord, WordLeaves, word_control, word_part, word_part_laws}
-use Rattle.shm_steps.proofs.Words.Own.{dead_store, era_load, era_store, redo_load}
+use Rattle.kind_laws.specs.OwnWords.{Closes}
+use Rattle.plans.specs.{declared.or.Or.TheVariants.{First, Second}, Proved.{CallTells.within_more, Either.or_part_laws}}
+use Rattle.plans.specs.{CallsControl.calls_control, CallsPart.{calls_part, calls_part_laws}}
+use Rattle.plans.specs.{Either.{or_control, or_part}, Parts.{IsHeld, PartLaws}}
+use Rattle.plans.specs.Plans.{Follows, IsCall, PlanLaws, PlanStays}
+use Rattle.plans.specs.Words.{IsWord, WordLeaves, word_control, word_part, word_part_laws}
+use Rattle.kind_parts.proofs.Words.Own.{dead_store, era_load, era_store, redo_load}
 use Rattle.shm_count.specs.declared.commit_test.Commit.{Commit, TheVariants.{Committed, NotCommitted}}
 use Rattle.shm_count.specs.CommitTest.{IsTested, IsTold, record_in, step_block, testing_plan, Control.testing_steered}
 use Rattle.shm_count.specs.Proved.CommitTest.Laws.{testing_begin, testing_laws}

@@ -5,9 +5,9 @@ use Rattle.shm_words.specs.declared.place.Place.TheVariants as place
 use Rattle.shm_graph.specs.{declared.{ask.{Ask.TheVariants.Load, Me.Me}, memo.Memo.Memo}, Laws.framed, Views.own_word}
 use Rattle.shm_graph.specs.declared.spot.Spot.TheVariants as spot
 use Rattle.shm_graph.proofs.Spots.SpotPlaces.{spot-place}
-use Rattle.shm_calls.specs.{Words.IsWord, Proved.WordSteps.load_at}
-use Rattle.shm_steps.specs.WordParts.{OwnLoaded}
-use Rattle.shm_steps.proofs.Words.Own.{at_step, word_for}
+use Rattle.plans.specs.{Words.IsWord, Proved.WordSteps.load_at}
+use Rattle.kind_parts.specs.WordParts.{OwnLoaded}
+use Rattle.kind_parts.proofs.Words.Own.{at_step, word_for}
 
 pub more_load : (me : Me) (m : Memo) → me.who < me.geometry.clients → me.geometry.wide ≡ true → IsWord false me (Load (address me.geometry (place.RedoMore me.who))) (OwnLoaded (spot.RedoMore me.who)) (word_for me (Load (address me.geometry (place.RedoMore me.who)))) m
 more_load me m l wide =

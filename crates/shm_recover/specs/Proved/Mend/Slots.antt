@@ -13,10 +13,10 @@ use Rattle.shm_graph.specs.{References.words_of, Spots.{IsAt, same_spot, spot_ad
 use Rattle.shm_graph.specs.Views.{own_word, view}
 use Rattle.shm_graph.specs.declared.spot.Spot.TheVariants as spot
 use Rattle.shm_graph.proofs.{Spots.{SpotPlaces.at_is_in, Spotting.in_pool}, States.Holders.Holds}
-use Rattle.shm_laws.specs.Slotting.{Writes}
-use Rattle.shm_calls.specs.{Parts.IsHeld, Words.IsWord, Proved.Words.word_more}
-use Rattle.shm_steps.specs.{Conditions.{IsHere, MayWrite}, WordParts.Makes}
-use Rattle.shm_steps.proofs.Words.{Blocks.body_store, Own.{home_store, root_store, word_for}, Queues.slot_store}
+use Rattle.kind_laws.specs.Slotting.{Writes}
+use Rattle.plans.specs.{Parts.IsHeld, Words.IsWord, Proved.Words.word_more}
+use Rattle.kind_parts.specs.{Conditions.{IsHere, MayWrite}, WordParts.Makes}
+use Rattle.kind_parts.proofs.Words.{Blocks.body_store, Own.{home_store, root_store, word_for}, Queues.slot_store}
 use Rattle.shm_recover.specs.Mend.{slotted}
 
 -- a step that writes is one

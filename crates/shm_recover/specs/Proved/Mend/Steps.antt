@@ -11,7 +11,7 @@ use Rattle.shm_graph.specs.declared.memo.{ChangeStage.TheVariants.{Lowering, Rai
 use Rattle.shm_graph.specs.{declared.memo.Op.TheVariants.{Alloc, Change, Down, Nothing, Up}, Held.{OpTie, odd}}
 use Rattle.shm_graph.specs.{Ops.{IsUncommitted, on_of, slot_of}, References.Words, Spots.spot_address}
 use Rattle.shm_graph.specs.MemoAfterStore.{op_closed, op_written}
-use Rattle.shm_laws.specs.{OwnWords.Closes, Slotting.Writes}
+use Rattle.kind_laws.specs.{OwnWords.Closes, Slotting.Writes}
 use Rattle.shm_count.specs.CommitTest.{step_block, Control.is_first_half}
 use Rattle.shm_count.specs.Proved.CommitTest.Shown.{itself, odd_next, opposite}
 use Rattle.shm_recover.specs.Mend.Control.{before_of, block_of, is_first, is_second, slot_at, value_at}

@@ -13,7 +13,7 @@ use Rattle.shm_graph.specs.{Blocks.{IsBlock, classes}, Held.{IsBefore, MayName, 
 use Rattle.shm_graph.specs.Views.{own_word}
 use Rattle.shm_graph.specs.declared.spot.Spot.TheVariants as spot
 use Rattle.shm_graph.proofs.{Spots.Spotting.in_pool, States.RedoNames.may_name}
-use Rattle.shm_calls.specs.Parts.{IsHeld}
+use Rattle.plans.specs.Parts.{IsHeld}
 use Rattle.shm_count.specs.CommitTest.{record_in, Control.is_first_half}
 use Rattle.shm_recover.specs.Mend.Control.{block_of, is_first, is_second, value_at}
 

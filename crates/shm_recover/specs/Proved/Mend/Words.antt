@@ -16,9 +16,9 @@ use Rattle.shm_graph.specs.Views.{own_word, owner_is, view}
 use Rattle.shm_graph.specs.declared.spot.Spot.TheVariants as spot
 use Rattle.shm_graph.specs.declared.memo.Status.TheVariants as status
 use Rattle.shm_graph.proofs.Spots.Spotting.{same_spot_is}
-use Rattle.shm_laws.specs.{OwnWords.Closes, Slotting.Writes}
-use Rattle.shm_calls.specs.Parts.{IsHeld}
-use Rattle.shm_steps.specs.{Conditions.IsHere, Reparting.map_in}
+use Rattle.kind_laws.specs.{OwnWords.Closes, Slotting.Writes}
+use Rattle.plans.specs.Parts.{IsHeld}
+use Rattle.kind_parts.specs.{Conditions.IsHere, Reparting.map_in}
 use Rattle.shm_recover.specs.{MendLower.{IsLowered, MayLowerDead}, MendRest.{bare, is_hold, is_row}}
 use Rattle.shm_recover.specs.MendUnlatch.{Unlatched}
 use Rattle.shm_recover.specs.Mend.{HeldOver, IsDead, IsMended, IsMending, WasLost, dead, is_apart, is_name, slotted}

@@ -3,41 +3,14 @@ use Rattle.std.proofs.Common.{◌≡◌, ℕ, ◌-◌, ◌^◌, ◌<◌, refl, a
 use Rattle.std.specs.{Prelude.◌⊎◌, List.filter}
 use Rattle.shm_words.specs.{Headers.{HeaderFits, header_of}, Layout.GeometryFits}
 use Rattle.shm_words.proofs.Words.{header_fits, header_of-word, header_word_small}
-use Rattle.shm_graph.specs.declared.{ask.{Ask.Ask, Me.Me}, spot.Spot.{Spot, TheVariants.{Era, Head, Redo, RedoMore}}}
+use Rattle.shm_graph.specs.declared.{ask.Me.Me, spot.Spot.{Spot, TheVariants.{Era, Head, Redo, RedoMore}}}
 use Rattle.shm_graph.specs.declared.memo.{Memo.Memo, Op.TheVariants.Change, ChangeStage.TheVariants.Lowering}
-use Rattle.shm_graph.specs.{declared.memo.Second.TheVariants.{Closed, Open}, Asks.{at_of, seen_of}, Blocks.classes}
-use Rattle.shm_graph.specs.{Events.Event, MemoAfterExchange.{committed, cut, without_made}, Held.{HeldAt, OpTie}}
-use Rattle.shm_graph.specs.{Laws.{Frame, Stands}, Ops.held_over_of, Reach.sifted, References.words_of, Spots.spot_at}
-use Rattle.shm_graph.specs.{MemoAfterStore.not_of, Views.view}
+use Rattle.shm_graph.specs.{declared.memo.Second.TheVariants.{Closed, Open}, Blocks.classes}
+use Rattle.shm_graph.specs.{MemoAfterExchange.{committed, cut, without_made}, Held.{HeldAt, OpTie}, Ops.held_over_of}
+use Rattle.shm_graph.specs.{Reach.sifted, References.words_of, Spots.spot_at, MemoAfterStore.not_of, Views.view}
 use Rattle.shm_graph.proofs.States.Holders.{held_over_counted}
-use Rattle.shm_laws.proofs.Keep.{block_not_zero}
-use Rattle.shm_calls.specs.{EventWords.IsEventWord, Words.IsWord}
+use Rattle.kind_laws.proofs.Keep.{block_not_zero}
 use Rattle.shm_recover.specs.{MendRest.bare, MendLower.{IsCounted, Control.lowered}}
-
--- ---- a word step leaves besides what the held state before it shows
-
--- the step found what a held state with this memo has there
-abbrev pub Besides : Me → Ask → (after more : Memo → ℕ → Memo → Type 0) → Memo → Type 0
-Besides me a after more m = (w : Spot → ℕ) (r : ℕ → Memo) (f : Frame) → Stands me w r f [] → r me.who ≡ m → let n : ℕ = seen_of a (w (spot_at me.geometry (classes w) (at_of a))) in (x : Memo) → after m n x → more m n x
-
-module _ (first : Bool) (me : Me) (a : Ask) (after more : Memo → ℕ → Memo → Type 0) (m : Memo) (also : Besides me a after more m) where
-  pub word_besides : IsWord first me a after (record { me = me; ask = a; over = false }) m → IsWord first me a more (record { me = me; ask = a; over = false }) m
-  word_besides h =
-      record {
-        made = h.made;
-        inside = h.inside;
-        kept = λ w r f st may same. let k = h.kept w r f st may same in record { told = k.told; step = k.step; fits = also w r f st same _ k.fits };
-        quiet = h.quiet;
-      }
-
-  pub event_besides : (does : ℕ → Event) → IsEventWord first me a does after (record { me = me; ask = a; over = false }) m → IsEventWord first me a does more (record { me = me; ask = a; over = false }) m
-  event_besides does h =
-      record {
-        made = h.made;
-        inside = h.inside;
-        kept = λ w r f st may same. let k = h.kept w r f st may same in record { told = k.told; step = k.step; fits = also w r f st same _ k.fits };
-        told = h.told;
-      }
 
 -- ---- the block before
 

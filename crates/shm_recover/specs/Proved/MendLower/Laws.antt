@@ -14,21 +14,22 @@ use Rattle.shm_graph.specs.Views.{own_word}
 use Rattle.shm_graph.specs.declared.ask.Ask.TheVariants as ask
 use Rattle.shm_graph.specs.declared.spot.Spot.TheVariants as spot
 use Rattle.shm_graph.proofs.Spots.Spotting.{same_spot_self}
-use Rattle.shm_calls.specs.Proved.{CallTells.{failed-append, within_more}, Grown.grown_laws}
-use Rattle.shm_calls.specs.{EventWords.{event_part, event_part_laws}, Grown.grown, Parts.PartLaws}
-use Rattle.shm_calls.specs.Plans.{Follows, PlanLaws, PlanStays}
-use Rattle.shm_calls.specs.Words.{IsWord, word_control, word_part, word_part_laws}
-use Rattle.shm_laws.specs.OwnWords.{Closes}
+use Rattle.plans.specs.Proved.{CallTells.{failed-append, within_more}, Grown.grown_laws}
+use Rattle.plans.specs.{Proved.Besides.{event_besides, word_besides}, EventWords.{event_part, event_part_laws}}
+use Rattle.plans.specs.{Grown.grown, Parts.PartLaws, Plans.{Follows, PlanLaws, PlanStays}}
+use Rattle.plans.specs.Words.{IsWord, word_control, word_part, word_part_laws}
+use Rattle.kind_laws.specs.OwnWords.{Closes}
 use Rattle.shm_count.specs.{Step.Control.row_address, Proved.CommitTest.StepTrail.{one_read, read_part_laws}}
-use Rattle.shm_steps.specs.{Conditions.IsHere, Raising.OwnRowShows, WordParts.{FormerLowered, HeaderSeen, former_event}}
-use Rattle.shm_steps.proofs.{Cores.here_same, Words.{Blocks.{header_see, recoverer_goes_on}, FormerBlock.lower_former}}
-use Rattle.shm_steps.proofs.Words.Own.{era_close_lowering, era_load, row_store}
+use Rattle.kind_parts.specs.{Conditions.IsHere, Raising.OwnRowShows}
+use Rattle.kind_parts.specs.WordParts.{FormerLowered, HeaderSeen, former_event}
+use Rattle.kind_parts.proofs.{Cores.here_same, Words.{Blocks.{header_see, recoverer_goes_on}, FormerBlock.lower_former}}
+use Rattle.kind_parts.proofs.Words.Own.{era_close_lowering, era_load, row_store}
 use Rattle.shm_recover.specs.declared.mend_lower.MendLowerPoint.{MendLowerPoint}
 use Rattle.shm_recover.specs.declared.mend_lower.MendLowerPoint.TheVariants.{Header, Row, Show, Exchange, Close}
 use Rattle.shm_recover.specs.{declared.mend_lower.MendLowerState.MendLowerState, MendRest.{bare, is_row}}
 use Rattle.shm_recover.specs.MendLower.Control.{found, is_header, lowered, lowering, lowering_ask, lowering_call, lowering_steered}
 use Rattle.shm_recover.specs.MendLower.{ExchangeFound, HasFound, IsCounted, IsLowered, IsSame, LoweringFound, LoweringKnows, MayLowerDead, lowering_part, lowering_plan}
-use Rattle.shm_recover.specs.Proved.MendLower.Headers.{IsLowering, event_besides, half_block, half_committed, half_counted, lowered_header, word_besides}
+use Rattle.shm_recover.specs.Proved.MendLower.Headers.{IsLowering, half_block, half_committed, half_counted, lowered_header}
 
 -- ---- words of rows
 

@@ -7,9 +7,9 @@ use Rattle.shm_graph.specs.{declared.memo.Op.TheVariants.Nothing, Agents.recover
 use Rattle.shm_graph.specs.{Events.Event, Laws.Outcome, Ops.IsUncommitted, Spots.same_spot, Views.own_word}
 use Rattle.shm_graph.specs.declared.spot.Spot.TheVariants as spot
 use Rattle.shm_graph.proofs.Spots.Spotting.{same_spot_self}
-use Rattle.shm_calls.specs.{Proved.CallTells.within_more, Parts.IsHeld, Plans.{Follows, PlanLaws, PlanStays}}
-use Rattle.shm_calls.specs.Words.{WordLeaves, word_control, word_part_laws}
-use Rattle.shm_steps.proofs.{Cores.here_same, Words.{Own.{hold_end, hold_store}, Shared.{latch_give, latch_load}}}
+use Rattle.plans.specs.{Proved.CallTells.within_more, Parts.IsHeld, Plans.{Follows, PlanLaws, PlanStays}}
+use Rattle.plans.specs.Words.{WordLeaves, word_control, word_part_laws}
+use Rattle.kind_parts.proofs.{Cores.here_same, Words.{Own.{hold_end, hold_store}, Shared.{latch_give, latch_load}}}
 use Rattle.shm_recover.specs.declared.mend_unlatch.MendUnlatchPoint.{MendUnlatchPoint}
 use Rattle.shm_recover.specs.declared.mend_unlatch.MendUnlatchPoint.TheVariants.{Whose, Look, Give, Back}
 use Rattle.shm_recover.specs.{declared.mend_unlatch.MendUnlatchState.MendUnlatchState, MendRest.{bare, is_hold}}

@@ -24,12 +24,11 @@ use Rattle.shm_graph.specs.declared.{spot.Spot.TheVariants.{Era, Hold, Home, Que
 use Rattle.shm_graph.specs.{declared.memo.{Op.TheVariants.Nothing, Status.Status as AStatus}, Spots.same_spot}
 use Rattle.shm_graph.specs.{Asks.{Trail, IsWithin}, Events.Event, Held.is_loose, Views.own_word}
 use Rattle.shm_graph.specs.declared.memo.Status.TheVariants as status
-use Rattle.shm_steps.specs.Reparting.{map_in}
-use Rattle.shm_calls.specs.{declared.or.Or.TheVariants.{First, Second}, Proved.CallTells.within_more}
-use Rattle.shm_calls.specs.{Proved.Either.or_part_laws, CallsPart.{calls_part, calls_part_laws}}
-use Rattle.shm_calls.specs.{Either.{or_control, or_part}, Parts.IsHeld, Plans.{PlanLaws, PlanStays, IsCall, Follows}}
-use Rattle.shm_calls.specs.Words.{word_control}
-use Rattle.shm_count.specs.{declared.answer.EraSpent.EraSpent, Roots.rest, Tear.Memos.is_lasting}
+use Rattle.kind_parts.specs.Reparting.{map_in}
+use Rattle.plans.specs.{declared.or.Or.TheVariants.{First, Second}, Proved.{CallTells.within_more, Either.or_part_laws}}
+use Rattle.plans.specs.{CallsPart.{calls_part, calls_part_laws}, Either.{or_control, or_part}, Parts.IsHeld}
+use Rattle.plans.specs.{Plans.{PlanLaws, PlanStays, IsCall, Follows}, Words.word_control}
+use Rattle.shm_count.specs.{declared.answer.EraSpent.EraSpent, Roots.rest, Lasting.is_lasting}
 use Rattle.shm_count.specs.Tear.Events.{Visit, frees}
 
 -- ---- the control

@@ -10,12 +10,12 @@ use Rattle.shm_ref.specs.{Proved.{Costs.tear_sum, Leaving.frees-append}, Lefts.M
 use Rattle.shm_graph.specs.{Bounds.tear_steps, declared.{ask.Me.Me, memo.{Fact.TheVariants.Class, Memo.Memo}}}
 use Rattle.shm_graph.specs.{declared.spot.Spot.TheVariants.Era, Asks.Trail, Core.core, Events.Event, Held.IsDying}
 use Rattle.shm_graph.specs.{Laws.Outcome, MemoAfterStore.not_block, Views.own_word}
-use Rattle.shm_laws.proofs.Keep.{Contains-filter, filter_from}
-use Rattle.shm_steps.proofs.Cores.{here_same}
-use Rattle.shm_calls.specs.{declared.or.Or.TheVariants.{First, Second}, Proved.CallTells.within_more}
-use Rattle.shm_calls.specs.{Proved.{Either.or_part_laws, Grown.grown_laws}, Either.or_part, Grown.Grows, Parts.IsHeld}
-use Rattle.shm_calls.specs.Plans.{PlanLaws, PlanStays, IsCall, Follows}
-use Rattle.shm_calls.specs.Words.{word_control, word_part, word_part_laws, WordLeaves}
+use Rattle.kind_laws.proofs.Lists.{Contains-filter, filter_from}
+use Rattle.kind_parts.proofs.Cores.{here_same}
+use Rattle.plans.specs.{declared.or.Or.TheVariants.{First, Second}, Proved.{CallTells.within_more, Either.or_part_laws}}
+use Rattle.plans.specs.{Proved.Grown.grown_laws, Either.or_part, Grown.Grows, Parts.IsHeld}
+use Rattle.plans.specs.Plans.{PlanLaws, PlanStays, IsCall, Follows}
+use Rattle.plans.specs.Words.{word_control, word_part, word_part_laws, WordLeaves}
 use Rattle.shm_count.specs.{declared.answer.EraSpent.EraSpent, CountParts.tear_part, Proved.CountParts.tear_part_laws}
 use Rattle.shm_count.specs.{Proved.Lowering.stays_rest, Roots.rest, Tear.{Control.tear_control, Events.{Visit, frees}}}
 use Rattle.shm_count.specs.Tear.{Memos.TearStays, Torn, TornPartly, is_outside}
@@ -23,7 +23,7 @@ use Rattle.shm_recover.specs.declared.scan.ScanPoint.{ScanPoint, TheVariants.{Pa
 use Rattle.shm_recover.specs.declared.scan.ScanState.{ScanState}
 use Rattle.shm_recover.specs.Scan.Control.{ScanAnswer, block_at, is_first, is_lost, place_in, scan_ask, scan_call_at, scan_parts, words_before, scan_steered}
 use Rattle.shm_recover.specs.Scan.Words.{LostSeen, PageSeen, by_class, dying_inside, lost_see, next_block, page_see}
-use Rattle.shm_recover.specs.Scan.{IsIn, IsScanning, Lost, ScanDone, ScanEvents, ScanFound, ScanKnows, ScanLeaves, ScanStopped, Scanned, scan_part, scan_plan}
+use Rattle.shm_recover.specs.Scan.{IsIn, IsScanning, LostByScan, ScanDone, ScanEvents, ScanFound, ScanKnows, ScanLeaves, ScanStopped, Scanned, scan_part, scan_plan}
 
 -- ---- where a scan has to go
 
@@ -126,7 +126,7 @@ scanned_torn c m q r s h =
       rows = λ j. let a = h.rows j in let b = s.rows j in omega arith;
     }
 
-lost_same : (bs : List ℕ) (m q r : Memo) → r.dying ≡ q.dying → Lost bs m q → Lost bs m r
+lost_same : (bs : List ℕ) (m q r : Memo) → r.dying ≡ q.dying → LostByScan bs m q → LostByScan bs m r
 lost_same bs m q r e h =
     record {
       found = h.found;

@@ -21,12 +21,11 @@ use Rattle.shm_graph.specs.{declared.memo.Op.TheVariants.Nothing, Asks.{Trail, I
 use Rattle.shm_graph.specs.{Laws.Outcome, MemoAfterStore.not_block, Views.own_word}
 use Rattle.shm_graph.specs.declared.spot.Spot.TheVariants as spot
 use Rattle.shm_graph.specs.Events as event
-use Rattle.shm_steps.specs.WordParts.{TailSlotLoaded}
-use Rattle.shm_steps.proofs.{Cores.here_same, Words.{Own.tail_load, Queues.tail_slot_load}}
-use Rattle.shm_calls.specs.{declared.or.Or.TheVariants.{First, Second}, Proved.CallTells.within_more}
-use Rattle.shm_calls.specs.{Proved.Either.or_part_laws, Either.{or_control, or_part}, Parts.IsHeld}
-use Rattle.shm_calls.specs.Plans.{PlanLaws, PlanStays, IsCall, Follows}
-use Rattle.shm_calls.specs.Words.{word_control, word_part, word_part_laws, WordLeaves}
+use Rattle.kind_parts.specs.WordParts.{TailSlotLoaded}
+use Rattle.kind_parts.proofs.{Cores.here_same, Words.{Own.tail_load, Queues.tail_slot_load}}
+use Rattle.plans.specs.{declared.or.Or.TheVariants.{First, Second}, Proved.{CallTells.within_more, Either.or_part_laws}}
+use Rattle.plans.specs.{Either.{or_control, or_part}, Parts.IsHeld, Plans.{PlanLaws, PlanStays, IsCall, Follows}}
+use Rattle.plans.specs.Words.{word_control, word_part, word_part_laws, WordLeaves}
 use Rattle.shm_count.specs.{declared.answer.EraSpent.EraSpent, CountParts.tear_part, Proved.CountParts.tear_part_laws}
 use Rattle.shm_count.specs.Proved.{Lowering.{dies, torn_leaves, without_new}, Slots.Parts.era_room}
 use Rattle.shm_count.specs.{Slots.{Lost, StepLeft, Parts.{down_slot_laws, down_slot_part}}, Step.Control.IsInside}

@@ -6,9 +6,9 @@ use Rattle.shm_graph.specs.{declared.{ask.Me.Me, spot.Spot.Spot, memo.Memo.Memo,
 use Rattle.shm_graph.specs.{Events.Event, MemoAfterStore.put, Held.HeldAt, Views.{own_word, view}}
 use Rattle.shm_graph.specs.declared.spot.Spot.TheVariants as spot
 use Rattle.shm_graph.specs.Events as event
-use Rattle.shm_steps.specs.Reparting.{sight}
-use Rattle.shm_steps.proofs.Items.{put_at}
-use Rattle.shm_calls.specs.Parts.{IsHeld}
+use Rattle.kind_parts.specs.Reparting.{sight}
+use Rattle.kind_parts.proofs.Items.{put_at}
+use Rattle.plans.specs.Parts.{IsHeld}
 use Rattle.shm_count.specs.{Roots.rest, Slots.{Took, Untouched}, Tear.Events.Walks}
 use Rattle.shm_queue.specs.Proved.QueueSteps.{same_part}
 use Rattle.shm_recover.specs.{Others.other_at, TakeBack.{Back, BackEvents, BacksEvents, TakenBack}}

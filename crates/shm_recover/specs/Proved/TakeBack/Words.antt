@@ -7,7 +7,7 @@ use Rattle.shm_words.proofs.Placing.{address_small, total_small}
 use Rattle.shm_graph.specs.declared.{ask.Me.Me, spot.Spot.TheVariants.{Era, Slot}, memo.Memo.Memo, table.Part.Part}
 use Rattle.shm_graph.specs.{declared.table.Part.TheVariants.{Loose, Table}, Spots.spot_address}
 use Rattle.shm_graph.proofs.Spots.{SpotPlaces.spot-place, Spotting.in_pool}
-use Rattle.shm_steps.specs.Raising.{is_read}
+use Rattle.kind_parts.specs.Raising.{is_read}
 use Rattle.shm_count.specs.{declared.point.{Aim.TheVariants.Down, StepState.StepState}, Slots.MayStepAt, Step.CanStep}
 use Rattle.shm_count.specs.declared.point.StepPoint.TheVariants as point
 use Rattle.shm_recover.specs.TakeBack.Words.{MayBackAt}

@@ -9,18 +9,17 @@ use Rattle.shm_graph.specs.declared.ask.Ask.TheVariants as ask
 use Rattle.shm_graph.specs.Events as event
 use Rattle.shm_words.proofs.Placing.{total_small}
 use Rattle.shm_words.specs.Layout.{total_of, address_limit}
-use Rattle.shm_calls.specs.{declared.or.Or.TheVariants.{First, Second}, Proved.CallTells.within_more}
-use Rattle.shm_calls.specs.{Proved.Either.or_part_laws, Either.{or_control, or_part}, Parts.IsHeld}
-use Rattle.shm_calls.specs.Plans.{PlanLaws, PlanStays, IsCall, Follows}
-use Rattle.shm_calls.specs.Words.{word_control, word_part_laws, WordLeaves}
+use Rattle.plans.specs.{declared.or.Or.TheVariants.{First, Second}, Proved.{CallTells.within_more, Either.or_part_laws}}
+use Rattle.plans.specs.{Either.{or_control, or_part}, Parts.IsHeld, Plans.{PlanLaws, PlanStays, IsCall, Follows}}
+use Rattle.plans.specs.Words.{word_control, word_part_laws, WordLeaves}
 use Rattle.shm_count.specs.{declared.{answer.EraSpent.EraSpent, point.Aim.TheVariants.Down}, CountParts.tear_part}
 use Rattle.shm_count.specs.Proved.{CountParts.tear_part_laws, Lowering.{dies, torn_leaves}, Slots.Parts.era_room}
 use Rattle.shm_count.specs.{Proved.Retaining.remains_core, Slots.{Lost, StepLeft, Took}}
 use Rattle.shm_count.specs.{Slots.Parts.{down_slot_laws, down_slot_part}, Roots.root_word, Step.Control.IsInside}
 use Rattle.shm_count.specs.{Step.Machines.{down_control, down_told}, Tear.Control.tear_control}
 use Rattle.shm_count.specs.Tear.{Events.{Visit, Walks, frees}, TearLeaves}
-use Rattle.shm_steps.proofs.Cores.{here_same}
-use Rattle.shm_steps.specs.WordParts.{OwnLoaded}
+use Rattle.kind_parts.proofs.Cores.{here_same}
+use Rattle.kind_parts.specs.WordParts.{OwnLoaded}
 use Rattle.shm_ref.specs.declared.drop_root.DropPoint.{DropPoint, TheVariants.{Load, Lower, Tear}}
 use Rattle.shm_ref.specs.declared.drop_root.DropState.{DropState}
 use Rattle.shm_ref.specs.DropRoot.Control.{DropAnswer, drop_parts, root_at, drop_call_at, is_load}

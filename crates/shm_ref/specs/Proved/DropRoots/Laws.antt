@@ -10,8 +10,8 @@ use Rattle.shm_ref.specs.DropRoots.Control.{drop_root, dropping_roots, roots_cal
 use Rattle.shm_ref.specs.DropRoots.{AreGone, RootsKnows, RootsLeaves, roots_plan}
 use Rattle.shm_graph.specs.{Bounds.{redo_steps, tear_steps}, declared.{ask.Me.Me, memo.Memo.Memo}, Asks.Trail}
 use Rattle.shm_graph.specs.{Events.Event, Laws.Outcome}
-use Rattle.shm_calls.specs.{Proved.CallTells.within_more, CallsPart.{MayCall, calls_part_laws}}
-use Rattle.shm_calls.specs.Plans.{PlanLaws, PlanStays, Follows}
+use Rattle.plans.specs.{Proved.CallTells.within_more, CallsPart.{MayCall, calls_part_laws}}
+use Rattle.plans.specs.Plans.{PlanLaws, PlanStays, Follows}
 use Rattle.shm_count.specs.{declared.answer.EraSpent.EraSpent, Roots.root_word, Tear.Events.frees}
 
 -- the next root

@@ -8,9 +8,9 @@ use Rattle.shm_graph.specs.{Laws.{Outcome, framed}, Spots.spot_at, Views.own_wor
 use Rattle.shm_graph.proofs.{StepKinds.LoadKeeping.lost_kept, Spots.{SpotPlaces.spot-place, Spotting.same_spot_self}}
 use Rattle.shm_words.specs.Layout.{address}
 use Rattle.shm_words.specs.declared.place.Place.TheVariants as place
-use Rattle.shm_steps.proofs.{OwnStores.hold_stored, PageSteps.latched, Cores.{called_core, here_same}}
-use Rattle.shm_calls.specs.Plans.{PlanLaws, PlanStays, Follows}
-use Rattle.shm_calls.specs.{Words.{word_control, word_part, word_part_laws, IsWord}, Proved.WordSteps.word_at}
+use Rattle.kind_parts.proofs.{OwnStores.hold_stored, PageSteps.latched, Cores.{called_core, here_same}}
+use Rattle.plans.specs.{Plans.{PlanLaws, PlanStays, Follows}, Words.{word_control, word_part, word_part_laws, IsWord}}
+use Rattle.plans.specs.Proved.WordSteps.{word_at}
 use Rattle.shm_ref.specs.declared.hold.{HoldPoint.{HoldPoint, TheVariants.{Want, Take, Back}}, HoldState.HoldState}
 use Rattle.shm_ref.specs.Proved.AskedParts.{asked_part_laws, one_more}
 use Rattle.shm_ref.specs.Hold.Control.{holding, hold_ask, hold_call, is_want, hold_steered}

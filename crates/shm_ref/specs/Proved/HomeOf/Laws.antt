@@ -5,13 +5,13 @@ use Rattle.std.specs.Prelude.{◌==◌, if◌then◌else◌, None, Some, Err}
 use Rattle.shm_words.specs.Layout.{total_of, address_limit}
 use Rattle.shm_graph.specs.{declared.{spot.Spot.TheVariants.{Hold, Home}, memo.Memo.Memo}, Asks.Trail, Core.core}
 use Rattle.shm_graph.specs.{Events.Event, Laws.Outcome, Reach.is_reached, Views.own_word}
-use Rattle.shm_steps.proofs.{Cores.core_cond, Words.{Own.hold_load, Shared.home_look}}
-use Rattle.shm_calls.specs.{Parts.IsHeld, Plans.{PlanLaws, PlanStays, Follows}}
-use Rattle.shm_calls.specs.Words.{word_control, word_part, word_part_laws}
+use Rattle.kind_parts.proofs.{Cores.core_cond, Words.{Own.hold_load, Shared.home_look}}
+use Rattle.plans.specs.{Parts.IsHeld, Plans.{PlanLaws, PlanStays, Follows}}
+use Rattle.plans.specs.Words.{word_control, word_part, word_part_laws}
 use Rattle.shm_ref.specs.declared.home_of.HomeOfPoint.{HomeOfPoint, TheVariants.{Whose, Find}}
 use Rattle.shm_ref.specs.{declared.home_of.HomeOfState.HomeOfState, Proved.AskedParts.{asked_part_laws, one_more}}
 use Rattle.shm_ref.specs.Proved.ReadParts.{latch_by, looked_reached, reached_room, small_block}
-use Rattle.shm_ref.specs.HomeOf.{HomeOfFound, HomeKnows, HomeLeaves, Found, IsFinding, find_ask, home_of_call, home_of_part, home_of_plan, hold_trail, is_whose}
+use Rattle.shm_ref.specs.HomeOf.{HomeOfFound, HomeKnows, HomeOfLeaves, Found, IsFinding, find_ask, home_of_call, home_of_part, home_of_plan, hold_trail, is_whose}
 use Rattle.shm_ref.specs.ReadParts.{MayAsk}
 
 -- what a word step left, and what it asked
@@ -43,7 +43,7 @@ home_of_laws =
 
     -- the hold word told the latch, or another one
     told : (m : HomeOfState) (r0 r : Memo) (tr : Trail) (es : List Event) (n : ℕ) → MayAsk m.me r0 → m.author < m.me.geometry.clients → n ≡ own_word r0.own (Hold m.me.who) → core r ≡ core r0 → es ≡ [] → tr ≡ hold_trail m.me m.author n
-        → (q : Bool) → (q ≡ true → n ≡ m.author + 1) → (q ≡ false → n ≢ m.author + 1) → Outcome (if q then None else Some (Err (record {}))) (IsFinding m.me m.author r0 r tr es) (HomeLeaves (record m { point = Whose }) r0 r tr es)
+        → (q : Bool) → (q ≡ true → n ≡ m.author + 1) → (q ≡ false → n ≢ m.author + 1) → Outcome (if q then None else Some (Err (record {}))) (IsFinding m.me m.author r0 r tr es) (HomeOfLeaves (record m { point = Whose }) r0 r tr es)
     told m r0 r tr es n may low found cored none trail true mine other =
         record {
           may = may;

@@ -7,11 +7,11 @@ use Rattle.shm_words.specs.Tags.{tag_author, tag_plain, tag_refs}
 use Rattle.shm_graph.specs.declared.{spot.Spot.TheVariants.{Body, Hold, Tag}, memo.{Memo.Memo, Stored.Stored}}
 use Rattle.shm_graph.specs.{Asks.Trail, Core.core, Events.Event, Laws.Outcome, Reach.{is_reached, learnt}}
 use Rattle.shm_graph.specs.{MemoAfterRead.{reference_read, values_read}, Views.own_word}
-use Rattle.shm_steps.specs.WordParts.{as_known}
-use Rattle.shm_steps.proofs.{Cores.core_cond, Covering.reached_told}
-use Rattle.shm_steps.proofs.Words.{Blocks.{idle_settled, reference_load, tag_load}, Own.hold_load}
-use Rattle.shm_calls.specs.{Parts.IsHeld, Plans.{PlanLaws, PlanStays, Follows}}
-use Rattle.shm_calls.specs.Words.{word_control, word_part, word_part_laws}
+use Rattle.kind_parts.specs.WordParts.{as_known}
+use Rattle.kind_parts.proofs.{Cores.core_cond, Covering.reached_told}
+use Rattle.kind_parts.proofs.Words.{Blocks.{idle_settled, reference_load, tag_load}, Own.hold_load}
+use Rattle.plans.specs.{Parts.IsHeld, Plans.{PlanLaws, PlanStays, Follows}}
+use Rattle.plans.specs.Words.{word_control, word_part, word_part_laws}
 use Rattle.shm_count.specs.Tear.Control.{tag_read}
 use Rattle.shm_ref.specs.declared.{answer.LookFault.TheVariants.{NoSuchRef, NotHeld}, look.LookPoint.LookPoint}
 use Rattle.shm_ref.specs.declared.look.{LookPoint.TheVariants.{Shape, Whose, Reference}, LookState.LookState}

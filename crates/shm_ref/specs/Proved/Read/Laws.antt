@@ -5,10 +5,10 @@ use Rattle.std.specs.{Prelude.{if◌then◌else◌, nat_lt, None, Some, Err}, Li
 use Rattle.shm_words.specs.{declared.tag.Tag.Tag as ATag, Tags.{tag_plain, tag_refs}}
 use Rattle.shm_graph.specs.declared.{spot.Spot.TheVariants.{Body, Tag}, memo.{Memo.Memo, Stored.Stored}}
 use Rattle.shm_graph.specs.{Asks.{Trail, pair}, Core.core, Events.Event, Laws.Outcome, Reach.{is_reached, learnt}}
-use Rattle.shm_steps.specs.WordParts.{as_known}
-use Rattle.shm_steps.proofs.{Covering.reached_told, Words.Blocks.{idle_settled, plain_load, tag_load}}
-use Rattle.shm_calls.specs.{Parts.IsHeld, Plans.{PlanLaws, PlanStays, Follows}}
-use Rattle.shm_calls.specs.Words.{word_control, word_part, word_part_laws}
+use Rattle.kind_parts.specs.WordParts.{as_known}
+use Rattle.kind_parts.proofs.{Covering.reached_told, Words.Blocks.{idle_settled, plain_load, tag_load}}
+use Rattle.plans.specs.{Parts.IsHeld, Plans.{PlanLaws, PlanStays, Follows}}
+use Rattle.plans.specs.Words.{word_control, word_part, word_part_laws}
 use Rattle.shm_count.specs.Tear.Control.{tag_read}
 use Rattle.shm_ref.specs.declared.read.{ReadPoint.{ReadPoint, TheVariants.{Shape, Plain}}, ReadState.ReadState}
 use Rattle.shm_ref.specs.Proved.{AskedParts.{asked_part_laws, one_more}, ReadParts.is_tag}

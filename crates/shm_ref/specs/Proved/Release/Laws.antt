@@ -9,10 +9,9 @@ use Rattle.shm_graph.specs.{declared.memo.Op.TheVariants.Nothing, Agents.recover
 use Rattle.shm_graph.specs.{Changes.{called, with_call, with_end}, Events.Event, Laws.framed, Ops.IsUncommitted}
 use Rattle.shm_graph.specs.{Reach.unlatched, Spots.spot_at, Core.core}
 use Rattle.shm_graph.proofs.Spots.SpotPlaces.{spot-place}
-use Rattle.shm_steps.proofs.{LatchBack.latch_back, OwnStores.hold_stored, Cores.{called_core, here_same}}
-use Rattle.shm_calls.specs.Plans.{PlanLaws, PlanStays, Follows}
-use Rattle.shm_calls.specs.Words.{word_control, word_part, word_part_laws, IsWord}
-use Rattle.shm_calls.specs.Proved.WordSteps.{load_at, word_at}
+use Rattle.kind_parts.proofs.{LatchBack.latch_back, OwnStores.hold_stored, Cores.{called_core, here_same}}
+use Rattle.plans.specs.{Plans.{PlanLaws, PlanStays, Follows}, Words.{word_control, word_part, word_part_laws, IsWord}}
+use Rattle.plans.specs.Proved.WordSteps.{load_at, word_at}
 use Rattle.shm_ref.specs.declared.release.ReleasePoint.{ReleasePoint, TheVariants.{Whose, Give, Back}}
 use Rattle.shm_ref.specs.{declared.release.ReleaseState.ReleaseState, Proved.AskedParts.{asked_part_laws, one_more}}
 use Rattle.shm_ref.specs.Hold.{wants}

@@ -5,8 +5,8 @@ use Rattle.shm_words.proofs.Placing.{total_small}
 use Rattle.shm_words.specs.Layout.{address_limit}
 use Rattle.shm_graph.specs.{declared.{memo.Memo.Memo, spot.Spot.TheVariants.Root}, Asks.{Trail, pair}, Events.Event}
 use Rattle.shm_graph.specs.Core.{core}
-use Rattle.shm_steps.specs.WordParts.{OwnLoaded}
-use Rattle.shm_calls.specs.{Parts.IsHeld, Plans.{PlanLaws, Follows}, Words.{word_control, word_part_laws}}
+use Rattle.kind_parts.specs.WordParts.{OwnLoaded}
+use Rattle.plans.specs.{Parts.IsHeld, Plans.{PlanLaws, Follows}, Words.{word_control, word_part_laws}}
 use Rattle.shm_count.specs.Roots.{root_word}
 use Rattle.shm_ref.specs.{declared.root_of.NamingState.NamingState, Proved.AskedParts.{asked_part_laws, one_pair}}
 use Rattle.shm_ref.specs.Proved.RootParts.{load_needs, root_names}

@@ -5,7 +5,7 @@ use Rattle.shm_words.specs.Layout.{address}
 use Rattle.shm_words.specs.declared.place.Place.TheVariants as place
 use Rattle.shm_graph.specs.{declared.{ask.Me.Me, memo.Memo.Memo, spot.Spot.TheVariants.{Era, Root}}, Agents.recovers}
 use Rattle.shm_graph.specs.{Operations.IsReady, Reach.is_reached, Views.own_word}
-use Rattle.shm_calls.specs.{Plans.PlanLaws, Tasks.TaskLaws}
+use Rattle.plans.specs.{Plans.PlanLaws, Tasks.TaskLaws}
 use Rattle.shm_count.specs.declared.point.{Aim.{Aim, TheVariants.{Up, Down, Change}}, Half.TheVariants.First}
 use Rattle.shm_count.specs.Proved.{Idles.{is_here, step_idle}, Slots.Parts.era_room, UpRoot.Laws.reach_inside}
 use Rattle.shm_count.specs.{Roots.root_word, Slots.Parts.{change_slot_laws, down_slot_laws, up_slot_laws}}

@@ -11,10 +11,10 @@ use Rattle.shm_graph.proofs.StepKinds.Loads.{choice}
 use Rattle.shm_words.specs.Layout.{GeometryFits, address, is_in, address_limit}
 use Rattle.shm_words.specs.declared.place.Place.TheVariants as place
 use Rattle.shm_words.proofs.Placing.{address_below, address_small, total_small}
-use Rattle.shm_calls.specs.{declared.or.Or.TheVariants.{First, Second}, Proved.CallTells.within_more}
-use Rattle.shm_calls.specs.{Proved.Either.or_part_laws, Parts.IsHeld, Plans.{PlanLaws, PlanStays, IsCall, Follows}}
-use Rattle.shm_calls.specs.Words.{word_control, word_part_laws, WordLeaves}
-use Rattle.shm_steps.proofs.{Cores.here_same, Reaching.home_reached}
+use Rattle.plans.specs.{declared.or.Or.TheVariants.{First, Second}, Proved.{CallTells.within_more, Either.or_part_laws}}
+use Rattle.plans.specs.{Parts.IsHeld, Plans.{PlanLaws, PlanStays, IsCall, Follows}}
+use Rattle.plans.specs.Words.{word_control, word_part_laws, WordLeaves}
+use Rattle.kind_parts.proofs.{Cores.here_same, Reaching.home_reached}
 use Rattle.shm_count.specs.declared.answer.UpFault.{UpFault, TheVariants.{EraSpent, CountFull}}
 use Rattle.shm_count.specs.{declared.point.Aim.TheVariants.Up, Slots.{StepLeft, Parts.{up_slot_part, up_slot_laws}}}
 use Rattle.shm_count.specs.{Proved.Slots.Parts.era_room, Step.{CanStep, KeepsPart, Machines.{up_control, up_told}}}

@@ -9,8 +9,8 @@ use Rattle.shm_graph.specs.{declared.spot.Spot.TheVariants.{Body, Home, Root, Ta
 use Rattle.shm_graph.specs.Reach.{is_reached, learnt, named_blocks, not_at, reached_blocks, shown}
 use Rattle.shm_graph.specs.{MemoAfterRead.{reference_read, values_read}, Views.own_word}
 use Rattle.shm_graph.proofs.StepKinds.Loads.{choice}
-use Rattle.shm_laws.proofs.Keep.{Contains-filter}
-use Rattle.shm_steps.proofs.{Cores.core_cond, Reaching.look_reached}
+use Rattle.kind_laws.proofs.Lists.{Contains-filter}
+use Rattle.kind_parts.proofs.{Cores.core_cond, Reaching.look_reached}
 use Rattle.shm_count.specs.Proved.Retaining.{named_reached, named_same, slots_learnt}
 use Rattle.shm_count.specs.Tear.Memos.{Knows, is_slot_word}
 use Rattle.shm_ref.specs.SetRef.Memos.{tag_seen, word_seen}

@@ -8,9 +8,9 @@ use Rattle.shm_graph.specs.declared.{ask.Me.Me, memo.{Memo.Memo, Op.TheVariants.
 use Rattle.shm_graph.specs.{declared.table.Part.{Part, TheVariants.{Loose, Table}}, Asks.Trail, Events.Event}
 use Rattle.shm_graph.specs.{Held.is_loose, Reach.is_reached, Views.own_word}
 use Rattle.shm_graph.specs.declared.spot.Spot.TheVariants as spot
-use Rattle.shm_steps.specs.{Beginning.{HasRoom, IsOwnWord}, Conditions.IsHere, Raising.is_read}
-use Rattle.shm_steps.proofs.{BeginWords.{claim_by, listed_told, word_address}, Cores.here_same, Covering.reached_told}
-use Rattle.shm_steps.proofs.Words.{Blocks.{idle_settled, reference_load, tag_load}, Own.hold_load}
+use Rattle.kind_parts.specs.{Beginning.{HasRoom, IsOwnWord}, Conditions.IsHere, Raising.is_read}
+use Rattle.kind_parts.proofs.{BeginWords.{claim_by, listed_told, word_address}, Cores.here_same, Covering.reached_told}
+use Rattle.kind_parts.proofs.Words.{Blocks.{idle_settled, reference_load, tag_load}, Own.hold_load}
 use Rattle.shm_count.specs.declared.point.{Aim.{Aim, TheVariants.{Up, Down, Change}}, Half.TheVariants.First}
 use Rattle.shm_count.specs.{declared.point.StepPoint.TheVariants.Era, Proved.Lowering.dies}
 use Rattle.shm_count.specs.Slots.{IsSlotFor, MayStepAt}

@@ -5,7 +5,7 @@ use Rattle.shm_graph.specs.{declared.memo.Status.TheVariants.{Gone, Live}, Asks.
 use Rattle.shm_count.specs.Roots.{member}
 use Rattle.shm_recover.specs.declared.join.JoinState.{JoinState}
 use Rattle.shm_recover.specs.Join.{JoinFits, JoinGives, is_start, join_control, join_fresh}
-use Rattle.shm_plain.specs.{Calls.{Ran, Took}, Pools.{IsOf, MayStep, memo_of, readied}}
+use Rattle.shm_plain.specs.{Calls.{Ran, TookSteps}, Pools.{IsOf, MayStep, memo_of, readied}}
 use Rattle.shm_alone.proofs.Lasting.{Lasts}
 use Rattle.shm_replay.proofs.{Enough.{answers_in_time, join_lasts}, SomeSteps.some_steps}
 use Rattle.shm_replay.proofs.Visiting.{join_fits, join_in, join_part}
@@ -66,7 +66,7 @@ pub returns-clause-whole : goal.returns-clause-whole
 returns-clause-whole c =
     let call = called (goal.at.returns-clause-whole c).After-unwrap in
     let r = ran call in
-    let took : Took join_control c.args.me.who c.args.pool.now (join_fresh (member c.args.pool.now.start.geometry c.args.me.who)) c.call.new.self = subst (λ (x : JoinState). Took join_control c.args.me.who c.args.pool.now x c.call.new.self) (state (goal.at.After-call call).After-new) (c.call.ensures.took (r.some refl)) in
+    let took : TookSteps join_control c.args.me.who c.args.pool.now (join_fresh (member c.args.pool.now.start.geometry c.args.me.who)) c.call.new.self = subst (λ (x : JoinState). TookSteps join_control c.args.me.who c.args.pool.now x c.call.new.self) (state (goal.at.After-call call).After-new) (c.call.ensures.took (r.some refl)) in
     record {
       start = r.start;
       took = took;

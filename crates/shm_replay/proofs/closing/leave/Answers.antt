@@ -1,12 +1,12 @@
-use Rattle.std.proofs.Common.{◌≡◌, ◌^◌, ◌≤◌, Result, refl, sym, ap, ◌∙◌, subst, arith, ◌+◌, Bool, true, Option}
+use Rattle.std.proofs.Common.{◌≡◌, ◌^◌, ◌≤◌, refl, sym, ap, ◌∙◌, subst, arith, ◌+◌, Bool, true, Option}
 use Rattle.std.specs.{Prelude.{Ok, IfSome, IsSome}, Option.is_some}
 use Rattle.shm_graph.specs.{declared.memo.Memo.Memo, Agents.steps_made, Whole.fits_now}
-use Rattle.shm_calls.specs.{declared.calls.Calls.Calls, CallsControl.{calls_control, calls_of}}
-use Rattle.shm_calls.specs.CallsFit.{CallsFits, CallsGives}
-use Rattle.shm_count.specs.{declared.answer.EraSpent.EraSpent, Roots.member}
+use Rattle.plans.specs.{declared.calls.Calls.Calls, CallsControl.{calls_control, calls_of}}
+use Rattle.plans.specs.CallsFit.{CallsFits, CallsGives}
+use Rattle.shm_count.specs.Roots.{member}
 use Rattle.shm_recover.specs.declared.leave.LeaveState.{LeaveState}
-use Rattle.shm_recover.specs.Leave.{Control.{LeaveAnswer, LeaveCall, leave_parts, leaving, leave_steered}, leave_plan}
-use Rattle.shm_plain.specs.{Calls.{Ran, Took}, Pools.{IsOf, memo_of, readied}}
+use Rattle.shm_recover.specs.Leave.{Control.{LeaveCall, leave_parts, leaving, leave_steered}, leave_plan}
+use Rattle.shm_plain.specs.{Calls.{Ran, TookSteps}, Pools.{IsOf, memo_of, readied}}
 use Rattle.shm_plain.proofs.Calling.{fits_acting, may_acting}
 use Rattle.shm_alone.proofs.Lasting.{Lasts}
 use Rattle.shm_replay.proofs.Visiting.{leave_fits, leave_ok}
@@ -15,7 +15,7 @@ use Rattle.shm_replay.proofs.{Enough.{answers_in_time, leave_lasts}, SomeSteps.s
 use Rattle.shm_replay.proofs.closing.leave.Goals as goal
 
 abbrev Machine : Type 0
-Machine = Calls LeaveState LeaveCall (Result (Unit {0}) EraSpent) LeaveAnswer
+Machine = Calls LeaveState LeaveCall
 
 abbrev machine : (c : After-new-2) → Machine
 machine c = calls_of leave_steered (leaving (member c.args.pool.now.start.geometry c.args.me.who))
@@ -89,7 +89,7 @@ pub returns-clause-whole : goal.returns-clause-whole
 returns-clause-whole c =
     let call = called (goal.at.returns-clause-whole c).After-unwrap-2 in
     let r = ran call in
-    let took : Took (calls_control leave_parts leave_steered) c.args.me.who c.args.pool.now (machine (goal.at.After-call call).After-new-2) c.call.new.self = subst (λ (x : Machine). Took (calls_control leave_parts leave_steered) c.args.me.who c.args.pool.now x c.call.new.self) (state (goal.at.After-call call).After-new-2) (c.call.ensures.took (r.some refl)) in
+    let took : TookSteps (calls_control leave_parts leave_steered) c.args.me.who c.args.pool.now (machine (goal.at.After-call call).After-new-2) c.call.new.self = subst (λ (x : Machine). TookSteps (calls_control leave_parts leave_steered) c.args.me.who c.args.pool.now x c.call.new.self) (state (goal.at.After-call call).After-new-2) (c.call.ensures.took (r.some refl)) in
     record {
       start = r.start;
       took = took;

@@ -1,10 +1,10 @@
 use Rattle.std.proofs.Common.{◌≡◌, ℕ, ◌^◌, ◌<◌, ◌≤◌, Bool, true, ◌++◌, length, refl, sym, ap, ◌∙◌, subst, arith, ◌+◌, Option}
 use Rattle.std.specs.{Prelude.{Ok, IfSome, IsSome}, Option.is_some}
 use Rattle.shm_graph.specs.{declared.memo.Memo.Memo, Agents.steps_made, Asks.call_before, Whole.fits_now}
-use Rattle.shm_calls.specs.{CallsControl.{calls_control, calls_of}, CallsFit.{CallsFits, CallsGives}}
+use Rattle.plans.specs.{CallsControl.{calls_control, calls_of}, CallsFit.{CallsFits, CallsGives}}
 use Rattle.shm_count.specs.Roots.{member}
 use Rattle.shm_recover.specs.Recover.{Control.{recover_parts, recovering, recover_steered}, recover_plan}
-use Rattle.shm_plain.specs.{Calls.{Ran, Took}, Pools.{IsOf, memo_of, readied}}
+use Rattle.shm_plain.specs.{Calls.{Ran, TookSteps}, Pools.{IsOf, memo_of, readied}}
 use Rattle.shm_alone.proofs.Lasting.{Lasts}
 use Rattle.shm_agents.specs.Work.{RecoverCalls}
 use Rattle.shm_replay.proofs.Aside.{told_first}
@@ -92,7 +92,7 @@ pub returns-clause-whole : goal.returns-clause-whole
 returns-clause-whole c =
     let call = called (goal.at.returns-clause-whole c).After-unwrap-2 in
     let r = ran call in
-    let took : Took (calls_control recover_parts recover_steered) c.args.me.who c.args.pool.now (machine (goal.at.After-call call).After-new-2) c.call.new.self = subst (λ (x : RecoverCalls). Took (calls_control recover_parts recover_steered) c.args.me.who c.args.pool.now x c.call.new.self) (state (goal.at.After-call call).After-new-2) (c.call.ensures.took (r.some refl)) in
+    let took : TookSteps (calls_control recover_parts recover_steered) c.args.me.who c.args.pool.now (machine (goal.at.After-call call).After-new-2) c.call.new.self = subst (λ (x : RecoverCalls). TookSteps (calls_control recover_parts recover_steered) c.args.me.who c.args.pool.now x c.call.new.self) (state (goal.at.After-call call).After-new-2) (c.call.ensures.took (r.some refl)) in
     record {
       start = r.start;
       took = took;

@@ -3,7 +3,7 @@ use Rattle.std.proofs.lemmas.{Bool.cases_eq, Option.{get_or_from_slice_get, slic
 use Rattle.std.specs.Prelude.{Some, None, slice_get, slice_index_or}
 use Rattle.shm_graph.specs.{declared.{memo.Status.TheVariants.Gone, run.Account.Account}, Held.is_loose}
 use Rattle.shm_graph.specs.Runs.{account_at}
-use Rattle.shm_steps.specs.Reparting.{map_in}
+use Rattle.kind_parts.specs.Reparting.{map_in}
 use Rattle.shm_plain.specs.Pools.{memo_of}
 use Rattle.shm_replay.specs.Closings.{AreVisits, HasTold, IsVisit, MayVisit, SameTable, is_dead}
 use Rattle.shm_replay.proofs.{Visited.table_then, Visiting.visits_more}

@@ -9,11 +9,7 @@ use Rattle.shm_table.proofs.effects.command_lines.Goals as goal
 
 pub returns-clause-begun : goal.returns-clause-begun
 returns-clause-begun c me (line.Put key n) = refl
-returns-clause-begun c me (line.Copy key a other) = refl
-returns-clause-begun c me (line.Del key) = refl
-returns-clause-begun c me (line.Get a key) = refl
-returns-clause-begun c me (line.Send to key) = refl
-returns-clause-begun c me (line.Recv from key) = refl
+returns-clause-begun c me _ = refl
 
 pub returns-clause-stays : goal.returns-clause-stays
 returns-clause-stays c m n going =

@@ -10,8 +10,7 @@ use Rattle.shm_table.proofs.opening.open_table_tells.Goals as goal
 -- no allocation is refused since a count is full
 not_full : (a : AllocFault) (b n : ℕ) → CountFull b n ≡ made_fault a → ⊥
 not_full (EraSpent e) b n is = cc
-not_full RootsFull b n is = cc
-not_full (Full s u) b n is = cc
+not_full _ b n is = cc
 
 never : (me : Me) (r0 r : Memo) (es : List Event) (vs : List Visit) (b n : ℕ) → OpenLeft me r0 r es vs (CountFull b n) → ⊥
 never me r0 r es vs b n (Unmade a is cleared home none all) = not_full a b n is

@@ -1,6 +1,6 @@
 use Rattle.std.proofs.{Common.{◌≡◌, ◌≢◌, refl, true, List, None}, lemmas.Bool.false≢true}
 use Rattle.shm_graph.specs.{declared.memo.Memo.Memo, Asks.Trail, Events.Event}
-use Rattle.shm_steps.specs.Reparting.{map_in}
+use Rattle.kind_parts.specs.Reparting.{map_in}
 use Rattle.shm_script.specs.declared.log.Answer.{Answer}
 use Rattle.shm_script.specs.declared.log.Answer.TheVariants as answer
 use Rattle.shm_table.specs.{declared.{answer.PutFault.PutFault, copy.CopyState.CopyState}, Answers.fault_answer}
@@ -25,9 +25,7 @@ by_fault m r0 r tr es (answer.Value x b) is n h = absurd (false≢true is)
 -- and their cause
 caused : (m : CopyState) (r0 r : Memo) (tr : Trail) (es : List Event) (f : PutFault) → CopyLeaves m r0 r tr es (fault_answer f) → CommandCause m.me r0 r f
 caused m r0 r tr es (fault.EraSpent e) h = h.cause
-caused m r0 r tr es fault.RootsFull h = h.cause
-caused m r0 r tr es (fault.Full s b) h = h.cause
-caused m r0 r tr es (fault.CountFull b n) h = h.cause
+caused m r0 r tr es _ h = h.cause
 
 -- with any other answer the own map has the other key
 has : (m : CopyState) (r0 r : Memo) (tr : Trail) (es : List Event) (a : Answer) → a ≢ answer.Missing → CopyLeaves m r0 r tr es a → m.author ≡ m.me.who → map_in r0.part m.other ≢ None

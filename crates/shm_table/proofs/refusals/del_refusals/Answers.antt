@@ -2,7 +2,7 @@ use Rattle.std.proofs.Common.{◌≡◌, ◌≢◌, ℕ, zero, suc, ◌-◌, ◌
 use Rattle.std.proofs.lemmas.Bool.{false≢true}
 use Rattle.shm_graph.specs.{declared.{memo.Memo.Memo, spot.Spot.TheVariants.Era}, Asks.Trail, Events.Event}
 use Rattle.shm_graph.specs.Views.{own_word}
-use Rattle.shm_steps.specs.Reparting.{map_in}
+use Rattle.kind_parts.specs.Reparting.{map_in}
 use Rattle.shm_count.specs.{declared.answer.UpFault.TheVariants.{EraSpent, CountFull}, Slots.StepCause}
 use Rattle.shm_script.specs.declared.log.Answer.{Answer}
 use Rattle.shm_script.specs.declared.log.Answer.TheVariants as answer

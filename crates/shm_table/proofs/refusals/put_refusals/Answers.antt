@@ -23,9 +23,7 @@ by_fault m r0 r tr es (answer.Value x b) is h = absurd (false≢true is)
 -- and their cause
 caused : (m : PutState) (r0 r : Memo) (tr : Trail) (es : List Event) (f : PutFault) → PutLeaves m r0 r tr es (fault_answer f) → CommandCause m.me r0 r f
 caused m r0 r tr es (fault.EraSpent e) h = h.cause
-caused m r0 r tr es fault.RootsFull h = h.cause
-caused m r0 r tr es (fault.Full s b) h = h.cause
-caused m r0 r tr es (fault.CountFull b n) h = h.cause
+caused m r0 r tr es _ h = h.cause
 
 pub returns-clause-answers : goal.returns-clause-answers
 returns-clause-answers c m r0 r tr es a is h = by_fault m r0 r tr es a is h

@@ -25,9 +25,7 @@ by_fault m r0 r tr es (answer.Value x b) is n h = absurd (false≢true is)
 -- and their cause
 caused : (m : RecvState) (r0 r : Memo) (tr : Trail) (es : List Event) (f : PutFault) → RecvLeaves m r0 r tr es (fault_answer f) → CommandCause m.me r0 r f
 caused m r0 r tr es (fault.EraSpent e) h = h.cause
-caused m r0 r tr es fault.RootsFull h = h.cause
-caused m r0 r tr es (fault.Full s b) h = h.cause
-caused m r0 r tr es (fault.CountFull b n) h = h.cause
+caused m r0 r tr es _ h = h.cause
 
 -- with any other answer an item waits
 above : (m : RecvState) (r0 : Memo) → IsWaited m.me m.from r0 → (y : ℕ) × (q : Memo) × Contains q.facts (Counter (Tail m.from m.me.who) y) × (own_word r0.own (QueueHead m.from m.me.who) < y)

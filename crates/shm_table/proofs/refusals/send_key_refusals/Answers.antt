@@ -1,6 +1,6 @@
 use Rattle.std.proofs.{Common.{◌≡◌, ◌≢◌, ap, ◌∙◌, sym, refl, true, List, [], Some, None}, lemmas.Bool.false≢true}
 use Rattle.shm_graph.specs.{declared.memo.Memo.Memo, Asks.Trail, Events.Event}
-use Rattle.shm_steps.specs.Reparting.{map_in}
+use Rattle.kind_parts.specs.Reparting.{map_in}
 use Rattle.shm_script.specs.declared.log.Answer.{Answer}
 use Rattle.shm_script.specs.declared.log.Answer.TheVariants as answer
 use Rattle.shm_table.specs.{declared.send_key.SendKeyState.SendKeyState, Refusals.is_refusal, SendKey.SendKeyLeaves}

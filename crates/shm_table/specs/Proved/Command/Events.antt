@@ -3,8 +3,8 @@ use Rattle.std.proofs.Common.{◌≡◌, ℕ, refl, ap, ◌∙◌, List, [], ◌
 use Rattle.std.specs.List.{filter}
 use Rattle.shm_graph.specs.{Asks.Trail, Events.Event, Laws.Control, Mapped.mapped}
 use Rattle.shm_graph.specs.Tells.{happens_along, is_event, tells_along}
-use Rattle.shm_calls.specs.{declared.or.Or.TheVariants.{First, Second}, CallsControl.calls_does}
-use Rattle.shm_calls.specs.Either.{or_control, or_does}
+use Rattle.plans.specs.{declared.or.Or.TheVariants.{First, Second}, CallsControl.calls_does}
+use Rattle.plans.specs.Either.{or_control, or_does}
 use Rattle.shm_table.specs.Command.{CommandCall, command_control, command_does, command_parts, given}
 use Rattle.shm_table.specs.{CopyKey.{Control.{CopyCalls, copy_parts}, copy_plan}, Del.Control.{DelCalls, del_parts}}
 use Rattle.shm_table.specs.{Del.del_plan, Get.{Control.{GetCalls, get_parts}, get_plan}, Machines.Change.del}

@@ -3,10 +3,10 @@ use Rattle.std.proofs.Common.{◌≡◌, ℕ, sym, ap, ◌∙◌, subst}
 use Rattle.std.specs.{Prelude.{Option, Some, None}, Option.option_map}
 use Rattle.shm_graph.specs.declared.{ask.{Me.Me, Turn.{Turn, TheVariants.{Done, More, Died}}}, memo.Memo.Memo}
 use Rattle.shm_graph.specs.{Asks.Trail, Laws.{Laws, turn_of}, Proved.Mapped.mapped_laws, Tells.Tells}
-use Rattle.shm_calls.specs.{declared.or.Or.TheVariants.{First, Second}, CallsControl.calls_does}
-use Rattle.shm_calls.specs.{CallsFit.{CallsFits, CallsGives}, Proved.CallsKeep.{calls_laws, calls_tells}}
-use Rattle.shm_calls.specs.{Proved.Either.{or_laws, or_tells}, Either.{OrFits, OrGives, or_control, or_does}}
-use Rattle.shm_calls.specs.Plans.{PlanLaws}
+use Rattle.plans.specs.{declared.or.Or.TheVariants.{First, Second}, CallsControl.calls_does}
+use Rattle.plans.specs.{CallsFit.{CallsFits, CallsGives}, Proved.CallsKeep.{calls_laws, calls_tells}}
+use Rattle.plans.specs.{Proved.Either.{or_laws, or_tells}, Either.{OrFits, OrGives, or_control, or_does}}
+use Rattle.plans.specs.Plans.{PlanLaws}
 use Rattle.shm_script.specs.declared.log.Answer.{Answer}
 use Rattle.shm_script.specs.declared.line.Line.TheVariants as line
 use Rattle.shm_table.specs.Machines.{Change.{DelGives, del}, Copy.{CopyGives, copy_control}, Put.{PutGives, put}}

@@ -2,9 +2,9 @@
 use Rattle.std.proofs.Common.{◌≡◌, false, true, List, [], refl, sym, subst}
 use Rattle.shm_graph.specs.{declared.{ask.Me.Me, memo.Memo.Memo}, Asks.Trail, Events.Event, Idle.IsIdle}
 use Rattle.shm_graph.specs.{Operations.{IsReady, OperationLaws}, Tells.happens_along}
-use Rattle.shm_calls.specs.{declared.or.Or.TheVariants.{First, Second}, CallsControl.calls_does}
-use Rattle.shm_calls.specs.{CallsFit.{CallsFits, CallsGives}, Plans.PlanLaws, Tasks.{CallsLeave, CallsMay}}
-use Rattle.shm_calls.specs.Proved.Tasks.{calls_operation}
+use Rattle.plans.specs.{declared.or.Or.TheVariants.{First, Second}, CallsControl.calls_does}
+use Rattle.plans.specs.{CallsFit.{CallsFits, CallsGives}, Plans.PlanLaws, Tasks.{CallsLeave, CallsMay}}
+use Rattle.plans.specs.Proved.Tasks.{calls_operation}
 use Rattle.shm_script.specs.declared.{line.Line.Line, log.Answer.Answer}
 use Rattle.shm_script.specs.declared.line.Line.TheVariants as line
 use Rattle.shm_table.specs.Proved.Command.Events.{copies_happen, dels_happen, gets_happen, puts_happen, recvs_happen, sends_happen}

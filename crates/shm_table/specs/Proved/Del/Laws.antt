@@ -6,12 +6,11 @@ use Rattle.shm_words.proofs.Placing.{total_small}
 use Rattle.shm_graph.specs.declared.{ask.Me.Me, memo.Memo.Memo, spot.Spot.TheVariants.{Body, Era, Home}}
 use Rattle.shm_graph.specs.{declared.table.Part.Part as TablePart, Agents.recovers, Asks.{Trail, IsWithin}}
 use Rattle.shm_graph.specs.{Bounds.{change_steps, tear_steps, redo_steps}, Events.Event, Views.own_word}
-use Rattle.shm_calls.specs.{declared.or.Or.TheVariants.{First, Second}, Proved.CallTells.within_more}
-use Rattle.shm_calls.specs.{Proved.Either.or_part_laws, CallsPart.{calls_part, calls_part_laws}}
-use Rattle.shm_calls.specs.{Either.{or_control, or_part}, Parts.IsHeld, Plans.{PlanLaws, PlanStays, IsCall, Follows}}
-use Rattle.shm_calls.specs.Words.{word_control}
-use Rattle.shm_steps.specs.{Beginning.IsOwnWord, Reparting.{sight, map_in}}
-use Rattle.shm_steps.proofs.{Partitions.{Seeking.seek_own, Walked.walk_has}, Words.Blocks.told_inside}
+use Rattle.plans.specs.{declared.or.Or.TheVariants.{First, Second}, Proved.{CallTells.within_more, Either.or_part_laws}}
+use Rattle.plans.specs.{CallsPart.{calls_part, calls_part_laws}, Either.{or_control, or_part}, Parts.IsHeld}
+use Rattle.plans.specs.{Plans.{PlanLaws, PlanStays, IsCall, Follows}, Words.word_control}
+use Rattle.kind_parts.specs.{Beginning.IsOwnWord, Reparting.{sight, map_in}}
+use Rattle.kind_parts.proofs.{Partitions.{Seeking.seek_own, Walked.walk_has}, Words.Blocks.told_inside}
 use Rattle.shm_count.specs.declared.{answer.UpFault.{UpFault, TheVariants.{CountFull, EraSpent}}, point.Aim.Aim}
 use Rattle.shm_count.specs.{Slots.StepCause, Tear.Events.{Visit, frees}}
 use Rattle.shm_script.specs.declared.log.Answer.{Answer}

@@ -8,9 +8,8 @@ use Rattle.shm_graph.specs.{declared.{memo.Memo.Memo, spot.Spot.Spot}, Agents.re
 use Rattle.shm_graph.specs.{Bounds.{alloc_steps, change_steps, up_steps}, Events.Event}
 use Rattle.shm_graph.specs.declared.spot.Spot.TheVariants as spot
 use Rattle.shm_graph.specs.Events as event
-use Rattle.shm_calls.specs.{declared.or.Or.TheVariants.{First, Second}, Proved.CallTells.within_more}
-use Rattle.shm_calls.specs.{Proved.Either.or_part_laws, Either.{or_control, or_part}, Parts.IsHeld}
-use Rattle.shm_calls.specs.Plans.{PlanLaws, PlanStays, IsCall, Follows}
+use Rattle.plans.specs.{declared.or.Or.TheVariants.{First, Second}, Proved.{CallTells.within_more, Either.or_part_laws}}
+use Rattle.plans.specs.{Either.{or_control, or_part}, Parts.IsHeld, Plans.{PlanLaws, PlanStays, IsCall, Follows}}
 use Rattle.shm_count.specs.{declared.{answer.{Made.Made, UpFault.UpFault}, point.Aim.Aim}, Slots.StepLeft}
 use Rattle.shm_count.specs.Slots.Parts.{change_slot_laws, change_slot_part, up_slot_laws, up_slot_part}
 use Rattle.shm_count.specs.Step.{Control.step_control, Machines.{up_control, up_told}}

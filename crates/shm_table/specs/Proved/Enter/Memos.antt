@@ -7,11 +7,11 @@ use Rattle.shm_graph.specs.{Agents.recovers, Asks.{Trail, IsWithin}, Bounds.allo
 use Rattle.shm_graph.specs.{MemoAfterStore.is_of, Views.{own_word, view}}
 use Rattle.shm_graph.specs.declared.spot.Spot.TheVariants as spot
 use Rattle.shm_graph.proofs.States.Holders.{target_counted}
-use Rattle.shm_calls.specs.Parts.{IsHeld}
-use Rattle.shm_steps.specs.{Beginning.IsOwnWord, Reparting.{sight, IsKnown, IsTagged, IsValue, TableStep}}
-use Rattle.shm_steps.specs.{Reparting.TableStep.{Prepares, Links}, Walking.{IsComing, IsVacant}}
-use Rattle.shm_steps.proofs.{BeginAt.{SlotHas, word_target}, BeginWords.own_word_has, Reaching.root_reached}
-use Rattle.shm_steps.proofs.Partitions.{Seeking.learnt_other, Words.tagged_word}
+use Rattle.plans.specs.Parts.{IsHeld}
+use Rattle.kind_parts.specs.{Beginning.IsOwnWord, Reparting.{sight, IsKnown, IsTagged, IsValue, TableStep}}
+use Rattle.kind_parts.specs.{Reparting.TableStep.{Prepares, Links}, Walking.{IsComing, IsVacant}}
+use Rattle.kind_parts.proofs.{BeginAt.{SlotHas, word_target}, BeginWords.own_word_has, Reaching.root_reached}
+use Rattle.kind_parts.proofs.Partitions.{Seeking.learnt_other, Words.tagged_word}
 use Rattle.shm_count.specs.{declared.{answer.{Made.Made, UpFault.UpFault}, point.Aim.Aim}, Roots.root_word}
 use Rattle.shm_count.specs.{Slots.{Filled, Lost, StepCause, Untouched}, Step.Control.IsInside}
 use Rattle.shm_count.specs.{Step.Parts.{Raised, part_after}, Tear.Memos.Knows}

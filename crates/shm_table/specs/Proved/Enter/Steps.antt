@@ -5,11 +5,11 @@ use Rattle.shm_words.proofs.Placing.{total_small}
 use Rattle.shm_graph.specs.{declared.{ask.Me.Me, memo.{Memo.Memo, Op.TheVariants.Nothing}}, Agents.recovers}
 use Rattle.shm_graph.specs.{Idle.IsIdle, Ops.cover_of, Reach.is_reached, Spots.spot_address, Views.own_word}
 use Rattle.shm_graph.specs.declared.spot.Spot.TheVariants as spot
-use Rattle.shm_calls.specs.Parts.{IsHeld}
-use Rattle.shm_steps.specs.{Beginning.IsOwnWord, Conditions.IsHere, Reparting.{sight, IsKnown, IsValue}}
-use Rattle.shm_steps.specs.Walking.{IsComing, IsVacant}
-use Rattle.shm_steps.proofs.{BeginWords.word_address, Reaching.{home_reached, root_reached}}
-use Rattle.shm_steps.proofs.Partitions.{Words.{directory_word, tagged_word}, Walked.{first_other, new_not_home}}
+use Rattle.plans.specs.Parts.{IsHeld}
+use Rattle.kind_parts.specs.{Beginning.IsOwnWord, Conditions.IsHere, Reparting.{sight, IsKnown, IsValue}}
+use Rattle.kind_parts.specs.Walking.{IsComing, IsVacant}
+use Rattle.kind_parts.proofs.{BeginWords.word_address, Reaching.{home_reached, root_reached}}
+use Rattle.kind_parts.proofs.Partitions.{Words.{directory_word, tagged_word}, Walked.{first_other, new_not_home}}
 use Rattle.shm_count.specs.declared.point.{Aim.{Aim, TheVariants.{Up, Change as ToChange}}, StepPoint.TheVariants.Era}
 use Rattle.shm_count.specs.Proved.Carrying.{link_fills, link_replaces, next_filled, next_fills, value_filled, value_fills}
 use Rattle.shm_count.specs.{Proved.Slots.Parts.era_room, Roots.root_word, Slots.MayStepAt, Step.{CanStep, Parts.Raised}}

@@ -8,12 +8,11 @@ use Rattle.shm_graph.specs.{declared.spot.Spot.TheVariants.{Body, Era, Home, Roo
 use Rattle.shm_graph.specs.{Asks.{Trail, IsWithin}, Bounds.up_steps, Events.Event, Trails.{Answers, Asked}}
 use Rattle.shm_graph.specs.Views.{own_word}
 use Rattle.shm_graph.specs.Events as event
-use Rattle.shm_calls.specs.{declared.or.Or.TheVariants.{First, Second}, Proved.CallTells.within_more}
-use Rattle.shm_calls.specs.{Proved.Either.or_part_laws, CallsPart.{calls_part, calls_part_laws}}
-use Rattle.shm_calls.specs.{Either.{or_control, or_part}, Parts.IsHeld, Plans.{PlanLaws, PlanStays, IsCall, Follows}}
-use Rattle.shm_calls.specs.Words.{word_control, word_part, word_part_laws}
-use Rattle.shm_steps.specs.WordParts.{ReferenceLoaded, WordLoaded}
-use Rattle.shm_steps.proofs.{Reaching.look_reached, Words.Blocks.{idle_settled, plain_load, reference_load}}
+use Rattle.plans.specs.{declared.or.Or.TheVariants.{First, Second}, Proved.{CallTells.within_more, Either.or_part_laws}}
+use Rattle.plans.specs.{CallsPart.{calls_part, calls_part_laws}, Either.{or_control, or_part}, Parts.IsHeld}
+use Rattle.plans.specs.{Plans.{PlanLaws, PlanStays, IsCall, Follows}, Words.{word_control, word_part, word_part_laws}}
+use Rattle.kind_parts.specs.WordParts.{ReferenceLoaded, WordLoaded}
+use Rattle.kind_parts.proofs.{Reaching.look_reached, Words.Blocks.{idle_settled, plain_load, reference_load}}
 use Rattle.shm_count.specs.{declared.answer.ShareFault.ShareFault, UpRoot.UpRootLeaves}
 use Rattle.shm_count.specs.UpRoot.AsPart.{up_root, up_root_part}
 use Rattle.shm_count.specs.Proved.UpRoot.AsPart.{may_up_root, rooted_root, up_root_bound}
@@ -35,7 +34,7 @@ use Rattle.shm_table.specs.Proved.PutRoot.Steps.{same_more, same_part, search_mo
 use Rattle.shm_table.specs.Proved.Staying.Laws.{cause_before, cause_later, cleared_more, keeps_core, keeps_more, keeps_unlatched, keeps_untouched, rests_core, rests_untouched, unlatched_else}
 use Rattle.shm_table.specs.Proved.{Unlatch.Laws.{unlatch_begin, unlatch_laws}, ValuesListed.idle_here}
 use Rattle.shm_table.specs.{Find.Control.word_ask, Get.IsReading, Locate.Control.{locate_parts, locate_control}}
-use Rattle.shm_table.specs.{Locate.{Located, MayLocate, locate_plan}, Staying.{Keeps, PutCause, Laws.Rests}}
+use Rattle.shm_table.specs.{Locate.{Located, MayLocate, locate_plan}, Staying.{Keeps, PutCause, Laws.KeepsRest}}
 use Rattle.shm_table.specs.Unlatch.{MayUnlatch, Unlatched, unlatch_plan, Control.unlatch_control}
 use Rattle.shm_table.specs.declared.get.GetPoint.TheVariants as get
 
@@ -131,7 +130,7 @@ module _ (m : FetchState) (r0 rs r : Memo) (tr t : Trail) (es ds : List Event) (
         }
 
     -- it got none, and nothing was done
-    unrooted : (f : PutFault) → Keeps c rs r → Rests c rs r → PutCause m.me rs r f → ds ≡ [] → IsWithin (up_steps m.me.geometry.wide + 16) t → GiveKnows m (Refused f) r0 r (tr ++ t) (es ++ ds)
+    unrooted : (f : PutFault) → Keeps c rs r → KeepsRest c rs r → PutCause m.me rs r f → ds ≡ [] → IsWithin (up_steps m.me.geometry.wide + 16) t → GiveKnows m (Refused f) r0 r (tr ++ t) (es ++ ds)
     unrooted f keeps rests cause none bound =
         let clear = clear_reading m.me a r0 rs reading in
         let b = within_more (6 + 2 * on.keys) (up_steps m.me.geometry.wide + 16) tr t on.bound bound in

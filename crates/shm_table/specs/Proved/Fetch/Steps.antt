@@ -12,9 +12,9 @@ use Rattle.shm_graph.specs.{Reach.learnt, Chains.part_set, Ops.{cover, Cover.On}
 use Rattle.shm_graph.specs.{MemoAfterRead.{is_entry, valued, values_read}, Spots.same_spot}
 use Rattle.shm_graph.specs.{Telling.{Entry as AnEntry, Value as AValue, role_in, roles}, Trails.{Answers, Asked}}
 use Rattle.shm_graph.specs.Views.{own_word}
-use Rattle.shm_calls.specs.{Proved.CallTells.within_more, Parts.IsHeld}
-use Rattle.shm_steps.specs.{Reparting.{sight, map_in, IsValue}, Walking.IsIn, WordParts.ReferenceLoaded}
-use Rattle.shm_steps.proofs.Partitions.Seeking.{learnt_here}
+use Rattle.plans.specs.{Proved.CallTells.within_more, Parts.IsHeld}
+use Rattle.kind_parts.specs.{Reparting.{sight, map_in, IsValue}, Walking.IsIn, WordParts.ReferenceLoaded}
+use Rattle.kind_parts.proofs.Partitions.Seeking.{learnt_here}
 use Rattle.shm_count.specs.{Roots.root_word, Slots.Filled}
 use Rattle.shm_ref.specs.Proved.AskedParts.{one_pair}
 use Rattle.shm_table.specs.declared.{find.Found.TheVariants.At, get.{GetPoint.TheVariants.Number, GetState.GetState}}

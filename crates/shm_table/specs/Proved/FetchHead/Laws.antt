@@ -9,13 +9,13 @@ use Rattle.shm_graph.specs.{Agents.recovers, Asks.{Trail, IsWithin}, Bounds.up_s
 use Rattle.shm_graph.specs.{Held.is_loose, Idle.IsIdle, Laws.Outcome, Telling.{Value as AValue, shaped}, Views.own_word}
 use Rattle.shm_graph.specs.declared.spot.Spot.TheVariants as spot
 use Rattle.shm_graph.proofs.StepKinds.Loads.{choice}
-use Rattle.shm_calls.specs.{declared.{or.Or.TheVariants.{First, Second}, word.Word.Word}, Proved.CallTells.within_more}
-use Rattle.shm_calls.specs.{Proved.{Either.or_part_laws, Grown.grown_laws}, Either.or_part, Grown.Grows, Parts.IsHeld}
-use Rattle.shm_calls.specs.Plans.{PlanLaws, PlanStays, IsCall, Follows}
-use Rattle.shm_calls.specs.Words.{word_control, word_part, word_part_laws, WordLeaves}
-use Rattle.shm_steps.specs.WordParts.{HeadSlotLoaded, WordLoaded}
-use Rattle.shm_steps.proofs.{Covering.value_told, Words.{Blocks.{idle_settled, plain_load, told_inside}, Own.head_load}}
-use Rattle.shm_steps.proofs.Words.Queues.{head_slot_load}
+use Rattle.plans.specs.{declared.{or.Or.TheVariants.{First, Second}, word.Word.Word}, Proved.CallTells.within_more}
+use Rattle.plans.specs.{Proved.{Either.or_part_laws, Grown.grown_laws}, Either.or_part, Grown.Grows, Parts.IsHeld}
+use Rattle.plans.specs.Plans.{PlanLaws, PlanStays, IsCall, Follows}
+use Rattle.plans.specs.Words.{word_control, word_part, word_part_laws, WordLeaves}
+use Rattle.kind_parts.specs.WordParts.{HeadSlotLoaded, WordLoaded}
+use Rattle.kind_parts.proofs.{Covering.value_told, Words.Blocks.{idle_settled, plain_load, told_inside}}
+use Rattle.kind_parts.proofs.Words.{Own.head_load, Queues.head_slot_load}
 use Rattle.shm_count.specs.{declared.answer.ShareFault.ShareFault, Roots.{rest, root_word}, UpRoot.UpRootLeaves}
 use Rattle.shm_count.specs.UpRoot.AsPart.{up_root, up_root_part}
 use Rattle.shm_count.specs.Proved.UpRoot.AsPart.{may_up_root, rooted_root, up_root_bound}
@@ -33,7 +33,7 @@ use Rattle.shm_table.specs.Proved.Fetch.Steps.{idle_more, keeps_root, root_other
 use Rattle.shm_table.specs.Proved.{Find.SearchLoads.learnt_keeps, Get.UnderLatch.word_more, PutRoot.Steps.same_part}
 use Rattle.shm_table.specs.Proved.Staying.Laws.{cause_before, cleared_more, keeps_core, keeps_more, keeps_rest, keeps_untouched, rests_core, rests_untouched, value_by}
 use Rattle.shm_table.specs.{Proved.ValuesListed.idle_here, Get.UnderLatch.ReadsMore, Staying.{Keeps, PutCause}}
-use Rattle.shm_table.specs.Staying.Laws.{Rests}
+use Rattle.shm_table.specs.Staying.Laws.{KeepsRest}
 
 -- ---- reading
 
@@ -56,7 +56,7 @@ keeps_reads c m r h idle =
     (λ p x s k. h.known (record { spot = p; value = x }) k)
     (λ k v n l some root a. value_by c m r v n (h.values v) (h.known (record { spot = spot.Body v 0; value = n })) a)
 
-rests_reads : (c : ℕ) (m r : Memo) → ReadsMore m r → Rests c m r
+rests_reads : (c : ℕ) (m r : Memo) → ReadsMore m r → KeepsRest c m r
 rests_reads c m r h =
     record {
       latch = ap (λ (x : Memo). x.latch) h.memo;
@@ -146,7 +146,7 @@ module _ (m : FetchHeadState) (r0 rs r : Memo) (tr t : Trail) (es ds : List Even
     before : Keeps c r0 rs
     before = keeps_reads c r0 rs h.at.reads h.may.idle
 
-    rests : Rests c r0 rs
+    rests : KeepsRest c r0 rs
     rests = rests_reads c r0 rs h.at.reads
 
     idle : IsIdle c rs
@@ -178,7 +178,7 @@ module _ (m : FetchHeadState) (r0 rs r : Memo) (tr t : Trail) (es ds : List Even
         }
 
     -- it got none, and nothing was done
-    unrooted : (f : PutFault) → Keeps c rs r → Rests c rs r → PutCause m.me rs r f → ds ≡ [] → IsWithin (up_steps m.me.geometry.wide + 16) t → IsHeadUnrooted m.me s f r0 r (tr ++ t) (es ++ ds)
+    unrooted : (f : PutFault) → Keeps c rs r → KeepsRest c rs r → PutCause m.me rs r f → ds ≡ [] → IsWithin (up_steps m.me.geometry.wide + 16) t → IsHeadUnrooted m.me s f r0 r (tr ++ t) (es ++ ds)
     unrooted f keeps same cause none bound =
         record {
           keeps = keeps_more c r0 rs r before keeps;

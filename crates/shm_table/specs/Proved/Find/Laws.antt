@@ -9,11 +9,11 @@ use Rattle.shm_graph.specs.declared.{ask.Me.Me, memo.{Memo.Memo, Op.TheVariants.
 use Rattle.shm_graph.specs.{declared.{spot.Spot.TheVariants.{Home, Body}, table.Entry.Entry}, Asks.{Trail, pair}}
 use Rattle.shm_graph.specs.{Core.core, Events.Event, Held.is_loose, Laws.Outcome, Ops.cover_of}
 use Rattle.shm_graph.specs.{Telling.{Directory, Entry as AnEntry, role_in, roles}, Views.own_word}
-use Rattle.shm_calls.specs.{Parts.IsHeld, Plans.{PlanLaws, PlanStays, Follows}}
-use Rattle.shm_calls.specs.Words.{word_control, word_part, word_part_laws}
-use Rattle.shm_steps.specs.{Reparting.{sight, chain_in, map_in, IsKnown}, Walking.{IsIn, IsSeeking, IsVacant, Reads}}
-use Rattle.shm_steps.proofs.Partitions.{Seeking.{learnt_here, seek_end, seek_first}, Walked.walk_nowhere}
-use Rattle.shm_steps.proofs.Words.{Blocks.{idle_settled, reference_load}, Shared.home_look}
+use Rattle.plans.specs.{Parts.IsHeld, Plans.{PlanLaws, PlanStays, Follows}}
+use Rattle.plans.specs.Words.{word_control, word_part, word_part_laws}
+use Rattle.kind_parts.specs.{Reparting.{sight, chain_in, map_in, IsKnown}, Walking.{IsIn, IsSeeking, IsVacant, Reads}}
+use Rattle.kind_parts.proofs.Partitions.{Seeking.{learnt_here, seek_end, seek_first}, Walked.walk_nowhere}
+use Rattle.kind_parts.proofs.Words.{Blocks.{idle_settled, reference_load}, Shared.home_look}
 use Rattle.shm_ref.specs.Proved.AskedParts.{asked_part_laws}
 use Rattle.shm_table.specs.declared.find.{FindPoint.FindPoint, FindState.FindState, Found.Found}
 use Rattle.shm_table.specs.declared.find.Found.TheVariants.{Absent, At}

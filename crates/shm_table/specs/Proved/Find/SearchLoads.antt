@@ -11,11 +11,11 @@ use Rattle.shm_graph.specs.{MemoAfterRead.{is_entry, valued, values_read}, Spots
 use Rattle.shm_graph.specs.Telling.{Role, Directory, Entry as AnEntry, role_in, role_read, roles, roles_from, shaped}
 use Rattle.shm_graph.specs.Trails.{Answers, Asked}
 use Rattle.shm_graph.proofs.Spots.Spotting.{same_spot_is, same_spot_self}
-use Rattle.shm_calls.specs.Parts.{IsHeld}
-use Rattle.shm_steps.specs.Walking.{IsIn, IsSeeking}
-use Rattle.shm_steps.specs.WordParts.{as_known, IsLatchedWord, IsPlainWord, ReferenceLoaded, WordLoaded}
-use Rattle.shm_steps.proofs.{Covering.role_told, Reaching.look_reached, Partitions.Seeking.{learnt_here, learnt_other}}
-use Rattle.shm_steps.proofs.{Partitions.Words.{one_more_role, role_new}, Words.Blocks.told_inside}
+use Rattle.plans.specs.Parts.{IsHeld}
+use Rattle.kind_parts.specs.Walking.{IsIn, IsSeeking}
+use Rattle.kind_parts.specs.WordParts.{as_known, IsLatchedWord, IsPlainWord, ReferenceLoaded, WordLoaded}
+use Rattle.kind_parts.proofs.{Covering.role_told, Reaching.look_reached, Partitions.Seeking.{learnt_here, learnt_other}}
+use Rattle.kind_parts.proofs.{Partitions.Words.{one_more_role, role_new}, Words.Blocks.told_inside}
 use Rattle.shm_count.specs.Proved.TableReading.{home_role}
 use Rattle.shm_ref.specs.Proved.AskedParts.{one_pair}
 use Rattle.shm_table.specs.declared.find.Found.{Found}

@@ -14,10 +14,10 @@ use Rattle.shm_graph.specs.Views.{targets, view}
 use Rattle.shm_graph.proofs.States.Counting.{cover_slot, covered_none}
 use Rattle.shm_graph.proofs.States.Holders.{InReach, held_live_not_zero, one_latch, reach_counted, step_holds}
 use Rattle.shm_graph.proofs.{States.Roles.latch_inside, Spots.Spotting.same_spot_not}
-use Rattle.shm_calls.specs.Parts.{IsHeld}
-use Rattle.shm_steps.specs.Reparting.{chain_in, map_in}
-use Rattle.shm_steps.proofs.Partitions.{Reparted.body_so, Relinking.{found_here, found_joined, not_found}}
-use Rattle.shm_steps.proofs.Partitions.Walked.{walk_has}
+use Rattle.plans.specs.Parts.{IsHeld}
+use Rattle.kind_parts.specs.Reparting.{chain_in, map_in}
+use Rattle.kind_parts.proofs.Partitions.{Reparted.body_so, Relinking.{found_here, found_joined, not_found}}
+use Rattle.kind_parts.proofs.Partitions.Walked.{walk_has}
 use Rattle.shm_table.specs.Find.{Control.Passed, AreOthers, IsAbsent, IsChainRead, IsFound, IsLook}
 use Rattle.shm_table.specs.{Find.Tells.{HasKey, HasRead}, Proved.Find.SearchLoads.chain_kept}
 

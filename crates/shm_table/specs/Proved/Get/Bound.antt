@@ -1,7 +1,7 @@
 -- how many word steps taking a latch and looking for a key take, and reading what a key has: by the number of the entries whose key was read: what is proved of it
 use Rattle.std.proofs.Common.{◌≡◌, ℕ, ◌+◌, ◌*◌, refl, sym, ap, subst, arith, List, [], ◌∷◌, ◌++◌, length, length-append, inl, inr}
 use Rattle.shm_graph.specs.{declared.{ask.Me.Me, memo.Memo.Memo}, Asks.{Trail, pair, IsWithin}, Events.Event}
-use Rattle.shm_calls.specs.Proved.CallTells.{within_more}
+use Rattle.plans.specs.Proved.CallTells.{within_more}
 use Rattle.shm_script.specs.declared.log.Answer.TheVariants as answer
 use Rattle.shm_table.specs.{declared.find.Found.{Found, TheVariants.Absent}, Find.Bound.{IsWhole, keys_read}}
 use Rattle.shm_table.specs.Find.{Control.{Passed, walk_trail, word_ask}, EndsNowhere}

@@ -6,13 +6,12 @@ use Rattle.shm_words.proofs.Placing.{total_small}
 use Rattle.shm_graph.specs.declared.{ask.Me.Me, memo.{Memo.Memo, Op.TheVariants.Nothing, Stored.Stored}}
 use Rattle.shm_graph.specs.{declared.spot.Spot.TheVariants.Body, Asks.{Trail, pair}, Events.Event, Held.is_loose}
 use Rattle.shm_graph.specs.{Trails.{Answers, Asked}, Telling.{Entry as AnEntry, Value as AValue, shaped}}
-use Rattle.shm_calls.specs.{declared.or.Or.TheVariants.{First, Second}, CallsPart.{calls_part, calls_part_laws}}
-use Rattle.shm_calls.specs.{Either.{or_control, or_part}, Proved.Either.or_part_laws, Parts.IsHeld}
-use Rattle.shm_calls.specs.Plans.{PlanLaws, PlanStays, IsCall, Follows}
-use Rattle.shm_calls.specs.Words.{word_control, word_part, word_part_laws}
-use Rattle.shm_steps.specs.{Reparting.map_in, Walking.IsIn, WordParts.{IsPlainWord, ReferenceLoaded, WordLoaded}}
-use Rattle.shm_steps.proofs.{Covering.role_told, Partitions.Seeking.learnt_here}
-use Rattle.shm_steps.proofs.Words.Blocks.{idle_settled, plain_load, reference_load, told_inside}
+use Rattle.plans.specs.{declared.or.Or.TheVariants.{First, Second}, CallsPart.{calls_part, calls_part_laws}}
+use Rattle.plans.specs.{Either.{or_control, or_part}, Proved.Either.or_part_laws, Parts.IsHeld}
+use Rattle.plans.specs.{Plans.{PlanLaws, PlanStays, IsCall, Follows}, Words.{word_control, word_part, word_part_laws}}
+use Rattle.kind_parts.specs.{Reparting.map_in, Walking.IsIn, WordParts.{IsPlainWord, ReferenceLoaded, WordLoaded}}
+use Rattle.kind_parts.proofs.{Covering.role_told, Partitions.Seeking.learnt_here}
+use Rattle.kind_parts.proofs.Words.Blocks.{idle_settled, plain_load, reference_load, told_inside}
 use Rattle.shm_ref.specs.Proved.AskedParts.{asked_part_laws, one_pair}
 use Rattle.shm_table.specs.declared.{find.Found.{Found, TheVariants.{Absent, At}}, get.GetPoint.GetPoint}
 use Rattle.shm_table.specs.declared.get.GetPoint.TheVariants.{Search, Value, Number, Missing, Known}

@@ -3,9 +3,9 @@ use Rattle.std.proofs.Common.{◌≡◌, ℕ, ◌<◌, refl, sym, ap, ◌∙◌,
 use Rattle.std.specs.Prelude.{Some, None, List}
 use Rattle.shm_graph.specs.{declared.{ask.Me.Me, memo.Memo.Memo, spot.Spot.{Spot, TheVariants.Body}}, Asks.Trail}
 use Rattle.shm_graph.specs.{Events.Event, Held.HeldAt, Views.view}
-use Rattle.shm_calls.specs.{declared.or.Or.TheVariants.Second, CallsControl.calls_of, CallsFit.CallsFits}
-use Rattle.shm_calls.specs.Words.{word_control}
-use Rattle.shm_steps.specs.Reparting.{map_in}
+use Rattle.plans.specs.{declared.or.Or.TheVariants.Second, CallsControl.calls_of, CallsFit.CallsFits}
+use Rattle.plans.specs.Words.{word_control}
+use Rattle.kind_parts.specs.Reparting.{map_in}
 use Rattle.shm_table.specs.declared.{find.Found.TheVariants.{Absent, At}, get.GetPoint.TheVariants.Known}
 use Rattle.shm_table.specs.{declared.get.GetState.GetState, Find.{IsLook, Tells.HasRead}}
 use Rattle.shm_table.specs.Proved.Find.Tells.{absent_tells, author_maps, author_names, found_tells, has_read}

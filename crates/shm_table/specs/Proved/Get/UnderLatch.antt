@@ -10,10 +10,10 @@ use Rattle.shm_graph.specs.Reach.{binds_unlatched, is_latch_of, learnt, unlatche
 use Rattle.shm_graph.specs.{MemoAfterRead.{is_entry, valued, values_read}, Spots.same_spot, Telling.{role_in, roles}}
 use Rattle.shm_graph.specs.Views.{own_word}
 use Rattle.shm_graph.proofs.{StepKinds.Loads.choice, Spots.Spotting.same_spot_is}
-use Rattle.shm_calls.specs.Parts.{IsHeld}
-use Rattle.shm_laws.proofs.Keep.{Contains-filter}
-use Rattle.shm_steps.specs.{Reparting.{sight, map_in, IsValue}, WordParts.{ReferenceLoaded, WordLoaded}}
-use Rattle.shm_steps.proofs.UnlatchedValue.{value_unlatched}
+use Rattle.plans.specs.Parts.{IsHeld}
+use Rattle.kind_laws.proofs.Lists.{Contains-filter}
+use Rattle.kind_parts.specs.{Reparting.{sight, map_in, IsValue}, WordParts.{ReferenceLoaded, WordLoaded}}
+use Rattle.kind_parts.proofs.UnlatchedValue.{value_unlatched}
 use Rattle.shm_count.specs.{Roots.root_word, Tear.Memos.Knows}
 use Rattle.shm_table.specs.{Find.OnlyReads, Proved.Find.SearchLoads.{learnt_keeps, word_only}, Get.{IsReading, Visited}}
 use Rattle.shm_table.specs.{Get.UnderLatch.ReadsMore, Locate.MayLocate, Staying.{Keeps, Latched}, Unlatch.Unlatched}

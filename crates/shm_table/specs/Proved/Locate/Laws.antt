@@ -7,10 +7,10 @@ use Rattle.shm_graph.specs.{Asks.{Trail, IsWithin, failed}, Core.core, Events.Ev
 use Rattle.shm_graph.specs.{Idle.{IsIdle, hold_word}, Spots.same_spot, Views.own_word}
 use Rattle.shm_graph.specs.declared.memo.Status.TheVariants as status
 use Rattle.shm_graph.proofs.Spots.Spotting.{same_spot_is, same_spot_self}
-use Rattle.shm_steps.specs.Conditions.{IsHere}
-use Rattle.shm_calls.specs.{declared.or.Or.TheVariants.{First, Second}, Proved.CallTells.within_more}
-use Rattle.shm_calls.specs.{Proved.Either.or_part_laws, CallsPart.{calls_part, calls_part_laws}}
-use Rattle.shm_calls.specs.{Plans.{PlanLaws, PlanStays, IsCall, Follows}, Words.word_control}
+use Rattle.kind_parts.specs.Conditions.{IsHere}
+use Rattle.plans.specs.{declared.or.Or.TheVariants.{First, Second}, Proved.{CallTells.within_more, Either.or_part_laws}}
+use Rattle.plans.specs.{CallsPart.{calls_part, calls_part_laws}, Plans.{PlanLaws, PlanStays, IsCall, Follows}}
+use Rattle.plans.specs.Words.{word_control}
 use Rattle.shm_ref.specs.{declared.answer.Busy.Busy, Hold.Control.{busy_trail, holding}}
 use Rattle.shm_ref.specs.Hold.{HoldLeaves, IsBusy, MayTakeLatch, LatchTaken, hold_plan}
 use Rattle.shm_ref.specs.{Proved.Hold.Laws.{hold_begin, hold_laws}, Machines.hold}

@@ -12,13 +12,11 @@ use Rattle.shm_graph.specs.{Idle.IsIdle, Laws.Outcome, Reach.is_reached, MemoAft
 use Rattle.shm_graph.specs.{Spots.spot_address, Views.own_word}
 use Rattle.shm_graph.specs.declared.ask.Ask.TheVariants as ask
 use Rattle.shm_graph.specs.Events as event
-use Rattle.shm_steps.specs.{Conditions.IsHere, Reparting.{sight, map_in, IsBare, TableStep.Founds}}
-use Rattle.shm_steps.proofs.Reaching.{root_reached}
-use Rattle.shm_calls.specs.{declared.or.Or.TheVariants.{First, Second}, Proved.CallTells.within_more}
-use Rattle.shm_calls.specs.{Proved.Either.or_part_laws, CallsPart.{calls_part, calls_part_laws}}
-use Rattle.shm_calls.specs.{Either.{or_control, or_part}, Parts.{IsHeld, PartLaws}}
-use Rattle.shm_calls.specs.Plans.{PlanLaws, PlanStays, IsCall, Follows}
-use Rattle.shm_calls.specs.Words.{word_control, word_part_laws, WordLeaves}
+use Rattle.kind_parts.specs.{Conditions.IsHere, Reparting.{sight, map_in, IsBare, TableStep.Founds}}
+use Rattle.kind_parts.proofs.Reaching.{root_reached}
+use Rattle.plans.specs.{declared.or.Or.TheVariants.{First, Second}, Proved.{CallTells.within_more, Either.or_part_laws}}
+use Rattle.plans.specs.{CallsPart.{calls_part, calls_part_laws}, Either.{or_control, or_part}, Parts.{IsHeld, PartLaws}}
+use Rattle.plans.specs.{Plans.{PlanLaws, PlanStays, IsCall, Follows}, Words.{word_control, word_part_laws, WordLeaves}}
 use Rattle.shm_count.specs.declared.answer.{EraSpent.EraSpent as ASpent, Made.Made}
 use Rattle.shm_count.specs.declared.{answer.UpFault.TheVariants.{CountFull, EraSpent}, point.Aim.TheVariants.Up}
 use Rattle.shm_count.specs.{MadeSteps.made_up_laws, Slots.{Filled, Parts.{untouched, up_slot_laws}}}

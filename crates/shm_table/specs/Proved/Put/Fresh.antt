@@ -7,9 +7,9 @@ use Rattle.shm_graph.specs.declared.{ask.Me.Me, memo.Memo.Memo, spot.Spot.{Spot,
 use Rattle.shm_graph.specs.declared.table.{Entry.Entry, Part.{Part, TheVariants.{Loose, Table}}}
 use Rattle.shm_graph.specs.{Held.{HeldAt, MadeAt, PartTie}, Tables.{Contents, IsChain, IsEntry, contents_of, find}}
 use Rattle.shm_graph.specs.Views.{targets, view}
-use Rattle.shm_laws.proofs.References.{two_names}
-use Rattle.shm_steps.specs.Reparting.{map_in}
-use Rattle.shm_calls.specs.Parts.{IsHeld}
+use Rattle.kind_laws.proofs.References.{two_names}
+use Rattle.kind_parts.specs.Reparting.{map_in}
+use Rattle.plans.specs.Parts.{IsHeld}
 
 abbrev value_in : Option (ℕ × ℕ) → ℕ
 value_in None = 0

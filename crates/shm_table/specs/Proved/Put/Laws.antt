@@ -11,11 +11,10 @@ use Rattle.shm_graph.specs.{Bounds.{alloc_steps, tear_steps, redo_steps}, Events
 use Rattle.shm_graph.specs.{MemoAfterRead.valued, Views.own_word}
 use Rattle.shm_graph.specs.declared.spot.Spot.TheVariants as spot
 use Rattle.shm_graph.specs.Events as event
-use Rattle.shm_steps.specs.Reparting.{sight, map_in, IsValue}
-use Rattle.shm_calls.specs.{declared.or.Or.TheVariants.{First, Second}, Proved.CallTells.within_more}
-use Rattle.shm_calls.specs.{Proved.Either.or_part_laws, CallsPart.{calls_part, calls_part_laws}}
-use Rattle.shm_calls.specs.{Either.{or_control, or_part}, Parts.{IsHeld, PartLaws}}
-use Rattle.shm_calls.specs.Plans.{PlanLaws, PlanStays, IsCall, Follows}
+use Rattle.kind_parts.specs.Reparting.{sight, map_in, IsValue}
+use Rattle.plans.specs.{declared.or.Or.TheVariants.{First, Second}, Proved.{CallTells.within_more, Either.or_part_laws}}
+use Rattle.plans.specs.{CallsPart.{calls_part, calls_part_laws}, Either.{or_control, or_part}, Parts.{IsHeld, PartLaws}}
+use Rattle.plans.specs.Plans.{PlanLaws, PlanStays, IsCall, Follows}
 use Rattle.shm_alloc.specs.declared.{alloc.AllocFault.AllocFault, request.Request.Request}
 use Rattle.shm_alloc.specs.Alloc.{Control.{RequestFits, alloc_control, tag_asked}, AnswerHolds, MadeGives}
 use Rattle.shm_alloc.specs.{Alloc.AsPart.{AllocLeaves, alloc_part}, Proved.Alloc.AsPart.alloc_part_laws}

@@ -7,9 +7,9 @@ use Rattle.shm_graph.specs.{Asks.{Trail, IsWithin}, Bounds.{alloc_steps, change_
 use Rattle.shm_graph.specs.{Events.Event, Views.own_word}
 use Rattle.shm_graph.specs.declared.spot.Spot.TheVariants as spot
 use Rattle.shm_graph.specs.Events as event
-use Rattle.shm_steps.specs.Reparting.{sight, IsValue}
-use Rattle.shm_calls.specs.{declared.or.Or.TheVariants.{First, Second}, Proved.CallTells.within_more, Parts.IsHeld}
-use Rattle.shm_calls.specs.Plans.{Follows}
+use Rattle.kind_parts.specs.Reparting.{sight, IsValue}
+use Rattle.plans.specs.{declared.or.Or.TheVariants.{First, Second}, Proved.CallTells.within_more, Parts.IsHeld}
+use Rattle.plans.specs.Plans.{Follows}
 use Rattle.shm_count.specs.{declared.answer.EraSpent.EraSpent, Roots.root_word, Tear.Events.{Visit, frees}}
 use Rattle.shm_ref.specs.DropRoot.{Control.dropping, DropLeaves}
 use Rattle.shm_table.specs.declared.{answer.PutFault.PutFault, enter.Entered.Entered}
@@ -21,8 +21,8 @@ use Rattle.shm_table.specs.{Enter.{EnterLeaves, IsHalfMade, enter_steps, link_ev
 use Rattle.shm_table.specs.OpenTable.{Control.opening, HomeSo, IsOpening, OpenLeaves, OpenLeft}
 use Rattle.shm_table.specs.OpenTable.OpenLeft.{Unmade as NotMade, Unnamed, Undropped}
 use Rattle.shm_table.specs.PutRoot.Control.{PutRootAnswer, put_root_parts}
-use Rattle.shm_table.specs.PutRoot.{Decides, IsDecided, IsEraSpent, IsSettled, IsUnlisted, MapSo, PutRootDone, PutRootKnows, PutRootRefused, RootsSo, UnlistedSo, put_root_plan, opened_steps, searched_steps, settled_steps}
-use Rattle.shm_table.specs.PutRoot.Decides.{Begins, Leads as Leading, Replaces}
+use Rattle.shm_table.specs.PutRoot.{DecidesMap, IsDecided, IsEraSpent, IsSettled, IsUnlisted, MapSo, PutRootDone, PutRootKnows, PutRootRefused, RootsSo, UnlistedSo, put_root_plan, opened_steps, searched_steps, settled_steps}
+use Rattle.shm_table.specs.PutRoot.DecidesMap.{Begins, Leads as Leading, Replaces}
 use Rattle.shm_table.specs.Proved.PutRoot.Undoing.{home_more, opening_still, still_more, still_same, still_stopped, unlisted_dropped, unlisted_home, unlisted_still}
 use Rattle.shm_table.specs.Proved.PutRoot.Steps.{decided_after, decided_more, frees_append, located_absent, located_at, located_opening, located_putting, located_searched, same_more, same_part, search_more, set_after, set_then}
 use Rattle.shm_table.specs.Proved.Staying.Laws.{cause_before, cause_later, cleared_drop, cleared_more, dropped_else, ended_drop, keeps_drop, keeps_more, keeps_unlatched, left_by, spent_drop, spent_later, unlatched_else}
@@ -259,13 +259,13 @@ module _ (m : PutRootState) (r0 rs r : Memo) (tr t : Trail) (es ds : List Event)
       }
     where
       linked : (first e : ℕ) → own_word r.own (Home c) ≡ m.home → ds ≡ event.Alloc c j e ∷ event.Up c (Body e 1) m.value ∷ link_events c e m.home m.key first → IsDecided c m.key (own_word r.own (Home c)) m.value ds
-      linked zero e at told = (event.Alloc c j e ∷ event.Up c (Body e 1) m.value ∷ [], event.Up c (Body m.home (m.key % 16)) e, [], told, subst (λ d. Decides c m.key d m.value (event.Up c (Body m.home (m.key % 16)) e)) (sym at) (Begins e))
+      linked zero e at told = (event.Alloc c j e ∷ event.Up c (Body e 1) m.value ∷ [], event.Up c (Body m.home (m.key % 16)) e, [], told, subst (λ d. DecidesMap c m.key d m.value (event.Up c (Body m.home (m.key % 16)) e)) (sym at) (Begins e))
       linked (suc y) e at told = (
         event.Alloc c j e ∷ event.Up c (Body e 1) m.value ∷ event.Up c (Body e 0) (suc y) ∷ [],
         event.ChangeUp c (Body m.home (m.key % 16)) (suc y) e,
         event.ChangeDown c (suc y) ∷ [],
         told,
-        subst (λ d. Decides c m.key d m.value (event.ChangeUp c (Body m.home (m.key % 16)) (suc y) e)) (sym at) (Leading (suc y) e),
+        subst (λ d. DecidesMap c m.key d m.value (event.ChangeUp c (Body m.home (m.key % 16)) (suc y) e)) (sym at) (Leading (suc y) e),
       )
   entered (Unlinked j f) (h, root, fault, searched, (n, may), opening) x =
       let quiet = frees_append es ds in

@@ -2,9 +2,9 @@
 use Rattle.std.proofs.Common.{◌≡◌, ℕ, ◌+◌, ◌<◌, refl, sym, ◌∙◌, subst, Bool, List, ◌++◌, Option, Some, None}
 use Rattle.std.specs.Prelude.{Ok, Err}
 use Rattle.shm_graph.specs.{declared.memo.Memo.Memo, Agents.recovers, Asks.Trail, Events.Event}
-use Rattle.shm_calls.specs.{declared.or.Or.TheVariants.{First, Second}, CallsPart.{calls_part, calls_part_laws}}
-use Rattle.shm_calls.specs.{Either.{or_control, or_part}, Proved.Either.or_part_laws, Parts.{IsHeld, PartLaws}}
-use Rattle.shm_calls.specs.{Plans.{PlanLaws, PlanStays, IsCall, Follows}, Words.word_control}
+use Rattle.plans.specs.{declared.or.Or.TheVariants.{First, Second}, CallsPart.{calls_part, calls_part_laws}}
+use Rattle.plans.specs.{Either.{or_control, or_part}, Proved.Either.or_part_laws, Parts.{IsHeld, PartLaws}}
+use Rattle.plans.specs.{Plans.{PlanLaws, PlanStays, IsCall, Follows}, Words.word_control}
 use Rattle.shm_ref.specs.DropRoot.{Control.{drop_parts, dropping}, DropLeaves, drop_plan}
 use Rattle.shm_ref.specs.{Proved.DropRoot.Laws.drop_laws, DropRoots.Control.drop_root}
 use Rattle.shm_table.specs.declared.enter.Entered.TheVariants.{Linked, Unlinked, Unmade}

@@ -7,9 +7,9 @@ use Rattle.shm_words.specs.Layout.{address_limit}
 use Rattle.shm_graph.specs.{declared.{ask.Me.Me, memo.Memo.Memo, spot.Spot.TheVariants.Home}, Agents.recovers}
 use Rattle.shm_graph.specs.{Asks.{Trail, IsWithin}, Bounds.tear_steps, Events.Event}
 use Rattle.shm_graph.specs.{Telling.{Directory, role_in, roles, shaped}, Views.own_word}
-use Rattle.shm_steps.specs.{Reparting.{sight, map_in, IsValue}, Walking.IsVacant}
-use Rattle.shm_steps.proofs.{Reaching.look_reached, Words.Blocks.told_inside, Covering.role_told}
-use Rattle.shm_calls.specs.{Proved.CallTells.within_more, Parts.IsHeld}
+use Rattle.kind_parts.specs.{Reparting.{sight, map_in, IsValue}, Walking.IsVacant}
+use Rattle.kind_parts.proofs.{Reaching.look_reached, Words.Blocks.told_inside, Covering.role_told}
+use Rattle.plans.specs.{Proved.CallTells.within_more, Parts.IsHeld}
 use Rattle.shm_count.specs.{Roots.root_word, Tear.Events.frees}
 use Rattle.shm_ref.specs.Proved.CountedBlocks.{reached_counted}
 use Rattle.shm_table.specs.{declared.find.Found.{Found, TheVariants.{Absent, At}}, Enter.MayEnter, Find.Bound.keys_read}

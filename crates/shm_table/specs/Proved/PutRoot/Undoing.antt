@@ -5,7 +5,7 @@ use Rattle.std.specs.List.{Contains}
 use Rattle.shm_graph.specs.{declared.{ask.Me.Me, memo.Memo.Memo, spot.Spot.TheVariants.Home}, Events.Event}
 use Rattle.shm_graph.specs.Views.{own_word}
 use Rattle.shm_graph.specs.Events as event
-use Rattle.shm_laws.proofs.Keep.{filter_from}
+use Rattle.kind_laws.proofs.Lists.{filter_from}
 use Rattle.shm_count.specs.{Roots.root_word, Tear.{Events.Visit, is_outside}}
 use Rattle.shm_ref.specs.Lefts.{RootEvents, Stopped}
 use Rattle.shm_table.specs.{declared.answer.PutFault.PutFault, Enter.IsHalfMade, OpenTable.{HomeSo, IsOpening}}

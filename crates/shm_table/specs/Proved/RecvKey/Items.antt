@@ -6,7 +6,7 @@ use Rattle.shm_graph.specs.{declared.{ask.Me.Me, memo.Memo.Memo}, Events.Event, 
 use Rattle.shm_graph.specs.{MemoAfterStore.{lane_with, put as put_item}, Views.own_word}
 use Rattle.shm_graph.specs.declared.spot.Spot.TheVariants as spot
 use Rattle.shm_graph.proofs.Spots.Spotting.{same_spot_self}
-use Rattle.shm_steps.proofs.Items.{put_at}
+use Rattle.kind_parts.proofs.Items.{put_at}
 use Rattle.shm_queue.specs.Proved.QueueSteps.{put_here}
 use Rattle.shm_table.specs.{declared.answer.PutFault.PutFault, FetchHead.MayFetchHead}
 use Rattle.shm_table.specs.{RecvKey.{IsPassed, IsWaiting, ItemSo, ItemTaken, MayRecv}, TakeHead.MayTakeHead}

@@ -7,10 +7,9 @@ use Rattle.shm_graph.specs.{declared.{ask.Me.Me, memo.Memo.Memo}, Asks.{Trail, I
 use Rattle.shm_graph.specs.{Bounds.{tear_steps, redo_steps}, Events.Event, Views.own_word}
 use Rattle.shm_graph.specs.declared.spot.Spot.TheVariants as spot
 use Rattle.shm_graph.specs.Events as event
-use Rattle.shm_calls.specs.{declared.or.Or.TheVariants.{First, Second}, Proved.CallTells.within_more}
-use Rattle.shm_calls.specs.{Proved.Either.or_part_laws, CallsPart.{calls_part, calls_part_laws}}
-use Rattle.shm_calls.specs.{Either.{or_control, or_part}, Parts.{IsHeld, PartLaws}}
-use Rattle.shm_calls.specs.Plans.{PlanLaws, PlanStays, IsCall, Follows}
+use Rattle.plans.specs.{declared.or.Or.TheVariants.{First, Second}, Proved.{CallTells.within_more, Either.or_part_laws}}
+use Rattle.plans.specs.{CallsPart.{calls_part, calls_part_laws}, Either.{or_control, or_part}, Parts.{IsHeld, PartLaws}}
+use Rattle.plans.specs.Plans.{PlanLaws, PlanStays, IsCall, Follows}
 use Rattle.shm_count.specs.{declared.answer.EraSpent.EraSpent, Roots.root_word, Tear.Events.{Visit, frees}}
 use Rattle.shm_ref.specs.DropRoot.{Control.{drop_parts, dropping}, DropLeaves, drop_plan}
 use Rattle.shm_ref.specs.{Proved.DropRoot.Laws.drop_laws, DropRoots.Control.drop_root}
@@ -30,7 +29,7 @@ use Rattle.shm_table.specs.PutRoot.Control.{put_root_parts, put_root_control}
 use Rattle.shm_table.specs.PutRoot.{IsDecided, PutRootDone, PutRootRefused, put_root_plan, put_root_steps}
 use Rattle.shm_table.specs.RecvKey.Control.{RecvAnswer, fetch_head_control, is_fetch, receiving_key, recv_call_at, recv_parts, take_head_control}
 use Rattle.shm_table.specs.RecvKey.{IsPutIn, ItemSo, ItemTaken, MayRecv, NotReceivedIn, RecvKnows, RecvLeaves, put_in_steps, recv_part, recv_plan}
-use Rattle.shm_table.specs.Staying.{Ended, IsSpent, Keeps, SameMap, Laws.Rests}
+use Rattle.shm_table.specs.Staying.{Ended, IsSpent, Keeps, SameMap, Laws.KeepsRest}
 use Rattle.shm_table.specs.TakeHead.Control.{take_head_parts, taking_head}
 use Rattle.shm_table.specs.TakeHead.{TakeHeadLeaves, passed_memo, take_head_plan, take_head_steps}
 use Rattle.shm_table.specs.Undoing.{dropped_undone, stopped_undone}
@@ -209,7 +208,7 @@ module _ (m : RecvState) (r0 rs r : Memo) (tr t : Trail) (es ds : List Event) (h
       )
 
   -- where roots, latch, home and map are as they were all stays that is settled
-  still_in : Rests c rs r → own_word rs.own (spot.Era c c) ≤ own_word r.own (spot.Era c c) → frees ds ≡ 0 → IsWithin (take_head_steps m.me.geometry.wide) t → IsPutIn m.me s m.key m.at m.block m.number m.root (put_in_steps m.me.geometry.wide g) None r0 rs tr es
+  still_in : KeepsRest c rs r → own_word rs.own (spot.Era c c) ≤ own_word r.own (spot.Era c c) → frees ds ≡ 0 → IsWithin (take_head_steps m.me.geometry.wide) t → IsPutIn m.me s m.key m.at m.block m.number m.root (put_in_steps m.me.geometry.wide g) None r0 rs tr es
       → IsPutIn m.me s m.key m.at m.block m.number m.root (put_in_steps m.me.geometry.wide g + take_head_steps m.me.geometry.wide) None r0 r (tr ++ t) (es ++ ds)
   still_in rests era none bound h =
       let quiet = frees_append es ds in

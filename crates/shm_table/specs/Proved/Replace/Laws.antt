@@ -7,12 +7,11 @@ use Rattle.shm_words.specs.Layout.{total_of, address_limit}
 use Rattle.shm_graph.specs.declared.{ask.Me.Me, memo.Memo.Memo, spot.Spot.{Spot, TheVariants.{Body, Home, Root}}}
 use Rattle.shm_graph.specs.{Agents.recovers, Asks.{Trail, IsWithin}, Bounds.{change_steps, tear_steps}, Events.Event}
 use Rattle.shm_graph.specs.{Laws.Outcome, Telling.Entry as AnEntry, Views.own_word}
-use Rattle.shm_calls.specs.{declared.or.Or.TheVariants.{First, Second}, Proved.CallTells.within_more}
-use Rattle.shm_calls.specs.{Proved.Either.or_part_laws, Either.{or_control, or_part}, Parts.IsHeld}
-use Rattle.shm_calls.specs.Plans.{PlanLaws, PlanStays, IsCall, Follows}
-use Rattle.shm_calls.specs.Words.{word_control, word_part_laws, WordLeaves}
-use Rattle.shm_steps.specs.Reparting.{sight, map_in, IsValue}
-use Rattle.shm_steps.proofs.{Cores.here_same, Reaching.{look_reached, root_reached}}
+use Rattle.plans.specs.{declared.or.Or.TheVariants.{First, Second}, Proved.{CallTells.within_more, Either.or_part_laws}}
+use Rattle.plans.specs.{Either.{or_control, or_part}, Parts.IsHeld, Plans.{PlanLaws, PlanStays, IsCall, Follows}}
+use Rattle.plans.specs.Words.{word_control, word_part_laws, WordLeaves}
+use Rattle.kind_parts.specs.Reparting.{sight, map_in, IsValue}
+use Rattle.kind_parts.proofs.{Cores.here_same, Reaching.{look_reached, root_reached}}
 use Rattle.shm_count.specs.{declared.answer.{EraSpent.EraSpent as ASpent, UpFault.UpFault}, CountParts.tear_part}
 use Rattle.shm_count.specs.{Proved.{CountParts.tear_part_laws, Lowering.{dies, torn_leaves}}, Roots.root_word}
 use Rattle.shm_count.specs.Slots.{Lost, StepCause, Took, Untouched, Parts.{change_slot_laws, change_slot_part}}

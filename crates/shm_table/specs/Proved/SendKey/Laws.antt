@@ -6,12 +6,11 @@ use Rattle.shm_graph.specs.declared.{ask.Me.Me, memo.Memo.Memo, spot.Spot.TheVar
 use Rattle.shm_graph.specs.{Agents.recovers, Asks.{Trail, IsWithin}, Events.Event, Idle.IsIdle, Trails.{Answers, Asked}}
 use Rattle.shm_graph.specs.Bounds.{redo_steps}
 use Rattle.shm_graph.specs.Events as event
-use Rattle.shm_calls.specs.{declared.or.Or.TheVariants.{First, Second}, Proved.CallTells.within_more}
-use Rattle.shm_calls.specs.{Proved.Either.or_part_laws, CallsPart.{calls_part, calls_part_laws}}
-use Rattle.shm_calls.specs.{Either.{or_control, or_part}, Parts.IsHeld, Plans.{PlanLaws, PlanStays, IsCall, Follows}}
-use Rattle.shm_calls.specs.Words.{word_control, word_part, word_part_laws}
-use Rattle.shm_steps.specs.{Reparting.map_in, WordParts.ReferenceLoaded}
-use Rattle.shm_steps.proofs.{Reaching.look_reached, Words.Blocks.{idle_settled, reference_load}}
+use Rattle.plans.specs.{declared.or.Or.TheVariants.{First, Second}, Proved.{CallTells.within_more, Either.or_part_laws}}
+use Rattle.plans.specs.{CallsPart.{calls_part, calls_part_laws}, Either.{or_control, or_part}, Parts.IsHeld}
+use Rattle.plans.specs.{Plans.{PlanLaws, PlanStays, IsCall, Follows}, Words.{word_control, word_part, word_part_laws}}
+use Rattle.kind_parts.specs.{Reparting.map_in, WordParts.ReferenceLoaded}
+use Rattle.kind_parts.proofs.{Reaching.look_reached, Words.Blocks.{idle_settled, reference_load}}
 use Rattle.shm_ref.specs.Proved.AskedParts.{asked_part_laws}
 use Rattle.shm_queue.specs.declared.answer.SendFault.{SendFault, TheVariants.{QueueFull, EraSpent, CountFull}}
 use Rattle.shm_queue.specs.{Machines.send as send_control, Send.Control.{send_parts, sending}}
@@ -33,7 +32,7 @@ use Rattle.shm_table.specs.{Find.Control.word_ask, Get.IsReading, Locate.Control
 use Rattle.shm_table.specs.Locate.{Located, MayLocate, locate_plan}
 use Rattle.shm_table.specs.SendKey.Control.{SendKeyAnswer, is_search, send_key_call, send_key_parts, sending_key}
 use Rattle.shm_table.specs.SendKey.{GiveKnows, IsSent, IsUnsent, MaySendKey, SendCause, SendKeyKnows, SendKeyLeaves, got, send_key_part, send_key_plan, send_key_steps, sent_steps, value_part}
-use Rattle.shm_table.specs.Staying.{Cleared, Keeps, SameMap, Laws.Rests}
+use Rattle.shm_table.specs.Staying.{Cleared, Keeps, SameMap, Laws.KeepsRest}
 use Rattle.shm_table.specs.Unlatch.{MayUnlatch, Unlatched, unlatch_plan, Control.unlatch_control}
 use Rattle.shm_table.specs.declared.get.GetPoint.TheVariants as get
 
@@ -145,7 +144,7 @@ module _ (m : SendKeyState) (r0 rs r : Memo) (tr t : Trail) (es ds : List Event)
         }
 
     -- it wasn't, and nothing was done
-    unsent : (f : SendFault) → SendCause m.me m.to m.block r0 f → Keeps c rs r → Rests c rs r → ds ≡ [] → IsWithin (10 + redo_steps m.me.geometry.wide) t → IsUnsent m.me m.to m.key m.block f (Some c) (sent_steps m.me.geometry.wide) r0 r (tr ++ t) (es ++ ds)
+    unsent : (f : SendFault) → SendCause m.me m.to m.block r0 f → Keeps c rs r → KeepsRest c rs r → ds ≡ [] → IsWithin (10 + redo_steps m.me.geometry.wide) t → IsUnsent m.me m.to m.key m.block f (Some c) (sent_steps m.me.geometry.wide) r0 r (tr ++ t) (es ++ ds)
     unsent f cause keeps rests none bound =
         record {
           may = may;

@@ -6,14 +6,14 @@ use Rattle.shm_graph.specs.declared.{ask.Me.Me, memo.{Memo.Memo, Stored.Stored},
 use Rattle.shm_graph.specs.{declared.spot.Spot.TheVariants.{Body, Hold, Home, Root, Tail}, Asks.Trail, Events.Event}
 use Rattle.shm_graph.specs.{Held.is_loose, Idle.hold_word, Spots.same_spot, MemoAfterStore.lane_with, Views.own_word}
 use Rattle.shm_graph.proofs.Spots.Spotting.{same_spot_is, same_spot_self}
-use Rattle.shm_calls.specs.Parts.{IsHeld}
-use Rattle.shm_steps.specs.Reparting.{map_in}
-use Rattle.shm_count.specs.Tear.Memos.{is_lasting}
+use Rattle.plans.specs.Parts.{IsHeld}
+use Rattle.kind_parts.specs.Reparting.{map_in}
+use Rattle.shm_count.specs.Lasting.{is_lasting}
 use Rattle.shm_queue.specs.Send.{Sent}
 use Rattle.shm_script.specs.declared.log.Answer.TheVariants as answer
 use Rattle.shm_table.specs.{Find.{IsLook, Tells.HasRead}, Proved.Find.Tells.author_names}
 use Rattle.shm_table.specs.{Proved.Staying.Laws.{keeps_more, value_same}, SendKey.Control.sending_key}
-use Rattle.shm_table.specs.{SendKey.{SendKeyLeaves, with_sent}, Staying.{Keeps, is_set, Laws.Rests}}
+use Rattle.shm_table.specs.{SendKey.{SendKeyLeaves, with_sent}, Staying.{Keeps, is_set, Laws.KeepsRest}}
 
 -- ---- the own map
 
@@ -56,7 +56,7 @@ module _ (c i b n : ℕ) (m x r : Memo) (before : Keeps c m x) (w : Sent c i b n
       }
 
 -- the latch, the own home, the partition, the roots and the zero-count blocks are as they were
-pub rests_sent : (c i b n : ℕ) (x r : Memo) → Sent c i b n x r → Rests c x r
+pub rests_sent : (c i b n : ℕ) (x r : Memo) → Sent c i b n x r → KeepsRest c x r
 rests_sent c i b n x r w =
     record {
       latch = ap (λ (y : Memo). y.latch) w.rest;

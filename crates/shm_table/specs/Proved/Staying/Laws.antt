@@ -2,7 +2,7 @@
 use Rattle.std.proofs.Common.{◌≡◌, ◌≢◌, ℕ, ◌<◌, ◌≤◌, refl, sym, ap, ◌∙◌, subst, arith, Bool, true, false, eqb, append-nil, List, [], Option, Some, None, inl, inr}
 use Rattle.std.proofs.lemmas.Bool.{cases_Bool, cond-false, cond-true, eq-eqb, eqb-true, false≢true, ne_eqb, true≢false}
 use Rattle.std.specs.{Prelude.{◌⊎◌, ◌==◌, Result, Ok, Err}, List.{Contains, list_any}}
-use Rattle.shm_laws.proofs.Keep.{Contains-filter}
+use Rattle.kind_laws.proofs.Lists.{Contains-filter}
 use Rattle.shm_graph.specs.declared.{ask.Me.Me, spot.Spot.{Spot, TheVariants.{Hold, Home, Era, Root, Tag, Body}}}
 use Rattle.shm_graph.specs.declared.{memo.{Memo.Memo, Op.TheVariants.Nothing, Stored.Stored}, table.Part.Part}
 use Rattle.shm_graph.specs.{Asks.Trail, Core.core, Events.Event, Held.{is_loose, is_slot}, Idle.{IsIdle, hold_word}}
@@ -10,13 +10,13 @@ use Rattle.shm_graph.specs.Ops.{cover, Cover.On}
 use Rattle.shm_graph.specs.{Reach.{binds_unlatched, is_latch_of, is_named, named_blocks, unlatched}, Spots.same_spot}
 use Rattle.shm_graph.specs.Views.{own_word}
 use Rattle.shm_graph.proofs.Spots.Spotting.{same_spot_self}
-use Rattle.shm_steps.specs.Reparting.{sight, map_in, IsValue}
-use Rattle.shm_steps.proofs.{PartsSet.loose_stays, Reaching.root_reached, UnlatchedValue.value_unlatched}
-use Rattle.shm_calls.specs.Parts.{IsHeld}
+use Rattle.kind_parts.specs.Reparting.{sight, map_in, IsValue}
+use Rattle.kind_parts.proofs.{PartsSet.loose_stays, Reaching.root_reached, UnlatchedValue.value_unlatched}
+use Rattle.plans.specs.Parts.{IsHeld}
 use Rattle.shm_count.specs.declared.{answer.{EraSpent.EraSpent, Made.Made, UpFault.UpFault}, point.Aim.Aim}
 use Rattle.shm_count.specs.{declared.point.Aim.TheVariants.{Up, Down, Change}, Proved.Retaining.slot_known}
 use Rattle.shm_count.specs.{Roots.{rest, root_word}, Slots.{Filled, StepCause, Untouched}, Step.Parts.part_after}
-use Rattle.shm_count.specs.Tear.Memos.{is_lasting, Knows, Remains}
+use Rattle.shm_count.specs.{Lasting.is_lasting, Tear.Memos.{Knows, Remains}}
 use Rattle.shm_count.specs.declared.answer.UpFault.TheVariants as up
 use Rattle.shm_alloc.specs.{declared.{alloc.AllocFault.AllocFault, request.Request.Request}, Alloc.AnswerHolds}
 use Rattle.shm_alloc.specs.declared.alloc.AllocFault.TheVariants as alloc
@@ -26,7 +26,7 @@ use Rattle.shm_table.specs.declared.answer.PutFault.{PutFault}
 use Rattle.shm_table.specs.declared.answer.PutFault.TheVariants.{EraSpent as Spent, RootsFull, Full, CountFull}
 use Rattle.shm_table.specs.{Answers.{made_fault, raised_fault}, Find.OnlyReads}
 use Rattle.shm_table.specs.Staying.{Cleared, Ended, IsSpent, Keeps, Latched, PutCause, SameMap, is_set}
-use Rattle.shm_table.specs.Staying.Laws.{Rests, gives, c, keeps_block}
+use Rattle.shm_table.specs.Staying.Laws.{KeepsRest, gives, c, keeps_block}
 
 -- ---- own words that are kept
 
@@ -105,7 +105,7 @@ keeps_more c m x r a b =
 
 -- ---- what is as it was
 
-pub rests_more : (c : ℕ) (m x r : Memo) → Rests c m x → Rests c x r → Rests c m r
+pub rests_more : (c : ℕ) (m x r : Memo) → KeepsRest c m x → KeepsRest c x r → KeepsRest c m r
 rests_more c m x r a b =
     record {
       latch = b.latch ∙ a.latch;
@@ -131,7 +131,7 @@ keeps_core c m r idle e =
     (λ p x s k. subst (λ (ks : List Stored). Contains ks (record { spot = p; value = x })) (sym (ap (λ (y : Memo). y.known) e)) k)
     (λ k v n l some root a. value_same c m r v n (ap (λ (y : Memo). y.known) e) (ap (λ (y : Memo). y.values) e) a)
 
-pub rests_core : (c : ℕ) (m r : Memo) → core r ≡ core m → Rests c m r
+pub rests_core : (c : ℕ) (m r : Memo) → core r ≡ core m → KeepsRest c m r
 rests_core c m r e =
     record {
       latch = ap (λ (x : Memo). x.latch) e;
@@ -149,7 +149,7 @@ keeps_read c m r idle h =
     (λ p x s k. h.known (record { spot = p; value = x }) k)
     (λ k v n l some root a. value_by c m r v n (subst (λ vs. Contains vs v) (sym (ap (λ (y : Memo). y.values) h.memo))) (λ z. h.known (record { spot = Body v 0; value = n }) z) a)
 
-pub rests_read : (c : ℕ) (m r : Memo) → OnlyReads m r → Rests c m r
+pub rests_read : (c : ℕ) (m r : Memo) → OnlyReads m r → KeepsRest c m r
 rests_read c m r h =
     record {
       latch = ap (λ (x : Memo). x.latch) h.memo;
@@ -221,7 +221,7 @@ keeps_made me q m r (Err f) who h =
       values = λ k v n l some root y. value_same c m r v n h.gives.0.known h.gives.0.values y;
     }
 
-pub rests_unmade : (me : Me) (q : Request) (m r : Memo) (f : AllocFault) → AnswerHolds me q m r (Err f) → Rests me.who m r
+pub rests_unmade : (me : Me) (q : Request) (m r : Memo) (f : AllocFault) → AnswerHolds me q m r (Err f) → KeepsRest me.who m r
 rests_unmade me q m r f h =
     let own : r.own ≡ m.own = h.gives.0.own in
     record {
@@ -263,7 +263,7 @@ keeps_untouched c m r idle h =
     (λ p x s k. subst (λ (ks : List Stored). Contains ks (record { spot = p; value = x })) (sym (ap (λ (y : Memo). y.known) h.rest)) k)
     (λ k v n l some root a. value_same c m r v n (ap (λ (y : Memo). y.known) h.rest) (ap (λ (y : Memo). y.values) h.rest) a)
 
-pub rests_untouched : (c : ℕ) (m r : Memo) → Untouched c m r → Rests c m r
+pub rests_untouched : (c : ℕ) (m r : Memo) → Untouched c m r → KeepsRest c m r
 rests_untouched c m r h =
     record {
       latch = ap (λ (x : Memo). x.latch) h.rest;

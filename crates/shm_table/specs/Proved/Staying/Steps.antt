@@ -8,10 +8,10 @@ use Rattle.shm_graph.specs.declared.memo.{Memo.Memo, Op.TheVariants.Nothing, Sto
 use Rattle.shm_graph.specs.{Held.{HeldAt, is_loose, is_slot}, Idle.IsIdle, Ops.cover_of, Reach.{is_named, learnt}}
 use Rattle.shm_graph.specs.Views.{own_word, view}
 use Rattle.shm_graph.proofs.Memos.KnownChange.{ValueHolds}
-use Rattle.shm_steps.specs.{Beginning.IsOwnWord, Reparting.{sight, map_in, map_after, TableStep}}
-use Rattle.shm_steps.proofs.{BeginAt.SlotHas, BeginSlots.home_has, BeginWords.own_word_has, PartsSet.loose_stays}
-use Rattle.shm_steps.proofs.Partitions.{Reparted.table_mapped, Seeking.learnt_other}
-use Rattle.shm_calls.specs.Parts.{IsHeld}
+use Rattle.kind_parts.specs.{Beginning.IsOwnWord, Reparting.{sight, map_in, map_after, TableStep}}
+use Rattle.kind_parts.proofs.{BeginAt.SlotHas, BeginSlots.home_has, BeginWords.own_word_has, PartsSet.loose_stays}
+use Rattle.kind_parts.proofs.Partitions.{Reparted.table_mapped, Seeking.learnt_other}
+use Rattle.plans.specs.Parts.{IsHeld}
 use Rattle.shm_count.specs.{Proved.Retaining.{held_counted, slot_known, slots_learnt}, Roots.{rest, root_word}}
 use Rattle.shm_count.specs.{Slots.{Filled, Lost, Took}, Step.Parts.part_after}
 use Rattle.shm_table.specs.{Staying.{Cleared, Keeps}, Proved.Staying.Laws.{keeps_rest, root_named, value_by}}

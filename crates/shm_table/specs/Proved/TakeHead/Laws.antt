@@ -9,22 +9,22 @@ use Rattle.shm_graph.specs.Bounds.{redo_steps}
 use Rattle.shm_graph.specs.declared.ask.Ask.TheVariants as ask
 use Rattle.shm_graph.specs.declared.spot.Spot.TheVariants as spot
 use Rattle.shm_graph.specs.Events as event
-use Rattle.shm_laws.proofs.Keep.{Contains-filter, filter_from}
-use Rattle.shm_calls.specs.{declared.or.Or.TheVariants.{First, Second}, Proved.CallTells.within_more}
-use Rattle.shm_calls.specs.{Proved.Either.or_part_laws, Parts.IsHeld, Plans.{PlanLaws, PlanStays, IsCall, Follows}}
-use Rattle.shm_calls.specs.Words.{word_control, word_part, word_part_laws, IsWord, WordLeaves}
-use Rattle.shm_steps.specs.{Reparting.{sight, IsValue}, WordParts.HeadStored}
-use Rattle.shm_steps.proofs.{Cores.here_same, Words.Queues.head_store}
+use Rattle.kind_laws.proofs.Lists.{Contains-filter, filter_from}
+use Rattle.plans.specs.{declared.or.Or.TheVariants.{First, Second}, Proved.{CallTells.within_more, Either.or_part_laws}}
+use Rattle.plans.specs.{Parts.IsHeld, Plans.{PlanLaws, PlanStays, IsCall, Follows}}
+use Rattle.plans.specs.Words.{word_control, word_part, word_part_laws, IsWord, WordLeaves}
+use Rattle.kind_parts.specs.{Reparting.{sight, IsValue}, WordParts.HeadStored}
+use Rattle.kind_parts.proofs.{Cores.here_same, Words.Queues.head_store}
 use Rattle.shm_count.specs.{declared.answer.EraSpent.EraSpent, Proved.Retaining.{held_counted, slot_known}}
 use Rattle.shm_count.specs.{Proved.Slots.Parts.era_room, Roots.{rest, root_word}, Slots.{Lost, StepLeft}}
 use Rattle.shm_count.specs.{Slots.Parts.{down_slot_laws, down_slot_part}, Step.Machines.{down_control, down_told}}
-use Rattle.shm_count.specs.Tear.Memos.{is_lasting, is_slot_word}
+use Rattle.shm_count.specs.{Lasting.is_lasting, Tear.Memos.is_slot_word}
 use Rattle.shm_count.specs.declared.answer.UpFault.TheVariants as up
 use Rattle.shm_count.specs.declared.point.Aim.TheVariants as aims
 use Rattle.shm_queue.specs.Proved.QueueSteps.{put_here, same_part as queue_part, take_may}
 use Rattle.shm_queue.specs.Proved.QueueWords.{head_small, item_inside}
 use Rattle.shm_table.specs.declared.take_head.TakeHeadPoint.{TakeHeadPoint, TheVariants.{Lower, Store}}
-use Rattle.shm_table.specs.{declared.take_head.TakeHeadState.TakeHeadState, Staying.{Keeps, Laws.Rests}}
+use Rattle.shm_table.specs.{declared.take_head.TakeHeadState.TakeHeadState, Staying.{Keeps, Laws.KeepsRest}}
 use Rattle.shm_table.specs.Proved.{Staying.Laws.{keeps_rest, raised_cause, root_named}, ValuesListed.idle_here}
 use Rattle.shm_table.specs.TakeHead.Control.{TakeHeadAnswer, head_at, is_lower, take_head_ask, take_head_call, take_head_parts, taking_head}
 use Rattle.shm_table.specs.TakeHead.{IsLowered, MayTakeHead, TakeHeadKnows, passed_memo, take_head_part, take_head_plan}
@@ -74,7 +74,7 @@ module _ (c s n b : ℕ) (m q r : Memo) (idle : IsIdle c m) (lost : Lost c (spot
       (λ u x z k. slot_known passed r u x (ap (λ (y : Memo). filter is_slot_word y.known) left ∙ lost.took.sifts.slots) z k)
       value_passed
 
-  pub rests_passed : Rests c m r
+  pub rests_passed : KeepsRest c m r
   rests_passed =
       record {
         latch = ap (λ (x : Memo). x.latch) rest_passed;

@@ -5,9 +5,9 @@ use Rattle.shm_words.specs.declared.place.Place.TheVariants as place
 use Rattle.shm_graph.specs.{declared.{ask.Me.Me, spot.Spot.TheVariants.{Hold, Latch}, memo.Memo.Memo}, Asks.Trail}
 use Rattle.shm_graph.specs.{Blocks.classes, Core.core, Events.Event, Laws.framed, Reach.unlatched, Spots.spot_at}
 use Rattle.shm_graph.proofs.Spots.SpotPlaces.{spot-place}
-use Rattle.shm_steps.proofs.{Cores.{called_core, here_same}, OwnStores.hold_stored}
-use Rattle.shm_calls.specs.Plans.{PlanLaws, PlanStays, Follows}
-use Rattle.shm_calls.specs.{Words.{word_control, word_part, word_part_laws, IsWord}, Proved.WordSteps.word_at}
+use Rattle.kind_parts.proofs.{Cores.{called_core, here_same}, OwnStores.hold_stored}
+use Rattle.plans.specs.{Plans.{PlanLaws, PlanStays, Follows}, Words.{word_control, word_part, word_part_laws, IsWord}}
+use Rattle.plans.specs.Proved.WordSteps.{word_at}
 use Rattle.shm_ref.specs.{Proved.AskedParts.{asked_part_laws, one_more}, Hold.wants}
 use Rattle.shm_table.specs.declared.unlatch.UnlatchPoint.{UnlatchPoint, TheVariants.{Give, Back}}
 use Rattle.shm_table.specs.{declared.unlatch.UnlatchState.UnlatchState, Proved.LatchGiving.latch_given}

@@ -8,12 +8,11 @@ use Rattle.shm_graph.specs.declared.{ask.Me.Me, memo.Memo.Memo, spot.Spot.{Spot,
 use Rattle.shm_graph.specs.{Agents.recovers, Asks.{Trail, IsWithin}, Bounds.{change_steps, down_steps, tear_steps}}
 use Rattle.shm_graph.specs.{Events.Event, Telling.Entry as AnEntry, Views.own_word}
 use Rattle.shm_graph.specs.Events as event
-use Rattle.shm_calls.specs.{declared.or.Or.TheVariants.{First, Second}, Proved.CallTells.within_more}
-use Rattle.shm_calls.specs.{Proved.Either.or_part_laws, Either.{or_control, or_part}, Parts.IsHeld}
-use Rattle.shm_calls.specs.Plans.{PlanLaws, PlanStays, IsCall, Follows}
-use Rattle.shm_calls.specs.Words.{word_control, word_part_laws, WordLeaves}
-use Rattle.shm_steps.specs.Reparting.{map_in}
-use Rattle.shm_steps.proofs.{Cores.here_same, Reaching.look_reached}
+use Rattle.plans.specs.{declared.or.Or.TheVariants.{First, Second}, Proved.{CallTells.within_more, Either.or_part_laws}}
+use Rattle.plans.specs.{Either.{or_control, or_part}, Parts.IsHeld, Plans.{PlanLaws, PlanStays, IsCall, Follows}}
+use Rattle.plans.specs.Words.{word_control, word_part_laws, WordLeaves}
+use Rattle.kind_parts.specs.Reparting.{map_in}
+use Rattle.kind_parts.proofs.{Cores.here_same, Reaching.look_reached}
 use Rattle.shm_count.specs.declared.answer.{EraSpent.EraSpent as ASpent, UpFault.UpFault}
 use Rattle.shm_count.specs.declared.{answer.UpFault.TheVariants.{CountFull, EraSpent}, point.Aim.Aim}
 use Rattle.shm_count.specs.{CountParts.tear_part, Proved.{CountParts.tear_part_laws, Lowering.{dies, torn_leaves}}}

@@ -1,6 +1,6 @@
 use Rattle.std.proofs.Common.{refl, inl, inr}
 use Rattle.shm_graph.specs.declared.memo.{Fate.TheVariants.Ended, Kind.TheVariants.Client}
-use Rattle.shm_calls.specs.CallsControl.{calls_of}
+use Rattle.plans.specs.CallsControl.{calls_of}
 use Rattle.shm_recover.specs.{Leave.Control.{leaving, leave_steered}, Machines.leave}
 use Rattle.shm_pool.specs.{Calls.shown, Tokens.me_of}
 use Rattle.shm_team.proofs.Visiting.{ends_gone, run_more, same_part}

@@ -4,8 +4,9 @@ use Rattle.shm_tree.proofs.Building.{Looked, alive_any, alive_kept, alive_over, 
 use Rattle.shm_tree.proofs.Rotations.{joined_far, joined_flat, joined_near, joined_stands, seen_back, tall_some}
 use Rattle.shm_tree.proofs.balance.balanced.Goals.{In_ok-far}
 use Rattle.shm_tree.proofs.balance.balanced.Goals as goal
-use Rattle.shm_tree.specs.{Sharing.{IsOver, IsFresh, WeighsFar, WeighsJoined}, declared.node.Side.Side, Standing.Stands}
-use Rattle.shm_tree.specs.{Trees.{Tree, height}, Building.{rooms, IsBuilt, IsCheap, StandsOf, from_far, joined_by}}
+use Rattle.shm_tree.specs.{Sharing.{IsOver, IsFresh, WeighsFar, WeighsJoined}, declared.node.Side.Side}
+use Rattle.shm_tree.specs.{Standing.TreeStands, Trees.{Tree, height}}
+use Rattle.shm_tree.specs.Building.{rooms, IsBuilt, IsCheap, StandsOf, from_far, joined_by}
 use Rattle.shm_tree.specs.{Keeping.{IsLinked, node_by}, Bounds.{link_steps, rotated_steps}}
 use Rattle.std.proofs.Common.{◌≡◌, ◌∙◌, lit≤, refl, sym, ap, subst, arith}
 use Rattle.shm_count.specs.declared.answer.Made.{Made}
@@ -35,7 +36,7 @@ returns-in_err-far-clause-builds c =
 read : (c : In_ok-far) → Looked c.args.pool.now c.height-2.new.pool c.args.life.now.left c.height-2.new.life.left
 read c = looked_then c.requires.working.run (looked c.in_ok-near.ensures.looks) (looked c.in_ok-far.ensures.looks)
 
-told : (c : In_ok-far) (x y : Tree) → Stands c.args.pool.now c.args.trees.near x → Stands c.args.pool.now c.args.trees.far y → (c.in_ok-near.near ≡ height x) × (c.in_ok-far.far ≡ height y)
+told : (c : In_ok-far) (x y : Tree) → TreeStands c.args.pool.now c.args.trees.near x → TreeStands c.args.pool.now c.args.trees.far y → (c.in_ok-near.near ≡ height x) × (c.in_ok-far.far ≡ height y)
 told c x y sx sy = (c.in_ok-near.ensures.is x sx, c.in_ok-far.ensures.is y (c.in_ok-near.ensures.looks.still.trees _ y sy))
 
 pub rotated-requires : goal.rotated-requires

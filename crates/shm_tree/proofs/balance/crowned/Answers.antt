@@ -4,7 +4,7 @@ use Rattle.shm_tree.proofs.Building.{apart, at_hand_linked, born_built, builds_c
 use Rattle.shm_tree.proofs.{Rotations.node_other, Spendings.spent_call, balance.crowned.Goals.{In_ok-lower, In_ok-made}}
 use Rattle.shm_tree.proofs.balance.crowned.Goals as goal
 use Rattle.shm_tree.specs.{Trees.Tree, declared.node.Side.Side, Keeping.{node_by, other_side}}
-use Rattle.shm_tree.specs.{Standing.{Stands, weight}, Bounds.{link_steps, raised_steps}, Building.{Builds, IsBuilt}}
+use Rattle.shm_tree.specs.{Standing.{TreeStands, weight}, Bounds.{link_steps, raised_steps}, Building.{Builds, IsBuilt}}
 use Rattle.std.proofs.Common.{◌≡◌, ◌+◌, ◌∙◌, lit≤, ap, subst, arith}
 use Rattle.std.specs.Prelude.{Ok}
 use Rattle.shm_count.specs.declared.answer.Made.{Made}
@@ -73,7 +73,7 @@ returns-clause-stands c =
     ap (λ (v : Side). node_by v c.args.top (node_by v c.args.far.content z t) low) o
     ∙ node_other s c.args.top (node_by (other_side s) c.args.far.content z t) low in
     top_stands _ (linked_some l.linked c.requires.near_near.0 c.requires.near_far.0) l.linked.born.rooted m.built.rooted d.dropped
-    (subst (λ v. Stands c.raised.new.pool c.in_ok-made.made.block v) turned made)
+    (subst (λ v. TreeStands c.raised.new.pool c.in_ok-made.made.block v) turned made)
 
 pub returns-in_err-lower-clause-builds : goal.returns-in_err-lower-clause-builds
 returns-in_err-lower-clause-builds c =
@@ -126,7 +126,7 @@ returns-clause-weighs c =
     let i = weight_nodes f p q l.linked.born.nodes c.args.far.trees.near z sz in
     let j = weight_nodes f p q l.linked.born.nodes c.args.far.trees.far t st in
     let k : weight f r c.in_ok-made.made.block first ≡ weight f r c.in_ok-made.made.block last = ap (λ (u : Tree). weight f r c.in_ok-made.made.block u) turned in
-    let stands : Stands r c.in_ok-made.made.block last = subst (λ (u : Tree). Stands r c.in_ok-made.made.block u) turned (m.stands z t under zq tq sl) in
+    let stands : TreeStands r c.in_ok-made.made.block last = subst (λ (u : Tree). TreeStands r c.in_ok-made.made.block u) turned (m.stands z t under zq tq sl) in
     let named = d.emptied.others c.in_ok-made.made.root (apart (linked_some l.linked c.requires.near_near.0 c.requires.near_far.0) l.linked.born.rooted m.built.rooted) ∙ m.built.rooted.names in
     let top = weight_root c.in_ok-lower.lower.root r c.drop_root.new.pool d.working d.dropped f last c.in_ok-made.made.root c.in_ok-made.made.block named stands in
     let a = count c.in_ok-lower.lower.block in

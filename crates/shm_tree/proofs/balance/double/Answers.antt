@@ -5,7 +5,7 @@ use Rattle.shm_tree.proofs.balance.double.Goals.{In_ok-outer}
 use Rattle.shm_tree.proofs.balance.double.Goals as goal
 use Rattle.shm_tree.specs.{Sharing.{WeighsCrowned, WeighsTurnedTwice}, declared.node.Content.Content}
 use Rattle.shm_tree.specs.{Building.{rooms, StandsCrowned, StandsTurnedTwice}, Keeping.{node_by, other_side}}
-use Rattle.shm_tree.specs.{Standing.Stands, Trees.Tree, Bounds.crowned_steps}
+use Rattle.shm_tree.specs.{Standing.TreeStands, Trees.Tree, Bounds.crowned_steps}
 use Rattle.std.proofs.Common.{◌≡◌, ◌∙◌, lit≤, sym, ap, subst, arith}
 use Rattle.shm_count.specs.declared.answer.Made.{Made}
 
@@ -79,20 +79,20 @@ returns-clause-stands c =
     let u = c.in_ok-parts.ensures in
     let v = c.in_ok-outer.ensures in
     let far = parts p c.args.trees.far s d (node_by s e y z) w sn in
-    let sg = subst (λ k. Stands p k (node_by s e y z)) (sym c.requires.near_is) far.near in
-    let sw = subst (λ k. Stands p k w) (sym c.requires.far_is) far.far in
+    let sg = subst (λ k. TreeStands p k (node_by s e y z)) (sym c.requires.near_is) far.near in
+    let sw = subst (λ k. TreeStands p k w) (sym c.requires.far_is) far.far in
     let here = parts p c.args.grand.near s e y z sg in
     let top_is : c.in_ok-top.top ≡ e = content_is (t.key ∙ here.key) (t.number ∙ here.number) in
     let mid = parts _ c.args.grand.near s e y z (t.looks.still.trees _ _ sg) in
-    let sy = subst (λ k. Stands c.content_of.new.pool k y) (sym u.near) mid.near in
-    let sz = subst (λ k. Stands c.content_of.new.pool k z) (sym u.far) mid.far in
+    let sy = subst (λ k. TreeStands c.content_of.new.pool k y) (sym u.near) mid.near in
+    let sz = subst (λ k. TreeStands c.content_of.new.pool k z) (sym u.far) mid.far in
     let out = parts _ c.args.trees.far s d (node_by s e y z) w (u.looks.still.trees _ _ (t.looks.still.trees _ _ sn)) in
     let outer_is : c.in_ok-outer.outer ≡ d = content_is (v.key ∙ out.key) (v.number ∙ out.number) in
     let made = b x y w z (v.looks.still.trees _ _ (u.looks.still.trees _ _ (t.looks.still.trees _ x sx))) (v.looks.still.trees _ _ (u.looks.still.trees _ _ sy)) (v.looks.still.trees _ _ (u.looks.still.trees _ _ (t.looks.still.trees _ w sw))) (v.looks.still.trees _ _ (u.looks.still.trees _ _ sz)) in
     let turned = ap (λ (o : Tree). node_by s c.in_ok-top.top (node_by s c.args.middle x y) o) (node_other s c.in_ok-outer.outer w z) in
     let right = ap (λ (o : Content). node_by s c.in_ok-top.top (node_by s c.args.middle x y) (node_by s o z w)) outer_is in
     let over = ap (λ (o : Content). node_by s o (node_by s c.args.middle x y) (node_by s d z w)) top_is in
-    subst (λ (k : Tree). Stands c.crowned.new.pool m.block k) (turned ∙ (right ∙ over)) made) c.crowned.ensures.stands
+    subst (λ (k : Tree). TreeStands c.crowned.new.pool m.block k) (turned ∙ (right ∙ over)) made) c.crowned.ensures.stands
 
 pub returns-in_err-top-clause-builds : goal.returns-in_err-top-clause-builds
 returns-in_err-top-clause-builds c =

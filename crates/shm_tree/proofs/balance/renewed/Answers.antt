@@ -5,8 +5,8 @@ use Rattle.shm_tree.proofs.{Answering.alive_map, balance.renewed.Goals.In_ok-mad
 use Rattle.shm_tree.proofs.balance.renewed.Goals as goal
 use Rattle.shm_tree.specs.Bounds.{balanced_steps}
 use Rattle.shm_tree.specs.Building.{Builds, IsAtHand, IsCheap, IsHeld, StandsOf, joined_by, IsRebuilt, block_of}
-use Rattle.shm_tree.specs.{Keeping.{HasTree, IsStill, child_of, other_side}, Standing.Stands, declared.node.Pair.Pair}
-use Rattle.shm_tree.specs.declared.node.Side.{Side}
+use Rattle.shm_tree.specs.{Keeping.{HasTree, IsStill, child_of, other_side}, Standing.TreeStands}
+use Rattle.shm_tree.specs.declared.node.{Pair.Pair, Side.Side}
 use Rattle.std.proofs.{Common.{◌+◌, ◌∙◌, lit≤, sym, ap, subst, arith}, lemmas.Result.err_from_is_err_and}
 use Rattle.std.specs.Prelude.{Ok, IfSome}
 use Rattle.shm_count.specs.declared.answer.Made.{Made}
@@ -60,7 +60,7 @@ returns-in-None c =
       rebuilt = subst (λ o. IsRebuilt 3 o c.in_ok-made.made p c.balanced.new.pool) (sym c.in-None.is) (rebuilt_alone built);
       stands =
           λ x y sx sy.
-          m.stands x y (u.looks.still.trees _ x (subst (λ k. Stands p k x) (sym c.block_of.ensures) sx)) (u.looks.still.trees _ y (subst (λ k. Stands p k y) (sym far) sy));
+          m.stands x y (u.looks.still.trees _ x (subst (λ k. TreeStands p k x) (sym c.block_of.ensures) sx)) (u.looks.still.trees _ y (subst (λ k. TreeStands p k y) (sym far) sy));
       cheap = cheap_after trees others run u.looks.went.run u.looks.went.start u.looks.still c.block_of.ensures far m.cheap;
       fresh = sym (u.looks.still.lives c.in_ok-made.made.block) ∙ m.fresh;
       weighs = weighs_after p c.child.new.pool c.balanced.new.pool c.args.side c.args.middle trees others c.in_ok-made.made.block u.looks.still c.block_of.ensures far m.weighs;
@@ -82,14 +82,14 @@ returns-in_ok-drop_root-in-Some c =
     let trees : Pair = record { near = block_of c.args.tree; far = child_of p c.args.node (other_side c.args.side) } in
     let others : Pair = record { near = c.block_of.result; far = c.in_ok-far.far } in
     let stands : StandsOf (joined_by c.args.side c.args.middle) trees c.in_ok-made.made.block p c.balanced.new.pool =
-    λ x y sx sy. m.stands x y (u.looks.still.trees _ x (subst (λ k. Stands p k x) (sym c.block_of.ensures) sx)) (u.looks.still.trees _ y (subst (λ k. Stands p k y) (sym far) sy)) in
+    λ x y sx sy. m.stands x y (u.looks.still.trees _ x (subst (λ k. TreeStands p k x) (sym c.block_of.ensures) sx)) (u.looks.still.trees _ y (subst (λ k. TreeStands p k y) (sym far) sy)) in
     record {
       builds = builds_drop _ c.requires.working (before (goal.at.returns-in_ok-drop_root-in-Some c).In_ok-made) d.went d.working d.latch d.steps;
       rebuilt = subst (λ o. IsRebuilt 3 o c.in_ok-made.made p c.drop_root.new.pool) (sym c.in-Some.is) (rebuilt_over run went.run went.start held built d.emptied d.dropped d.working);
       stands =
           λ x y sx sy.
           rebuilt_stands _ held built d.dropped
-          (m.stands x y (u.looks.still.trees _ x (subst (λ k. Stands p k x) (sym c.block_of.ensures) sx)) (u.looks.still.trees _ y (subst (λ k. Stands p k y) (sym far) sy)));
+          (m.stands x y (u.looks.still.trees _ x (subst (λ k. TreeStands p k x) (sym c.block_of.ensures) sx)) (u.looks.still.trees _ y (subst (λ k. TreeStands p k y) (sym far) sy)));
       cheap = cheap_then trees run went.run went.start (cheap_after trees others run u.looks.went.run u.looks.went.start u.looks.still c.block_of.ensures far m.cheap) d.dropped.made;
       fresh = sym (u.looks.still.lives c.in_ok-made.made.block) ∙ m.fresh;
       weighs = renewed_weighs p c.balanced.new.pool c.drop_root.new.pool 3 _ c.in_ok-made.made held built d.emptied d.dropped d.working c.args.side c.args.middle trees stands

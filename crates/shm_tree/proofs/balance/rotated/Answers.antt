@@ -5,7 +5,7 @@ use Rattle.shm_tree.proofs.balance.rotated.Goals.{In_ok-far}
 use Rattle.shm_tree.proofs.balance.rotated.Goals as goal
 use Rattle.shm_tree.specs.{Sharing.{WeighsFar, WeighsTurned, WeighsTurnedTwice}, declared.node.Side.Side}
 use Rattle.shm_tree.specs.Building.{IsAtHand, rooms, StandsOf, StandsTurned, StandsTurnedTwice, from_far}
-use Rattle.shm_tree.specs.{Keeping.{HasTree, child_of, other_side}, Standing.Stands, Trees.{Tree, height}}
+use Rattle.shm_tree.specs.{Keeping.{HasTree, child_of, other_side}, Standing.TreeStands, Trees.{Tree, height}}
 use Rattle.shm_tree.specs.{Working.IsReached, Bounds.turned_steps}
 use Rattle.std.proofs.Common.{◌≡◌, ℕ, ◌≢◌, ◌∙◌, lit≤, sym, subst, arith}
 use Rattle.shm_count.specs.declared.answer.Made.{Made}
@@ -62,10 +62,10 @@ at_hand : (c : In_ok-far) (s : Side) (b : ℕ) → b ≡ child_of c.args.pool.no
 at_hand c s b is some =
     (tree_still b (read c).still (subst (HasTree c.args.pool.now) (sym is) (child_tree c.args.pool.now c.args.trees.far s c.requires.some c.requires.far.0)), λ n. c.in_ok-far.ensures.looks.reaches _ (c.in_ok-near.ensures.looks.reaches _ (some n)))
 
-told : (c : In_ok-far) (y z : Tree) → Stands c.args.pool.now (child_of c.args.pool.now c.args.trees.far c.args.side) y → Stands c.args.pool.now (child_of c.args.pool.now c.args.trees.far (other_side c.args.side)) z → (c.in_ok-near.near ≡ height y) × (c.in_ok-far.far ≡ height z)
+told : (c : In_ok-far) (y z : Tree) → TreeStands c.args.pool.now (child_of c.args.pool.now c.args.trees.far c.args.side) y → TreeStands c.args.pool.now (child_of c.args.pool.now c.args.trees.far (other_side c.args.side)) z → (c.in_ok-near.near ≡ height y) × (c.in_ok-far.far ≡ height z)
 told c y z sy sz =
     let u = c.in_ok-grand.ensures in
-    (c.in_ok-near.ensures.is y (u.looks.still.trees _ y (subst (λ k. Stands c.args.pool.now k y) (sym u.near) sy)), c.in_ok-far.ensures.is z (c.in_ok-near.ensures.looks.still.trees _ z (u.looks.still.trees _ z (subst (λ k. Stands c.args.pool.now k z) (sym u.far) sz))))
+    (c.in_ok-near.ensures.is y (u.looks.still.trees _ y (subst (λ k. TreeStands c.args.pool.now k y) (sym u.near) sy)), c.in_ok-far.ensures.is z (c.in_ok-near.ensures.looks.still.trees _ z (u.looks.still.trees _ z (subst (λ k. TreeStands c.args.pool.now k z) (sym u.far) sz))))
 
 -- the far tree's children are those that were read
 kept : (c : In_ok-far) (s : Side) → child_of c.args.pool.now c.args.trees.far s ≡ child_of c.height-2.new.pool c.args.trees.far s

@@ -3,7 +3,8 @@ use Rattle.shm_tree.proofs.Building.{at_hand_still, builds_after, builds_first, 
 use Rattle.shm_tree.proofs.Rotations.{content_is, node_of, parts}
 use Rattle.shm_tree.proofs.balance.single.Goals as goal
 use Rattle.shm_tree.specs.{Sharing.{WeighsRaised, WeighsTurned}, declared.node.Content.Content}
-use Rattle.shm_tree.specs.{Building.{StandsRaised, StandsTurned}, Keeping.node_by, Standing.Stands, Bounds.raised_steps}
+use Rattle.shm_tree.specs.{Building.{StandsRaised, StandsTurned}, Keeping.node_by, Standing.TreeStands}
+use Rattle.shm_tree.specs.Bounds.{raised_steps}
 use Rattle.std.proofs.Common.{◌≡◌, ◌∙◌, lit≤, sym, subst, arith}
 use Rattle.shm_count.specs.declared.answer.Made.{Made}
 
@@ -43,9 +44,9 @@ returns-clause-stands c =
     let t = c.in_ok-top.ensures in
     let w = parts c.args.pool.now c.args.trees.far s d y z sn in
     let is : c.in_ok-top.top ≡ d = content_is (t.key ∙ w.key) (t.number ∙ w.number) in
-    let sy = subst (λ e. Stands c.args.pool.now e y) (sym c.requires.near_is) w.near in
-    let sz = subst (λ e. Stands c.args.pool.now e z) (sym c.requires.far_is) w.far in
-    subst (λ (v : Content). Stands c.raised.new.pool m.block (node_by s v (node_by s c.args.middle x y) z)) is
+    let sy = subst (λ e. TreeStands c.args.pool.now e y) (sym c.requires.near_is) w.near in
+    let sz = subst (λ e. TreeStands c.args.pool.now e z) (sym c.requires.far_is) w.far in
+    subst (λ (v : Content). TreeStands c.raised.new.pool m.block (node_by s v (node_by s c.args.middle x y) z)) is
     (b x y z (t.looks.still.trees _ x sx) (t.looks.still.trees _ y sy) (t.looks.still.trees _ z sz))) c.raised.ensures.stands
 
 pub returns-in_err-top-clause-builds : goal.returns-in_err-top-clause-builds

@@ -2,7 +2,7 @@ use Rattle.std.proofs.Common.{◌≡◌, true, refl, ap, ◌∙◌, Bool, false}
 use Rattle.std.specs.Prelude.{Ok}
 use Rattle.shm_graph.specs.{declared.ask.Me.Me, Reach.is_reached}
 use Rattle.shm_plain.specs.{Pools.memo_of, Calls.Ran}
-use Rattle.shm_calls.specs.{Words.word_control, CallsControl.{calls_control, calls_does, calls_of}}
+use Rattle.plans.specs.{Words.word_control, CallsControl.{calls_control, calls_does, calls_of}}
 use Rattle.shm_count.specs.Roots.{member}
 use Rattle.shm_ref.specs.{Proved.LatchTasks.LookMay, Look.{look_plan, looking, look_steered}}
 use Rattle.shm_client.proofs.{Reaching.reached_small, Running.plan_may}

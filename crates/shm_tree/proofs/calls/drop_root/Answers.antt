@@ -2,8 +2,8 @@ use Rattle.std.proofs.Common.{◌≡◌, ◌≢◌, ℕ, ◌+◌, ◌≤◌, len
 use Rattle.std.proofs.lemmas.Result.{err_from_is_err_and}
 use Rattle.std.specs.Prelude.{Ok, Err}
 use Rattle.shm_graph.specs.{declared.ask.Me.Me, Asks.IsWithin}
-use Rattle.shm_calls.specs.CallsControl.{calls_control, calls_of, calls_does}
-use Rattle.shm_plain.specs.{Calls.{Ran, Took}, Pools.{Pool, memo_of}}
+use Rattle.plans.specs.CallsControl.{calls_control, calls_of, calls_does}
+use Rattle.shm_plain.specs.{Calls.{Ran, TookSteps}, Pools.{Pool, memo_of}}
 use Rattle.shm_count.specs.{Roots.{member, root_word}, Tear.Events.frees}
 use Rattle.shm_ref.specs.{declared.drop_root.DropState.DropState, DropRoot.Control.{drop_parts, dropping, drop_steered}}
 use Rattle.shm_ref.specs.{DropRoot.{DropLeaves, drop_plan}, Proved.RootTasks.DropMay}
@@ -34,11 +34,11 @@ spent : (c : In-Some-Err) → Answered drop_plan (dropping (member c.args.pool.n
 spent c = let x = c.in-Some-Err in plan_answered drop_parts drop_plan (λ (z : Me). dropping z c.args.root) c.args.pool.now c.run.new.self x.field-0 c.me.ensures.is c.new-dropping.ensures x.field-0-is c.requires.working x.ensures.ran (x.ensures.at_work tt) x.ensures.leaves
 
 -- no exchange of it failed
-took_most : (c : After-new-dropping) (n : ℕ) (q : Pool) (y : ℕ) → Took (calls_control drop_parts drop_steered) 0 c.args.pool.now (calls_of drop_steered c.new-dropping.result) q → Ran 0 true true c.args.pool.now q c.args.life.now.left y → IsWithin n (memo_of q 0).call → c.args.life.now.left ≤ y + n
+took_most : (c : After-new-dropping) (n : ℕ) (q : Pool) (y : ℕ) → TookSteps (calls_control drop_parts drop_steered) 0 c.args.pool.now (calls_of drop_steered c.new-dropping.result) q → Ran 0 true true c.args.pool.now q c.args.life.now.left y → IsWithin n (memo_of q 0).call → c.args.life.now.left ≤ y + n
 took_most c n q y took ran most =
     let p = c.args.pool.now in
     let made : c.new-dropping.result ≡ dropping (member p.start.geometry 0) c.args.root = c.new-dropping.ensures ∙ ap (λ (z : Me). dropping z c.args.root) c.me.ensures.is in
-    drop_most n p q c.args.root c.args.life.now.left y c.requires.working (refl, c.requires.root) (subst (λ (z : DropState). Took (calls_control drop_parts drop_steered) 0 p (calls_of drop_steered z) q) made took) ran most
+    drop_most n p q c.args.root c.args.life.now.left y c.requires.working (refl, c.requires.root) (subst (λ (z : DropState). TookSteps (calls_control drop_parts drop_steered) 0 p (calls_of drop_steered z) q) made took) ran most
 
 working : (c : In-Some-Err) → IsWorking c.run.new.self
 working c = let (es, on, h) = spent c in drop_works c.args.pool.now c.run.new.self es on c.args.root (Err c.in-Some-Err.spent) h

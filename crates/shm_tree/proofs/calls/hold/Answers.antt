@@ -1,7 +1,7 @@
 use Rattle.std.proofs.Common.{◌≡◌, refl, ap, ◌∙◌, subst, true, Bool, false}
 use Rattle.shm_graph.specs.declared.ask.Me.{Me}
-use Rattle.shm_plain.specs.Calls.{Took, Ran}
-use Rattle.shm_calls.specs.{CallsControl.{calls_control, calls_of, calls_does}, Words.word_control}
+use Rattle.shm_plain.specs.Calls.{TookSteps, Ran}
+use Rattle.plans.specs.{CallsControl.{calls_control, calls_of, calls_does}, Words.word_control}
 use Rattle.shm_count.specs.Roots.{member}
 use Rattle.shm_ref.specs.{declared.hold.HoldState.HoldState, Hold.{Control.{holding, hold_steered}, hold_plan}}
 use Rattle.shm_tree.proofs.{Alive.{went_alive, went_dead}, Answering.plan_answered, Counts.taken_by}
@@ -20,7 +20,7 @@ unreachable-requires c =
     let q = c.run.new.self in
     let (es, on, h) = plan_answered word_control hold_plan (λ (x : Me). holding x 0) p q c.in-Some-Err.field-0 c.me.ensures.is c.new-holding.ensures c.in-Some-Err.field-0-is c.requires.working c.in-Some-Err.ensures.ran (c.in-Some-Err.ensures.at_work tt) c.in-Some-Err.ensures.leaves in
     let made : c.new-holding.result ≡ holding (member p.start.geometry 0) 0 = c.new-holding.ensures ∙ ap (λ (x : Me). holding x 0) c.me.ensures.is in
-    hold_free p q es on c.in-Some-Err.field-0-0 c.requires.latch h (subst (λ (s : HoldState). Took (calls_control word_control hold_steered) 0 p (calls_of hold_steered s) q) made c.in-Some-Err.ensures.took)
+    hold_free p q es on c.in-Some-Err.field-0-0 c.requires.latch h (subst (λ (s : HoldState). TookSteps (calls_control word_control hold_steered) 0 p (calls_of hold_steered s) q) made c.in-Some-Err.ensures.took)
 
 pub returns-in-None : goal.returns-in-None
 returns-in-None c =

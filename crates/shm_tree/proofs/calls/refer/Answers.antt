@@ -3,8 +3,8 @@ use Rattle.std.proofs.lemmas.Bool.{cases_eq}
 use Rattle.std.specs.Prelude.{Some, Result, Ok, Err}
 use Rattle.shm_words.specs.Layout.{total_of}
 use Rattle.shm_graph.specs.{declared.ask.Me.Me, Asks.IsWithin, Reach.is_reached, Tells.happens_along}
-use Rattle.shm_calls.specs.CallsControl.{calls_control, calls_of, calls_does}
-use Rattle.shm_plain.specs.{Calls.{IsAtWork, Ran, Took, Did}, Pools.{Pool, memo_of}}
+use Rattle.plans.specs.CallsControl.{calls_control, calls_of, calls_does}
+use Rattle.shm_plain.specs.{Calls.{IsAtWork, Ran, TookSteps, Did}, Pools.{Pool, memo_of}}
 use Rattle.shm_count.specs.Roots.{member}
 use Rattle.shm_ref.specs.{declared.{answer.SetFault.SetFault, set_ref.SetState.SetState}, Proved.RootTasks.SetMay}
 use Rattle.shm_ref.specs.SetRef.{Control.{set_parts, setting, set_steered}, set_plan}
@@ -61,14 +61,14 @@ left : (c : After-new-setting) (q : Pool) (y : ℕ) (a b : Result (Unit {0}) Set
 left c q y a b is ran at h = plan_answered set_parts set_plan (λ (z : Me). setting z c.args.node (side_word c.args.side) c.args.child) c.args.pool.now q a c.me.ensures.is (planned c) is c.requires.working ran at h
 
 -- no exchange of it failed
-took_few : (c : After-new-setting) (q : Pool) (y : ℕ) → Took (calls_control set_parts set_steered) 0 c.args.pool.now (calls_of set_steered c.new-setting.result) q → Ran 0 true true c.args.pool.now q c.args.life.now.left y → IsWithin (refer_steps c.args.pool.now.start.geometry) (memo_of q 0).call
+took_few : (c : After-new-setting) (q : Pool) (y : ℕ) → TookSteps (calls_control set_parts set_steered) 0 c.args.pool.now (calls_of set_steered c.new-setting.result) q → Ran 0 true true c.args.pool.now q c.args.life.now.left y → IsWithin (refer_steps c.args.pool.now.start.geometry) (memo_of q 0).call
     → c.args.life.now.left ≤ y + refer_steps c.args.pool.now.start.geometry
 took_few c q y took ran most =
     let p = c.args.pool.now in
     let k = side_word c.args.side in
     let made : c.new-setting.result ≡ setting (member p.start.geometry 0) c.args.node k c.args.child = planned c ∙ ap (λ (z : Me). setting z c.args.node k c.args.child) c.me.ensures.is in
     set_most (refer_steps p.start.geometry) p q c.args.node k c.args.child c.args.life.now.left y c.requires.working (refl, c.requires.working.client, c.requires.working.loose, reached (goal.at.After-new-setting c).After-me, c.requires.reached)
-    (subst (λ (z : SetState). Took (calls_control set_parts set_steered) 0 p (calls_of set_steered z) q) made took) ran most
+    (subst (λ (z : SetState). TookSteps (calls_control set_parts set_steered) 0 p (calls_of set_steered z) q) made took) ran most
 
 -- it isn't refused but at the count step
 never : (c : After-new-setting) (q : Pool) (y : ℕ) (a : Result (Unit {0}) SetFault) (f : SetFault) → a ≡ Err f → ((e : ℕ) → f ≡ fault.EraSpent e → ⊥) → ((d n : ℕ) → f ≡ fault.CountFull d n → ⊥) → Ran 0 true true c.args.pool.now q c.args.life.now.left y → IsAtWork 0 q

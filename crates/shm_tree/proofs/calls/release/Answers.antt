@@ -1,6 +1,6 @@
 use Rattle.std.proofs.Common.{refl, true, Bool, false}
 use Rattle.shm_plain.specs.{Pools.memo_of, Calls.Ran}
-use Rattle.shm_calls.specs.{Words.word_control, CallsControl.{calls_control, calls_does, calls_of}}
+use Rattle.plans.specs.{Words.word_control, CallsControl.{calls_control, calls_does, calls_of}}
 use Rattle.shm_count.specs.Roots.{member}
 use Rattle.shm_ref.specs.{Proved.LatchTasks.ReleaseMay, Release.{release_plan, releasing, release_steered}}
 use Rattle.shm_client.proofs.Running.{plan_may}

@@ -1,7 +1,7 @@
 use Rattle.std.proofs.Common.{refl, subst, true, Bool, false}
 use Rattle.shm_graph.specs.declared.ask.Me.{Me}
 use Rattle.shm_plain.specs.Calls.{Did, Ran}
-use Rattle.shm_calls.specs.{Words.word_control, CallsControl.{calls_control, calls_does, calls_of}}
+use Rattle.plans.specs.{Words.word_control, CallsControl.{calls_control, calls_does, calls_of}}
 use Rattle.shm_ref.specs.RootOf.{naming, naming_plan, naming_steered}
 use Rattle.shm_tree.proofs.{Alive.went_alive, Answering.plan_answered, Counts.taken_by, CutShort.unanswered}
 use Rattle.shm_tree.proofs.Latches.{named_latch, named_reached, named_reaches, named_still, named_works}

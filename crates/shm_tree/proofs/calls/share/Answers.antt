@@ -1,8 +1,8 @@
 use Rattle.std.proofs.Common.{◌≡◌, ℕ, true, refl, ap, ◌∙◌, subst, inl, inr, Bool, false}
 use Rattle.std.specs.Prelude.{Some, Ok, Err, Result}
 use Rattle.shm_graph.specs.declared.ask.Me.{Me}
-use Rattle.shm_calls.specs.CallsControl.{calls_control, calls_of, calls_does}
-use Rattle.shm_plain.specs.{Calls.{Took, Ran, IsAtWork}, Pools.memo_of}
+use Rattle.plans.specs.CallsControl.{calls_control, calls_of, calls_does}
+use Rattle.shm_plain.specs.{Calls.{TookSteps, Ran, IsAtWork}, Pools.memo_of}
 use Rattle.shm_count.specs.{declared.{up_root.RootingState.RootingState, answer.ShareFault.ShareFault}, Roots.member}
 use Rattle.shm_count.specs.{Proved.ShareTask.ShareMay, UpRoot.Control.{rooting, rooting_parts, rooting_steered}}
 use Rattle.shm_count.specs.UpRoot.{rooting_plan}
@@ -20,8 +20,8 @@ falls : (c : After-run) (answered : Bool) → Ran 0 true answered c.args.pool.no
 falls c answered ran = always_falls (calls_control rooting_parts rooting_steered) (calls_does rooting_parts rooting_plan) (calls_of rooting_steered c.new-sharing.result) answered c.args.pool.now c.run.new.self c.args.life.now.left c.run.new.life.left share_keeps c.requires.working ran c.run.ensures.told
 
 -- its turns, by the plan as it was made
-took : (c : After-run) → Took (calls_control rooting_parts rooting_steered) 0 c.args.pool.now (calls_of rooting_steered c.new-sharing.result) c.run.new.self → Took (calls_control rooting_parts rooting_steered) 0 c.args.pool.now (calls_of rooting_steered (rooting (member c.args.pool.now.start.geometry 0) c.args.tree)) c.run.new.self
-took c t = subst (λ (s : RootingState). Took (calls_control rooting_parts rooting_steered) 0 c.args.pool.now (calls_of rooting_steered s) c.run.new.self) (c.new-sharing.ensures ∙ ap (λ (z : Me). rooting z c.args.tree) c.me.ensures.is) t
+took : (c : After-run) → TookSteps (calls_control rooting_parts rooting_steered) 0 c.args.pool.now (calls_of rooting_steered c.new-sharing.result) c.run.new.self → TookSteps (calls_control rooting_parts rooting_steered) 0 c.args.pool.now (calls_of rooting_steered (rooting (member c.args.pool.now.start.geometry 0) c.args.tree)) c.run.new.self
+took c t = subst (λ (s : RootingState). TookSteps (calls_control rooting_parts rooting_steered) 0 c.args.pool.now (calls_of rooting_steered s) c.run.new.self) (c.new-sharing.ensures ∙ ap (λ (z : Me). rooting z c.args.tree) c.me.ensures.is) t
 
 pub new-sharing-requires-clause-block : goal.new-sharing-requires-clause-block
 new-sharing-requires-clause-block c = reached_small c.args.pool.now 0 c.requires.working.work c.requires.working.run c.args.tree (c.requires.reached c.requires.some)

@@ -1,5 +1,5 @@
 use Rattle.std.proofs.Common.{◌≡◌, ◌^◌, ◌<◌, ◌≤◌, ap, ◌∙◌, arith}
-use Rattle.shm_calls.specs.{CallsControl.calls_of, CallsFit.{CallsFits, CallsGives}}
+use Rattle.plans.specs.{CallsControl.calls_of, CallsFit.{CallsFits, CallsGives}}
 use Rattle.shm_recover.specs.{declared.leave.LeaveState.LeaveState, Leave.Control.{leave_parts, leaving, leave_steered}}
 use Rattle.shm_recover.specs.Leave.{leave_plan}
 use Rattle.shm_plain.proofs.Called.{Called}

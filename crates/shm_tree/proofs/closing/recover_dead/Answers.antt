@@ -1,5 +1,5 @@
 use Rattle.std.proofs.Common.{◌≡◌, ◌^◌, ◌<◌, ◌≤◌, ap, ◌∙◌, arith}
-use Rattle.shm_calls.specs.{CallsControl.calls_of, CallsFit.{CallsFits, CallsGives}}
+use Rattle.plans.specs.{CallsControl.calls_of, CallsFit.{CallsFits, CallsGives}}
 use Rattle.shm_recover.specs.declared.recover.RecoverState.{RecoverState}
 use Rattle.shm_recover.specs.Recover.{Control.{recover_parts, recovering, recover_steered}, recover_plan}
 use Rattle.shm_plain.proofs.Called.{Called}

@@ -1,5 +1,5 @@
 use Rattle.std.proofs.Common.{◌≡◌, ℕ, ◌≤◌, ◌∙◌, subst, arith}
-use Rattle.shm_tree.specs.{Standing.{Stands, weight}, Ways.down}
+use Rattle.shm_tree.specs.{Standing.{TreeStands, weight}, Ways.down}
 use Rattle.shm_tree.proofs.Answering.{node_still, reached_then}
 use Rattle.shm_tree.proofs.Building.{looked, looked_none, looked_then, looks_after, looks_done, looks_from}
 use Rattle.shm_tree.proofs.{Descents.{level_light, level_stands}, Ways.some_node}
@@ -56,7 +56,7 @@ returns c =
     record {
       looks = looks_done _ r.passed;
       steps = let s = r.steps in omega (arith, s, all);
-      stands = λ t st. subst (λ (i : ℕ). Stands c.loop-level.pool c.loop-level.node (down c.args.wanted t i)) all (r.stands t st);
+      stands = λ t st. subst (λ (i : ℕ). TreeStands c.loop-level.pool c.loop-level.node (down c.args.wanted t i)) all (r.stands t st);
       reached = r.reached;
       light = λ f t st. subst (λ (i : ℕ). weight f c.loop-level.pool c.loop-level.node (down c.args.wanted t i) ≤ weight f c.args.pool.now c.args.tree t) all (r.light f t st);
     }

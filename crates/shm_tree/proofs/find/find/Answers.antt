@@ -1,5 +1,5 @@
 use Rattle.std.proofs.{Common.{ℕ, ◌∙◌, inl, inr, sym, subst, arith}, lemmas.Bool.cases_eq}
-use Rattle.shm_tree.specs.{Standing.Stands, Trees.Tree, Ways.{IsOther, IsSome, down}}
+use Rattle.shm_tree.specs.{Standing.TreeStands, Trees.Tree, Ways.{IsOther, IsSome, down}}
 use Rattle.shm_tree.proofs.Answering.{node_still, reached_then}
 use Rattle.shm_tree.proofs.Building.{looked, looked_none, looked_then, looks_after, looks_done, looks_from}
 use Rattle.shm_tree.proofs.Descents.{level_light, level_lower, level_stands, none_end, others_deep, way_low}
@@ -50,8 +50,8 @@ loop-node-preserved c =
     let q = c.key.new.pool in
     let x = c.args.wanted in
     let d = c.loop-node.depth in
-    let some : (t : Tree) → Stands c.args.pool.now c.args.tree t → IsSome (down x t d) = λ t st. (stands_node p c.loop-node.node (down x t d) (r.stands t st) c.loop-node-test.true).1 in
-    let other : (t : Tree) → Stands c.args.pool.now c.args.tree t → IsOther x (down x t d) =
+    let some : (t : Tree) → TreeStands c.args.pool.now c.args.tree t → IsSome (down x t d) = λ t st. (stands_node p c.loop-node.node (down x t d) (r.stands t st) c.loop-node-test.true).1 in
+    let other : (t : Tree) → TreeStands c.args.pool.now c.args.tree t → IsOther x (down x t d) =
     λ t st. key_other p c.loop-node.node x c.in_ok-here.here (down x t d) (r.stands t st) (some t st) a.is (λ e. omega arith) in
     record {
       passed = looked_then run (looked_then run r.passed (looked a.looks)) (looked b.looks);

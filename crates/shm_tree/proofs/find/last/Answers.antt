@@ -1,5 +1,5 @@
 use Rattle.std.proofs.{Common.{◌≡◌, ℕ, suc, ◌+◌, ◌-◌, ◌∙◌, inl, inr, sym, subst, arith}, lemmas.Bool.cases_eq}
-use Rattle.shm_tree.specs.{Standing.Stands, Trees.Tree, Ways.{IsSome, down, toward}}
+use Rattle.shm_tree.specs.{Standing.TreeStands, Trees.Tree, Ways.{IsSome, down, toward}}
 use Rattle.shm_tree.proofs.{Answering.reached_then, Building.{looked, looked_then, looks_after, looks_done, looks_from}}
 use Rattle.shm_tree.proofs.{Descents.way_low, Levels.behind, Onward.{left_child, right_child, some_end}}
 use Rattle.shm_tree.proofs.Ways.{height_at_is, stands_node, stands_none, toward_lower}
@@ -25,8 +25,8 @@ loop-next-init c =
       next_reached = u.reached;
       steps = (let s = u.steps in omega (arith, s));
       below = omega arith;
-      stands = λ x t st se en. subst (λ (i : ℕ). Stands q b (down x t i)) (sym none) (u.looks.still.trees b t st);
-      next = λ x t st se en. subst (λ (i : ℕ). Stands q n (down x t (suc i))) (sym none) (right_child p q b n x t u.looks.still u.names en c.requires.some st);
+      stands = λ x t st se en. subst (λ (i : ℕ). TreeStands q b (down x t i)) (sym none) (u.looks.still.trees b t st);
+      next = λ x t st se en. subst (λ (i : ℕ). TreeStands q n (down x t (suc i))) (sym none) (right_child p q b n x t u.looks.still u.names en c.requires.some st);
       deep = λ x t st se en i lt. (let is : i ≡ 0 = omega (arith, lt) in subst (λ (k : ℕ). IsSome (down x t k)) (sym is) (stands_node p b t st c.requires.some).1);
     }
 
@@ -62,8 +62,8 @@ loop-next-preserved c =
       next_reached = u.reached;
       steps = (let s = r.steps in let v = u.steps in omega (arith, s, v, below));
       below = omega arith;
-      stands = λ x t st se en. subst (λ (i : ℕ). Stands v b (down x t i)) (sym is) (u.looks.still.trees b (down x t (suc j)) (r.next x t st se en));
-      next = λ x t st se en. subst (λ (i : ℕ). Stands v n (down x t (suc i))) (sym is) (left_child q v b n x (down x t (suc j)) u.looks.still u.names (behind x t j se en) some (r.next x t st se en));
+      stands = λ x t st se en. subst (λ (i : ℕ). TreeStands v b (down x t i)) (sym is) (u.looks.still.trees b (down x t (suc j)) (r.next x t st se en));
+      next = λ x t st se en. subst (λ (i : ℕ). TreeStands v n (down x t (suc i))) (sym is) (left_child q v b n x (down x t (suc j)) u.looks.still u.names (behind x t j se en) some (r.next x t st se en));
       deep =
           λ x t st se en i lt. elim (cases_eq i (suc j)) [
             | inl e ↦ subst (λ (k : ℕ). IsSome (down x t k)) (sym e) (stands_node q b (down x t (suc j)) (r.next x t st se en) some).1
@@ -84,7 +84,7 @@ loop-next-smaller c =
     let x = some_end t.0 in
     let here = r.next x.0 t.0 t.1 t.2 x.1 in
     let w : Tree = down x.0 t.0 (suc j) in
-    let there : Stands v n (toward x.0 w) = left_child q v b n x.0 w u.looks.still u.names (behind x.0 t.0 j t.2 x.1) c.loop-next-test.true here in
+    let there : TreeStands v n (toward x.0 w) = left_child q v b n x.0 w u.looks.still u.names (behind x.0 t.0 j t.2 x.1) c.loop-next-test.true here in
     omega (arith, height_at_is v n (toward x.0 w) there, height_at_is q b w here, toward_lower x.0 w (stands_node q b w here c.loop-next-test.true).1)
 
 pub overflow_add-lowest : goal.overflow_add-lowest

@@ -3,7 +3,7 @@ use Rattle.shm_tree.proofs.{Building.{looked, looked_then, looks_after, looks_do
 use Rattle.shm_tree.proofs.Ways.{down_lower, down_found, end_none, end_some, stands_node}
 use Rattle.shm_tree.proofs.find.number_at.Goals.{In_ok-place}
 use Rattle.shm_tree.proofs.find.number_at.Goals as goal
-use Rattle.shm_tree.specs.{Standing.Stands, Trees.{Tree, height}}
+use Rattle.shm_tree.specs.{Standing.TreeStands, Trees.{Tree, height}}
 
 pub find-requires : goal.find-requires
 find-requires c = record { working = c.requires.working; latch = c.requires.latch; tree = c.requires.tree }
@@ -15,7 +15,7 @@ number-requires c =
     record { working = f.looks.working; node = (stands_node c.find.new.pool c.in_ok-place.place.node _ (f.place t.0 t.1).stands (omega arith)).0; reached = f.reached }
 
 -- the place is at most as deep as the tree is high
-depth_high : (c : In_ok-place) (t : Tree) → Stands c.args.pool.now c.args.tree t → c.in_ok-place.place.depth ≤ height t
+depth_high : (c : In_ok-place) (t : Tree) → TreeStands c.args.pool.now c.args.tree t → c.in_ok-place.place.depth ≤ height t
 depth_high c t st =
     let w = c.in_ok-place.ensures.place t st in
     let lower = down_lower c.args.wanted t c.in_ok-place.place.depth (others_deep c.args.wanted c.in_ok-place.place.depth t w.on) in

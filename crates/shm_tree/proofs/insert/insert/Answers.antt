@@ -10,7 +10,7 @@ use Rattle.shm_tree.proofs.{Nodes.made_then, Ways.{down_lower, other_block, stan
 use Rattle.shm_tree.proofs.Spendings.{climbed_low, climbed_more, climbed_none, first_most, level_most, spent_call, spent_then}
 use Rattle.shm_tree.proofs.insert.insert.Goals as goal
 use Rattle.shm_tree.specs.{Building.IsCut, declared.node.Side.Side, Inserting.outside, Raising.IsCheapAt}
-use Rattle.shm_tree.specs.{Sharing.CountsTop, Keeping.HasMade, Standing.{Stands, weight}}
+use Rattle.shm_tree.specs.{Sharing.CountsTop, Keeping.HasMade, Standing.{TreeStands, weight}}
 use Rattle.shm_tree.specs.{Trees.{Tree, height, inserted}, Ways.{IsDeep, IsEnd, IsOther, down, toward}}
 use Rattle.shm_tree.specs.{Bounds.{climb_steps, insert_steps, lowest_steps, raise_steps}, Spending.HasSpent}
 use Rattle.std.proofs.Common.{◌≡◌, ℕ, suc, ◌+◌, ◌*◌, ◌-◌, ◌<◌, ◌≤◌, ◌∙◌, sym, subst, arith, inl, inr}
@@ -77,12 +77,12 @@ levels-init c =
     let built = built_after run f.looks.went.run f.looks.went.start f.looks.still m.built in
     let p = c.args.pool.now in
     let q = c.find.new.pool in
-    let new : (t : Tree) → Stands p c.args.tree t → outside p c.args.tree t c.in_ok-made.made.block ≡ 1 =
+    let new : (t : Tree) → TreeStands p c.args.tree t → outside p c.args.tree t c.in_ok-made.made.block ≡ 1 =
     λ t st. outside_new p q c.in_ok-made.made.block c.args.tree t (λ f'. weight_nodes f' p q f.looks.still.nodes c.args.tree t st) (f.looks.still.trees c.args.tree t st) m.fresh in
     let key : c.from.result ≡ c.args.wanted = omega arith in
-    let made : (t : Tree) → Stands c.args.pool.now c.args.tree t → Stands c.lowest.new.pool c.in_ok-made.made.block (inserted c.args.wanted c.args.number (down c.args.wanted t e)) =
+    let made : (t : Tree) → TreeStands c.args.pool.now c.args.tree t → TreeStands c.lowest.new.pool c.in_ok-made.made.block (inserted c.args.wanted c.args.number (down c.args.wanted t e)) =
     λ t st.
-    subst (λ (k : ℕ). Stands c.lowest.new.pool c.in_ok-made.made.block (inserted k c.args.number (down c.args.wanted t e))) key
+    subst (λ (k : ℕ). TreeStands c.lowest.new.pool c.in_ok-made.made.block (inserted k c.args.number (down c.args.wanted t e))) key
     (m.stands (down c.args.wanted t e) (f.place t st).stands (subst (λ (k : ℕ). IsEnd k (down c.args.wanted t e)) (sym key) (f.place t st).end)) in
     record {
       went = went_on run f.looks.went m.builds.went;
@@ -124,15 +124,15 @@ levels-preserved c =
     let e = c.in_ok-place.place.depth in
     let low = r.low in
     let same : c.levels.depth ≡ suc d = omega arith in
-    let under : (t : Tree) → Stands p c.args.tree t → Stands w c.levels.made.block (inserted x y (toward x (down x t d))) =
-    λ t st. a.looks.still.trees c.levels.made.block (inserted x y (toward x (down x t d))) (subst (λ (n : ℕ). Stands q c.levels.made.block (inserted x y (down x t n))) same (r.stands t st)) in
-    let here : (t : Tree) → Stands p c.args.tree t → Stands w c.in_ok-node.node (down x t d) = λ t st. a.stands t (registered_kept t c.requires.tree r.built st) in
+    let under : (t : Tree) → TreeStands p c.args.tree t → TreeStands w c.levels.made.block (inserted x y (toward x (down x t d))) =
+    λ t st. a.looks.still.trees c.levels.made.block (inserted x y (toward x (down x t d))) (subst (λ (n : ℕ). TreeStands q c.levels.made.block (inserted x y (down x t n))) same (r.stands t st)) in
+    let here : (t : Tree) → TreeStands p c.args.tree t → TreeStands w c.in_ok-node.node (down x t d) = λ t st. a.stands t (registered_kept t c.requires.tree r.built st) in
     let g = c.requires.tree in
-    let below : (t : Tree) → Stands p c.args.tree t → Stands q c.levels.made.block (inserted x y (toward x (down x t d))) =
-    λ t st. subst (λ (n : ℕ). Stands q c.levels.made.block (inserted x y (down x t n))) same (r.stands t st) in
-    let new : (t : Tree) → Stands p c.args.tree t → outside p c.args.tree t c.in_ok-made-2.made.block ≡ 1 =
+    let below : (t : Tree) → TreeStands p c.args.tree t → TreeStands q c.levels.made.block (inserted x y (toward x (down x t d))) =
+    λ t st. subst (λ (n : ℕ). TreeStands q c.levels.made.block (inserted x y (down x t n))) same (r.stands t st) in
+    let new : (t : Tree) → TreeStands p c.args.tree t → outside p c.args.tree t c.in_ok-made-2.made.block ≡ 1 =
     λ t st. outside_new p w c.in_ok-made-2.made.block c.args.tree t (λ f. weight_nodes f q w a.looks.still.nodes c.args.tree t (registered_kept t g r.built st) ∙ registered_same q t g r.built.blocks st f) (a.looks.still.trees c.args.tree t (registered_kept t g r.built st)) b.fresh in
-    let low_tops : (t : Tree) → Stands p c.args.tree t → height (inserted x y (toward x (down x t d))) ≡ height (toward x (down x t d)) + 1 → (s : Side) → CountsTop (outside p c.args.tree t) w s c.levels.made.block =
+    let low_tops : (t : Tree) → TreeStands p c.args.tree t → height (inserted x y (toward x (down x t d))) ≡ height (toward x (down x t d)) + 1 → (s : Side) → CountsTop (outside p c.args.tree t) w s c.levels.made.block =
     λ t st grew s. top_kept (outside p c.args.tree t) q w s c.levels.made.block (inserted x y (toward x (down x t d))) (r.built.some) (below t st) a.looks.still
     (r.tops t st (subst (λ (n : ℕ). height (inserted x y (down x t n)) ≡ height (down x t n) + 1) (sym same) grew) s) in
     record {
@@ -186,15 +186,15 @@ returns c =
     let x = c.args.wanted in
     let y = c.args.number in
     let none : c.levels.depth ≡ 0 = omega arith in
-    let shares : (t : Tree) → Stands p c.args.tree t → weight (outside p c.args.tree t) q c.levels.made.block (inserted x y t) ≤ height t + 1 =
+    let shares : (t : Tree) → TreeStands p c.args.tree t → weight (outside p c.args.tree t) q c.levels.made.block (inserted x y t) ≤ height t + 1 =
     λ t st.
     (let few = r.few t st in
     let low = down_lower x t c.in_ok-place.place.depth (others_deep x c.in_ok-place.place.depth t (r.on t st)) in
     let is : weight (outside p c.args.tree t) q c.levels.made.block (inserted x y t) ≤ 1 + (c.in_ok-place.place.depth - c.levels.depth) = subst (λ (n : ℕ). weight (outside p c.args.tree t) q c.levels.made.block (inserted x y (down x t n)) ≤ 1 + (c.in_ok-place.place.depth - c.levels.depth)) none few in
     omega (arith, is, low)) in
-    let stands : (t : Tree) → Stands p c.args.tree t → Stands q c.levels.made.block (inserted x y t) = λ t st. subst (λ (n : ℕ). Stands q c.levels.made.block (inserted x y (down x t n))) none (r.stands t st) in
-    let spent : (t : Tree) → Stands p c.args.tree t → HasSpent (insert_steps (height t) p.start.geometry) p q c.args.life.now.left c.levels.life.left = λ t st. (let low = down_lower x t c.in_ok-place.place.depth (others_deep x c.in_ok-place.place.depth t (r.on t st)) in climbed_low p q (c.in_ok-place.place.depth - c.levels.depth) c.in_ok-place.place.depth (height t) (omega (arith, none)) (omega (arith, low)) r.spent) in
-    let made : (t : Tree) → Stands p c.args.tree t → HasMade (height t + 3) p q =
+    let stands : (t : Tree) → TreeStands p c.args.tree t → TreeStands q c.levels.made.block (inserted x y t) = λ t st. subst (λ (n : ℕ). TreeStands q c.levels.made.block (inserted x y (down x t n))) none (r.stands t st) in
+    let spent : (t : Tree) → TreeStands p c.args.tree t → HasSpent (insert_steps (height t) p.start.geometry) p q c.args.life.now.left c.levels.life.left = λ t st. (let low = down_lower x t c.in_ok-place.place.depth (others_deep x c.in_ok-place.place.depth t (r.on t st)) in climbed_low p q (c.in_ok-place.place.depth - c.levels.depth) c.in_ok-place.place.depth (height t) (omega (arith, none)) (omega (arith, low)) r.spent) in
+    let made : (t : Tree) → TreeStands p c.args.tree t → HasMade (height t + 3) p q =
     λ t st.
     (let i = tree_is p c.args.tree g.tree.0 t g.tree.1 st in
     let some : HasMade (cost x y t) p q = subst (λ (n : ℕ). HasMade (cost x y (down x t n)) p q) none (r.made t st) in
@@ -259,9 +259,9 @@ returns-in_err-made-2-clause-builds c =
     let o : IsOther x (down x t d) = r.on t st d (omega arith) in
     let i : ℕ = cost x y (toward x (down x t d)) in
     let j : ℕ = work (inserted x y (toward x (down x t d))) (away x (down x t d)) in
-    let under : Stands w c.levels.made.block (inserted x y (toward x (down x t d))) =
-    a.looks.still.trees c.levels.made.block (inserted x y (toward x (down x t d))) (subst (λ (n : ℕ). Stands q c.levels.made.block (inserted x y (down x t n))) same (r.stands t st)) in
-    let here : Stands w c.in_ok-node.node (down x t d) = a.stands t (registered_kept t g r.built st) in
+    let under : TreeStands w c.levels.made.block (inserted x y (toward x (down x t d))) =
+    a.looks.still.trees c.levels.made.block (inserted x y (toward x (down x t d))) (subst (λ (n : ℕ). TreeStands q c.levels.made.block (inserted x y (down x t n))) same (r.stands t st)) in
+    let here : TreeStands w c.in_ok-node.node (down x t d) = a.stands t (registered_kept t g r.built st) in
     let first : HasMade i p q = subst (λ (n : ℕ). HasMade (cost x y (down x t n)) p q) same (r.made t st) in
     let cut = cut_then run r.went.run r.went.start (cut_made i (built_cut r.built) first) (still_cut a.looks.still) in
     let is : cost x y (down x t d) ≡ i + j = cost_level x y (down x t d) o in

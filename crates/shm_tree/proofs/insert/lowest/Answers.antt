@@ -4,7 +4,7 @@ use Rattle.shm_tree.proofs.Inserting.{inserted_low}
 use Rattle.shm_tree.proofs.insert.lowest.Goals as goal
 use Rattle.shm_tree.specs.{Sharing.IsFresh, declared.node.Side.TheVariants.Left, Building.IsBuilt}
 use Rattle.shm_tree.specs.{Inserting.{StandsLowest, WeighsLowest, left_of, right_of}, Keeping.{HasTree, IsLinked}}
-use Rattle.shm_tree.specs.{Standing.{Stands, weight}, Trees.{Tree, Node, inserted}, Bounds.link_steps}
+use Rattle.shm_tree.specs.{Standing.{TreeStands, weight}, Trees.{Tree, Node, inserted}, Bounds.link_steps}
 use Rattle.std.proofs.Common.{◌≡◌, ◌∙◌, lit≤, sym, ap, subst, arith}
 use Rattle.shm_count.specs.declared.answer.Made.{Made}
 
@@ -44,7 +44,7 @@ returns c =
       built = ok_kept {T = Made} {P = λ m. IsLinked c.args.content Left c.in_ok-trees.trees m c.trees_of.new.pool c.link.new.pool} {Q = λ m. IsBuilt 1 m c.args.pool.now c.link.new.pool} _ (λ m b. built_after run u.looks.went.run u.looks.went.start u.looks.still (born_built (linked_some b near far) b.born)) l.linked;
       stands =
           ok_kept {T = Made} {P = λ m. IsLinked c.args.content Left c.in_ok-trees.trees m c.trees_of.new.pool c.link.new.pool} {Q = λ m. StandsLowest c.args.content.key c.args.content.number c.args.node m.block c.args.pool.now c.link.new.pool} _ (λ m b. λ v sv end.
-          subst (Stands c.link.new.pool m.block) (sym (inserted_low c.args.content.key c.args.content.number v end)) (b.stands (left_of v) (right_of v) (u.looks.still.trees _ _ (u.near v sv)) (u.looks.still.trees _ _ (u.far v sv)))) l.linked;
+          subst (TreeStands c.link.new.pool m.block) (sym (inserted_low c.args.content.key c.args.content.number v end)) (b.stands (left_of v) (right_of v) (u.looks.still.trees _ _ (u.near v sv)) (u.looks.still.trees _ _ (u.far v sv)))) l.linked;
       fresh = ok_kept {T = Made} {P = λ m. IsLinked c.args.content Left c.in_ok-trees.trees m c.trees_of.new.pool c.link.new.pool} {Q = IsFresh c.args.pool.now} _ (λ m b. sym (u.looks.still.lives m.block) ∙ b.born.fresh) l.linked;
       weighs =
           ok_kept {T = Made} {P = λ m. IsLinked c.args.content Left c.in_ok-trees.trees m c.trees_of.new.pool c.link.new.pool} {Q = λ m. WeighsLowest c.args.content.key c.args.content.number c.args.node m.block c.args.pool.now c.link.new.pool} _ (λ m b. λ f v count sv end.

@@ -4,7 +4,7 @@ use Rattle.shm_count.specs.declared.answer.Made.{Made}
 use Rattle.shm_tree.specs.declared.node.{Content.Content, Side.{Side, TheVariants.{Left, Right}}}
 use Rattle.shm_tree.specs.Bounds.{make_steps, refer_steps}
 use Rattle.shm_tree.specs.Keeping.{HasGrown, HasTree, IsBorn, IsMade, IsReferring, child_of, other_side}
-use Rattle.shm_tree.specs.{Standing.Stands, Trees.{Tree, height}}
+use Rattle.shm_tree.specs.{Standing.TreeStands, Trees.{Tree, height}}
 use Rattle.shm_tree.proofs.Answering.{reached_then, room_still, tree_still}
 use Rattle.shm_tree.proofs.Building.{Looked, looked, looked_then, looks_after}
 use Rattle.shm_tree.proofs.Changing.{Changed, changed_looked, changed_then, changes_cut, changes_done, changes_first, changes_from}
@@ -21,10 +21,10 @@ pub height-requires-2-clause-reached : goal.height-requires-2-clause-reached
 height-requires-2-clause-reached c = reached_then c.args.pool.now c.height.new.pool c.args.trees.far c.requires.far_reached c.in_ok-near.ensures.looks.reaches
 
 -- the heights are those of the trees as they stood before
-nears : (c : In_ok-near) → (t : Tree) → Stands c.args.pool.now c.args.trees.near t → c.in_ok-near.near ≡ height t
+nears : (c : In_ok-near) → (t : Tree) → TreeStands c.args.pool.now c.args.trees.near t → c.in_ok-near.near ≡ height t
 nears c t y = c.in_ok-near.ensures.is t y
 
-fars : (c : In_ok-far) → (t : Tree) → Stands c.args.pool.now c.args.trees.far t → c.in_ok-far.far ≡ height t
+fars : (c : In_ok-far) → (t : Tree) → TreeStands c.args.pool.now c.args.trees.far t → c.in_ok-far.far ≡ height t
 fars c t y = c.in_ok-far.ensures.is t (c.in_ok-near.ensures.looks.still.trees c.args.trees.far t y)
 
 read : (c : In_ok-far) → Looked c.args.pool.now c.height-2.new.pool c.args.life.now.left c.height-2.new.life.left

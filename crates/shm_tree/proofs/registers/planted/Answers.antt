@@ -2,7 +2,7 @@ use Rattle.std.proofs.Common.{◌+◌, arith}
 use Rattle.std.specs.Prelude.{IfOk, Result}
 use Rattle.shm_count.specs.declared.answer.Made.{Made}
 use Rattle.shm_tree.specs.{declared.stop.Stop.Stop, Bounds.insert_steps, Building.{Builds, IsBuilt}, Costing.MakesFew}
-use Rattle.shm_tree.specs.{Living.KeepsLives, Standing.Stands, Trees.{Tree, height, inserted}}
+use Rattle.shm_tree.specs.{Living.KeepsLives, Standing.TreeStands, Trees.{Tree, height, inserted}}
 use Rattle.shm_tree.proofs.Building.{looked, built_cut, ok_kept, rooms_still, went_on}
 use Rattle.shm_tree.proofs.Costing.{costs_still, few_between}
 use Rattle.shm_tree.proofs.Forests.{calls_died, calls_from, named_cut, planted_rooted, quiet}
@@ -66,15 +66,15 @@ returns c =
     let l = n.quiet in
     let (t0, w0) = c.requires.tree in
     let s0 = entered_stands n t0 w0.stands in
-    let Built : Result Made Stop → Type 0 = λ v. IfOk v (λ m. (t : Tree) → Stands q c.in_ok-tree.tree t → IsBuilt (height t + 3) m q r) in
-    let Builds' : Result Made Stop → Type 0 = λ v. (t : Tree) → Stands q c.in_ok-tree.tree t → Builds (height t + 3) (insert_steps (height t) q.start.geometry) v q r y z in
+    let Built : Result Made Stop → Type 0 = λ v. IfOk v (λ m. (t : Tree) → TreeStands q c.in_ok-tree.tree t → IsBuilt (height t + 3) m q r) in
+    let Builds' : Result Made Stop → Type 0 = λ v. (t : Tree) → TreeStands q c.in_ok-tree.tree t → Builds (height t + 3) (insert_steps (height t) q.start.geometry) v q r y z in
     record {
       off = released_off a wp n (h.builds t0 s0) o rel;
       calls = released_calls a wp n (h.builds t0 s0) c.requires.latch (ok_kept a (λ m b. named_cut (built_cut (b t0 s0))) h.built) o rel;
       rooted = released_ok Built o rel h.built (λ m b g. planted_rooted l.still (b t0 s0) g.still);
       some = released_ok Built o rel h.built (λ m b g. (b t0 s0).some);
-      is = released_ok (λ v. IfOk v (λ m. (t : Tree) → Stands q c.in_ok-tree.tree t → Stands r m.block (inserted c.args.key c.args.number t))) o rel h.stands (λ m st g t w. planted_tree c.args.key c.args.number c.in_ok-tree.tree c.args.root m.block t l.still g.still n.named st w);
+      is = released_ok (λ v. IfOk v (λ m. (t : Tree) → TreeStands q c.in_ok-tree.tree t → TreeStands r m.block (inserted c.args.key c.args.number t))) o rel h.stands (λ m st g t w. planted_tree c.args.key c.args.number c.in_ok-tree.tree c.args.root m.block t l.still g.still n.named st w);
       costs = released_ok (λ v. Builds' v × Built v × IfOk v (λ m. KeepsLives q r)) o rel (h.builds, h.built, h.rests) (λ m f g t w. let st = entered_stands n t w.stands in released_costs (insert_steps (height t)) wp n g (f.0 t st) (f.1 t st).made f.2);
       refused = released_refused Builds' o rel h.builds (λ e alive f g t w. released_spends (insert_steps (height t)) wp n g e alive (f t (entered_stands n t w.stands)));
-      few = released_ok (λ v. Builds' v × IfOk v (λ m. (t : Tree) → Stands q c.in_ok-tree.tree t → MakesFew (height t + 1) q r)) o rel (h.builds, h.lives) (λ m f g t w. let st = entered_stands n t w.stands in let b = f.0 t st in let s = g.steps in few_between (height t + 1) wp l.working b.working g.working l.went b.went g.went (costs_still 3 l.went l.still n.few) (f.1 t st) (costs_still 3 g.went g.still (omega (arith, s))));
+      few = released_ok (λ v. Builds' v × IfOk v (λ m. (t : Tree) → TreeStands q c.in_ok-tree.tree t → MakesFew (height t + 1) q r)) o rel (h.builds, h.lives) (λ m f g t w. let st = entered_stands n t w.stands in let b = f.0 t st in let s = g.steps in few_between (height t + 1) wp l.working b.working g.working l.went b.went g.went (costs_still 3 l.went l.still n.few) (f.1 t st) (costs_still 3 g.went g.still (omega (arith, s))));
     }

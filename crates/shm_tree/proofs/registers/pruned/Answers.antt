@@ -1,7 +1,7 @@
 use Rattle.std.proofs.Common.{◌*◌, arith}
 use Rattle.std.specs.Prelude.{IfOk, Option, Result}
 use Rattle.shm_tree.specs.{declared.{remove.Removed.Removed, stop.Stop.Stop}, Bounds.remove_steps, Building.Builds}
-use Rattle.shm_tree.specs.{Living.KeepsLives, Removing.IsRemoved, Standing.Stands, Trees.{Tree, height}}
+use Rattle.shm_tree.specs.{Living.KeepsLives, Removing.IsRemoved, Standing.TreeStands, Trees.{Tree, height}}
 use Rattle.shm_tree.proofs.{Building.{looked, ok_kept, rooms_still, went_on}, Costing.removed_made}
 use Rattle.shm_tree.proofs.{Forests.{calls_died, calls_from, quiet}, Moving.{pruned_is, registered, removed_named}}
 use Rattle.shm_tree.proofs.Refusals.{handed_over}
@@ -65,8 +65,8 @@ returns c =
     let l = n.quiet in
     let (t0, w0) = c.requires.tree in
     let s0 = entered_stands n t0 w0.stands in
-    let Taken : Result (Option Removed) Stop → Type 0 = λ v. IfOk v (λ m. (t : Tree) → Stands q c.in_ok-tree.tree t → IsRemoved x t m q r) in
-    let Builds' : Result (Option Removed) Stop → Type 0 = λ v. (t : Tree) → Stands q c.in_ok-tree.tree t → Builds (3 * height t) (remove_steps (height t) q.start.geometry) v q r y z in
+    let Taken : Result (Option Removed) Stop → Type 0 = λ v. IfOk v (λ m. (t : Tree) → TreeStands q c.in_ok-tree.tree t → IsRemoved x t m q r) in
+    let Builds' : Result (Option Removed) Stop → Type 0 = λ v. (t : Tree) → TreeStands q c.in_ok-tree.tree t → Builds (3 * height t) (remove_steps (height t) q.start.geometry) v q r y z in
     record {
       off = released_off a wp n (h.builds t0 s0) o rel;
       calls = released_calls a wp n (h.builds t0 s0) c.requires.latch (ok_kept a (λ m b. removed_named x t0 m q r (b t0 s0)) h.removed) o rel;

@@ -3,7 +3,7 @@ use Rattle.std.specs.Prelude.{Option, None, Some}
 use Rattle.shm_count.specs.declared.answer.Made.{Made}
 use Rattle.shm_tree.specs.declared.{node.{Content.Content, Side.Side}, remove.Removed.Removed}
 use Rattle.shm_tree.specs.{Bounds.{fall_steps, remnant_steps, remove_steps, raise_steps}, Building.{IsCut, block_of}}
-use Rattle.shm_tree.specs.{Raising.again, Removing.{rest, side_tree}, Spending.HasSpent, Standing.Stands}
+use Rattle.shm_tree.specs.{Raising.again, Removing.{rest, side_tree}, Spending.HasSpent, Standing.TreeStands}
 use Rattle.shm_tree.specs.{Trees.{Tree, height}, Ways.{IsDeep, down}}
 use Rattle.shm_tree.proofs.Building.{builds_cut, builds_died, builds_done, builds_first, builds_from, built_more, cut_then, looked, looked_then, made_more, rooms_still, root_reached, still_cut, went_on}
 use Rattle.shm_tree.proofs.{Descents.others_deep, Fallings.{cut_stay, fallen_low, fallen_more, fallen_none}}
@@ -152,7 +152,7 @@ levels-init c =
     let q = c.next_of.new.pool in
     let r = c.remnant.new.pool in
     let s : Side = c.staying.result in
-    let way : (t : Tree) → Stands p c.args.tree t → IsWay x a e t × Stands c.last.new.pool b (down x t e) = lowest_way x a e c.in_ok-place.place.node b g l.below f.place l.last in
+    let way : (t : Tree) → TreeStands p c.args.tree t → IsWay x a e t × TreeStands c.last.new.pool b (down x t e) = lowest_way x a e c.in_ok-place.place.node b g l.below f.place l.last in
     let read = looked_then run (looked_then run (looked f.looks) (looked l.looks)) (looked n.looks) in
     record {
       went = went_on run read.went m.builds.went;
@@ -166,9 +166,9 @@ levels-init c =
           (let y = way t st in
           let u : Tree = down x t e in
           let some = some_block c.last.new.pool b u y.1 (y.0.deep e (omega arith)) in
-          let there : Stands r (block_of o) (side_tree s u) = m.stands (side_tree s u) (side_stands q b s u some (n.looks.still.trees b u y.1)) in
+          let there : TreeStands r (block_of o) (side_tree s u) = m.stands (side_tree s u) (side_stands q b s u some (n.looks.still.trees b u y.1)) in
           let is : rest x a t e ≡ side_tree s u = rest_last x a e t y.0 ∙ ap (λ (z : Side). side_tree z u) (sym c.staying.ensures) in
-          subst (Stands r (block_of o)) (sym is) there);
+          subst (TreeStands r (block_of o)) (sym is) there);
       rests = rests_then p q r read.working m.builds.working m.builds.went (rests_still read.still) m.rests;
       spent =
           (let s1 = f.steps in
@@ -245,7 +245,7 @@ levels-preserved c =
     let same : c.levels.depth ≡ suc d = omega arith in
     let l = c.in_ok-lowest.ensures in
     let f = c.in_ok-place.ensures in
-    let way : (t : Tree) → Stands p c.args.tree t → IsWay x a e t × Stands c.last.new.pool c.in_ok-lowest.lowest.node (down x t e) = lowest_way x a e c.in_ok-place.place.node c.in_ok-lowest.lowest.node g l.below f.place l.last in
+    let way : (t : Tree) → TreeStands p c.args.tree t → IsWay x a e t × TreeStands c.last.new.pool c.in_ok-lowest.lowest.node (down x t e) = lowest_way x a e c.in_ok-place.place.node c.in_ok-lowest.lowest.node g l.below f.place l.last in
     record {
       went = went_on run (went_on run r.went h.looks.went) b.builds.went;
       working = b.builds.working;
@@ -256,12 +256,12 @@ levels-preserved c =
       stands =
           λ t st.
           (let y = r.way t st in
-          let here : Stands w c.in_ok-node.node (down x t d) = h.stands t (cut_stands t g (kept_cut o r.kept) st) in
-          let under : Stands w (block_of o) (rest x a t (suc d)) = h.looks.still.trees (block_of o) (rest x a t (suc d)) (subst (λ (i : ℕ). Stands q (block_of o) (rest x a t i)) same (r.stands t st)) in
-          let made : Stands v m.block (again x c.lifted-told.result (down x t d) (rest x a t (suc d))) = b.stands (down x t d) (rest x a t (suc d)) here under in
+          let here : TreeStands w c.in_ok-node.node (down x t d) = h.stands t (cut_stands t g (kept_cut o r.kept) st) in
+          let under : TreeStands w (block_of o) (rest x a t (suc d)) = h.looks.still.trees (block_of o) (rest x a t (suc d)) (subst (λ (i : ℕ). TreeStands q (block_of o) (rest x a t i)) same (r.stands t st)) in
+          let made : TreeStands v m.block (again x c.lifted-told.result (down x t d) (rest x a t (suc d))) = b.stands (down x t d) (rest x a t (suc d)) here under in
           let is : c.lifted-told.result ≡ told x a e t y d =
           c.lifted-told.ensures ∙ ap (λ (z : Option Content). cond (d == a) z None) (n.next (down x t e) (way t st).1) in
-          subst (Stands v m.block) (sym (rest_level x a e t y d (omega (arith, low, same)))) (subst (λ (z : Option Content). Stands v m.block (again x z (down x t d) (rest x a t (suc d)))) is made));
+          subst (TreeStands v m.block) (sym (rest_level x a e t y d (omega (arith, low, same)))) (subst (λ (z : Option Content). TreeStands v m.block (again x z (down x t d) (rest x a t (suc d)))) is made));
       rests = rests_then p w v h.looks.working b.builds.working b.builds.went (rests_then p q w r.working h.looks.working h.looks.went r.rests (rests_still h.looks.still)) b.rests;
       spent =
           (let s = h.steps in
@@ -300,8 +300,8 @@ returns c =
     let e = c.in_ok-lowest.lowest.depth in
     let p = c.args.pool.now in
     let none : c.levels.depth ≡ 0 = omega arith in
-    let cut : (t : Tree) → Stands p c.args.tree t → IsCut (3 * height t) p q = λ t st. (let lower = down_lower x t (suc e) (r.way t st).deep in kept_cut o (kept_more p q (3 * (e - c.levels.depth)) (3 * height t) o (omega (arith, lower, none)) r.kept)) in
-    let spent : (t : Tree) → Stands p c.args.tree t → HasSpent (remove_steps (height t) p.start.geometry) p q c.args.life.now.left c.levels.life.left =
+    let cut : (t : Tree) → TreeStands p c.args.tree t → IsCut (3 * height t) p q = λ t st. (let lower = down_lower x t (suc e) (r.way t st).deep in kept_cut o (kept_more p q (3 * (e - c.levels.depth)) (3 * height t) o (omega (arith, lower, none)) r.kept)) in
+    let spent : (t : Tree) → TreeStands p c.args.tree t → HasSpent (remove_steps (height t) p.start.geometry) p q c.args.life.now.left c.levels.life.left =
     λ t st. (let lower = down_lower x t (suc e) (r.way t st).deep in fallen_low p q (e - c.levels.depth) e (height t) (omega (arith, none)) (omega (arith, lower)) r.spent) in
     record {
       builds = λ t st. builds_done (Some (record { tree = o })) r.went r.working r.latch (spent t st);
@@ -311,7 +311,7 @@ returns c =
           let lower = down_lower x t (suc e) y.deep in
           record {
             had = way_found t y;
-            stands = subst (Stands q (block_of o)) (rest_top x a e t y) (subst (λ (i : ℕ). Stands q (block_of o) (rest x a t i)) none (r.stands t st));
+            stands = subst (TreeStands q (block_of o)) (rest_top x a e t y) (subst (λ (i : ℕ). TreeStands q (block_of o) (rest x a t i)) none (r.stands t st));
             kept = kept_more c.args.pool.now q (3 * (e - c.levels.depth)) (3 * height t) o (omega (arith, lower, none)) r.kept;
           });
       lives = λ t st. made_few (3 * height t) p q c.requires.working.run r.went.run r.went.start (cut t st).made;

@@ -2,7 +2,7 @@ use Rattle.std.proofs.Common.{◌<◌, refl, ap, ◌∙◌, subst}
 use Rattle.shm_words.specs.declared.geometry.Geometry.{Geometry}
 use Rattle.shm_graph.specs.declared.ask.Me.{Me}
 use Rattle.shm_plain.specs.Pools.{memo_of}
-use Rattle.shm_calls.specs.Words.{word_control}
+use Rattle.plans.specs.Words.{word_control}
 use Rattle.shm_count.specs.Roots.{member}
 use Rattle.shm_ref.specs.{Hold.{Control.holding, hold_plan}, Proved.LatchTasks.HoldMay}
 use Rattle.t_calls.proofs.{Plans.{has_left, may_begin}, Answered.holds}

@@ -1,6 +1,6 @@
 use Rattle.std.proofs.Common.{refl, ap, ◌∙◌}
 use Rattle.shm_plain.specs.Pools.{memo_of}
-use Rattle.shm_calls.specs.Words.{word_control}
+use Rattle.plans.specs.Words.{word_control}
 use Rattle.shm_count.specs.Roots.{member}
 use Rattle.shm_ref.specs.{Release.{release_plan, releasing}, Proved.LatchTasks.ReleaseMay}
 use Rattle.t_calls.proofs.{Plans.{has_left, may_begin}, Answered.{releases, some_held}}

@@ -2,7 +2,7 @@
 
 ghost use Rattle.std.specs.Prelude.{◌≢◌, ◌<◌, IfSome};
 ghost use Rattle.shm_words.specs.Layout.{GeometryFits};
-ghost use Rattle.shm_table.specs.Command.{MayStand};
+ghost use Rattle.shm_table.specs.Command.{LineMayStand};
 
 use shm_graph::Me;
 use shm_script::Line;
@@ -28,7 +28,7 @@ fn other(me: Me, drawn: u8) -> Option<u8>
 pub fn line_for(me: Me, line: Line) -> Option<Line>
     requires geometry { GeometryFits me.geometry }
     requires who { me.who < me.geometry.clients }
-    ensures { IfSome result (λ l. MayStand me l) }
+    ensures { IfSome result (λ l. LineMayStand me l) }
 {
     let clients = me.geometry.clients();
     match line {

@@ -1,7 +1,7 @@
 use Rattle.std.proofs.Common.{true, ◌∙◌, refl}
 use Rattle.shm_plain.specs.Pools.{memo_of}
 use Rattle.shm_plain.proofs.Calling.{still_kind}
-use Rattle.shm_calls.specs.Words.{word_control}
+use Rattle.plans.specs.Words.{word_control}
 use Rattle.shm_count.specs.Roots.{member}
 use Rattle.shm_ref.specs.Release.{release_plan, releasing}
 use Rattle.shm_client.proofs.Running.{plan_done}

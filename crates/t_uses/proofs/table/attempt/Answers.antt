@@ -4,7 +4,7 @@ use Rattle.shm_graph.specs.{declared.{ask.Me.Me, memo.Memo.Memo}, Agents.acts, L
 use Rattle.shm_plain.specs.{Calls.Ran, Pools.{Pool, memo_of}}
 use Rattle.shm_plain.proofs.Calling.{answered_is, lives, still_working, went_gives, went_on, went_ran}
 use Rattle.shm_count.specs.Roots.{member}
-use Rattle.shm_table.specs.Command.{CommandCall, CommandFits, CommandGives, MayStand, command_control, command_effect, command_of}
+use Rattle.shm_table.specs.Command.{CommandCall, CommandFits, CommandGives, LineMayStand, command_control, command_effect, command_of}
 use Rattle.shm_table.specs.Command.Maps.{MapSoFar}
 use Rattle.shm_client.proofs.{RunBegins.{run_fresh, run_latch, run_stands}, RunEvents.run_leaves, RunKeeps.run_keeps}
 use Rattle.shm_client.proofs.RunMaps.{run_maps}
@@ -23,7 +23,7 @@ pub new-machine-requires-clause-line : goal.new-machine-requires-clause-line
 new-machine-requires-clause-line c =
     let g = c.new.ensures.geometry ∙ c.geometry-geometry.ensures.is in
     let me : c.new.result ≡ member c.args.pool.now.start.geometry c.args.who = (λ i. record { geometry = g i; who = c.new.ensures.who i }) in
-    subst (λ (x : Me). MayStand x c.args.line.now) (sym me) (run_stands _ c.args.line.now (memo_of c.args.pool.now c.args.who) c.requires.may)
+    subst (λ (x : Me). LineMayStand x c.args.line.now) (sym me) (run_stands _ c.args.line.now (memo_of c.args.pool.now c.args.who) c.requires.may)
 
 pub loop-answer-init : goal.loop-answer-init
 loop-answer-init c =

@@ -1,5 +1,5 @@
 use Rattle.std.proofs.Common.{◌≡◌, ◌≢◌, ℕ, Ok, true, sym, subst, rules}
-use Rattle.shm_calls.specs.{CallsControl.{calls_control, calls_does, calls_of}, Tasks.CallsLeave}
+use Rattle.plans.specs.{CallsControl.{calls_control, calls_does, calls_of}, Tasks.CallsLeave}
 use Rattle.shm_graph.specs.{declared.ask.Me.Me, Reach.is_reached}
 use Rattle.shm_count.specs.Roots.{root_word}
 use Rattle.shm_queue.specs.Receive.{Control.{receive_parts, receiving, receive_steered}, receive_plan}

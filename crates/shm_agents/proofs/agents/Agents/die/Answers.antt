@@ -3,7 +3,7 @@ use Rattle.std.specs.{Prelude.{not, Option, Some, None, slice_get}, Option.is_so
 use Rattle.shm_words.specs.Layout.{GeometryFits}
 use Rattle.shm_graph.specs.{declared.{ask.Me.Me, run.{Account.Account, Start.Start}}, Agents.acts, Runs.account_died}
 use Rattle.shm_script.specs.{declared.{line.Line.Line, log.End.End}, Values.Scripted}
-use Rattle.shm_agents.specs.{Agents.{Playing, Stands, follows}, Turns.lives_of, TurnsLeft.turns_given}
+use Rattle.shm_agents.specs.{Agents.{Playing, AgentsStand, follows}, Turns.lives_of, TurnsLeft.turns_given}
 use Rattle.shm_agents.proofs.{Dying.settles, Given.given_died, agents.Agents.die.Given.Over}
 use Rattle.shm_agents.proofs.agents.Agents.die.Goals.{After-as_slice-2, After-follow, else-is_none, then-is_none}
 use Rattle.shm_agents.proofs.Deaths as deaths
@@ -103,7 +103,7 @@ returns-clause-script g c =
 
 pub returns-clause-stands : goal.returns-clause-stands
 returns-clause-stands g c =
-    subst (λ (z : Start). Stands z c.args.script.now c.follow.new.self (g.W.Workplace.account c.fall.new.self c.args.self.now.me.who)) (sym c.fall.ensures.start)
+    subst (λ (z : Start). AgentsStand z c.args.script.now c.follow.new.self (g.W.Workplace.account c.fall.new.self c.args.self.now.me.who)) (sym c.fall.ensures.start)
     (deaths.last_stands (start g (at g c)) c.args.script.now c.args.self.now (e g (at g c)) (is_spent g (at g c)) c.command_maps.ensures.runs c.if-is_none.self (noted g (at g c)) _ (to g c) c.follow.new.self (is g c))
 
 pub returns-clause-turns : goal.returns-clause-turns

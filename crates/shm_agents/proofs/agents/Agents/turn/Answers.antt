@@ -2,10 +2,10 @@ use Rattle.std.proofs.Common.{◌≡◌, ℕ, ◌+◌, ◌<◌, true, false, ap,
 use Rattle.std.specs.{Prelude.vec_capacity, Result.IsOk}
 use Rattle.shm_graph.specs.declared.{ask.Turn.TheVariants.Done, run.{Account.Account, Start.Start}}
 use Rattle.shm_graph.specs.Laws.{is_died, step_of}
-use Rattle.shm_calls.specs.declared.or.Or.TheVariants.{First, Second}
+use Rattle.plans.specs.declared.or.Or.TheVariants.{First, Second}
 use Rattle.shm_count.specs.declared.answer.EraSpent.{EraSpent}
 use Rattle.shm_script.specs.Values.{Scripted}
-use Rattle.shm_agents.specs.{Agents.{Playing, Stands}, TurnsLeft.turns_given, Work.work_control}
+use Rattle.shm_agents.specs.{Agents.{Playing, AgentsStand}, TurnsLeft.turns_given, Work.work_control}
 use Rattle.shm_agents.proofs.agents.Agents.turn.{Given.Over, Goals.After-step}
 use Rattle.shm_agents.proofs.Turns as turns
 use Rattle.shm_agents.proofs.agents.Agents.turn.Goals as goal
@@ -35,7 +35,7 @@ module _ (g : Over) (c : After-step g) where
       turns.after before (λ k. g.W.Workplace.account c.step.new.self k) c.step.ensures.died (λ d. let z = c.step.ensures.stays d in (ap (λ p. g.W.Workplace.account p x.me.who) z.0, z.1, z.2)) (λ some. let z = c.step.ensures.turn some in (z.0, z.1)) c.step.ensures.start
       (g.met.W.Workplace.stood c.step.new.self x.me.who c.step.ensures.has) (g.met.W.Workplace.named c.step.new.self x.me.who c.step.ensures.has)
 
-  finally : {y : Playing} → Stands start c.args.script.now y e2 → Stands (g.W.Workplace.start c.step.new.self) c.args.script.now y (g.W.Workplace.account c.step.new.self c.args.self.now.me.who)
+  finally : {y : Playing} → AgentsStand start c.args.script.now y e2 → AgentsStand (g.W.Workplace.start c.step.new.self) c.args.script.now y (g.W.Workplace.account c.step.new.self c.args.self.now.me.who)
   finally = turns.finally (λ k. g.W.Workplace.account c.step.new.self k) c.step.ensures.start c.self.view_is
 
   stepped : 0 < c.args.self.now.life.left → (n : ℕ) × g.W.Workplace.stepped c.args.pool.now (step_of work_control c.args.self.now.work n) c.step.new.self
@@ -61,7 +61,7 @@ die-requires-clause-stands g c =
     let at = (goal.at.die-requires-clause-stands g c).After-step in
     let b = before g at in
     let a = after g at in
-    subst (λ (z : Playing). Stands (g.W.Workplace.start c.step.new.self) c.args.script.now z (g.W.Workplace.account c.step.new.self z.me.who)) (sym (turns.same b a (ap is_died c.in-Died.is))) (finally g at (turns.dead_stands b a (ap is_died c.in-Died.is)))
+    subst (λ (z : Playing). AgentsStand (g.W.Workplace.start c.step.new.self) c.args.script.now z (g.W.Workplace.account c.step.new.self z.me.who)) (sym (turns.same b a (ap is_died c.in-Died.is))) (finally g at (turns.dead_stands b a (ap is_died c.in-Died.is)))
 
 pub begin-requires-clause-line : goal.begin-requires-clause-line
 begin-requires-clause-line g c =

@@ -1,7 +1,7 @@
 use Rattle.std.proofs.{Common.{◌≡◌, ◌*◌, List, sym, ap, ◌∙◌, subst, length, arith}, lemmas.Option.slice_get_within}
 use Rattle.std.specs.Prelude.{Some, None, slice_get}
 use Rattle.shm_graph.specs.{declared.{ask.Me.Me, run.Account.Account}, Runs.first_account}
-use Rattle.shm_agents.specs.Agents.{Stands}
+use Rattle.shm_agents.specs.Agents.{AgentsStand}
 use Rattle.shm_pool.specs.Tokens.{Its}
 use Rattle.shm_replay.proofs.{Gathering.same_some, Seating.script_read}
 use Rattle.shm_script.specs.Values.{Scripted, Traced}
@@ -50,8 +50,8 @@ pub of-requires-clause-stands : goal.of-requires-clause-stands
 of-requires-clause-stands g c =
     let at = (goal.at.of-requires-clause-stands g c).After-index in
     let e = c.args.job.token.account in
-    subst (λ (p : Its). Stands p.start c.index.result.now c.in-Some.agents e) (sym c.requires.job.of)
-    (subst (λ (s : Scripted). Stands c.args.pool.now.start s c.in-Some.agents e) (sym (read g at)) (its g at).stands)
+    subst (λ (p : Its). AgentsStand p.start c.index.result.now c.in-Some.agents e) (sym c.requires.job.of)
+    (subst (λ (s : Scripted). AgentsStand c.args.pool.now.start s c.in-Some.agents e) (sym (read g at)) (its g at).stands)
 
 pub of-requires-clause-here : goal.of-requires-clause-here
 of-requires-clause-here g c =

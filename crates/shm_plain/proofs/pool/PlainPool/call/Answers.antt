@@ -1,6 +1,6 @@
 use Rattle.std.proofs.{Common.{◌≡◌, ℕ, ◌+◌, ◌<◌, false, length, ap, ◌∙◌, sym, subst}, lemmas.Bool.true≢false}
 use Rattle.shm_graph.specs.{declared.ask.Life.Life, Laws.is_died, Whole.fits_now}
-use Rattle.shm_plain.specs.{Pools.{Pool, memo_of, readied}, Calls.{Ran, Took}}
+use Rattle.shm_plain.specs.{Pools.{Pool, memo_of, readied}, Calls.{Ran, TookSteps}}
 use Rattle.shm_plain.proofs.Calling.{answered_is, died_ran, died_spent, died_took, lives, went_first, went_gives, went_on, went_ran, went_spent, went_took}
 use Rattle.shm_plain.proofs.{OwnTurns.called_did, pool.PlainPool.call.{Given.Over, Goals.{In-Died, In-Done}}}
 use Rattle.shm_plain.proofs.pool.PlainPool.call.Goals as goal
@@ -51,7 +51,7 @@ returns-in-Done-clause-spent g c some fresh =
     let turn = c.step.ensures.turn left in
     went_spent M.control M.fits M.gives c.args.who c.args.self.now c.args.m.now c.args.life.now.left l.self l.m l.life.left l.invariant.1 c.step.new.self turn.1 c.step.ensures.run c.step.new.life.left turn.0 fresh
 
-took_done : (g : Over) (c : In-Done g) → Took g.M.Machine.control c.args.who c.args.self.now c.args.m.now c.step.new.self
+took_done : (g : Over) (c : In-Done g) → TookSteps g.M.Machine.control c.args.who c.args.self.now c.args.m.now c.step.new.self
 took_done g c =
     let M = g.M.Machine in
     let l = c.loop-answer in
@@ -103,11 +103,11 @@ returns-in-Died-clause-spent g c some fresh =
     (subst (λ (y : ℕ). y + length (memo_of l.self c.args.who).call ≡ c.args.life.now.left) (sym (ap (λ (z : Life). z.left) same.2))
     (died_spent M.control M.fits M.gives c.args.who c.args.self.now c.args.m.now c.args.life.now.left l.self l.m l.life.left l.invariant.1 (left_none g (goal.at.returns-in-Died-clause-spent g c).In-Died) some fresh))
 
-took_died : (g : Over) (c : In-Died g) → 0 < c.args.life.now.left → Took g.M.Machine.control c.args.who c.args.self.now c.args.m.now c.step.new.self
+took_died : (g : Over) (c : In-Died g) → 0 < c.args.life.now.left → TookSteps g.M.Machine.control c.args.who c.args.self.now c.args.m.now c.step.new.self
 took_died g c some =
     let M = g.M.Machine in
     let l = c.loop-answer in
-    subst (λ (q : Pool). Took M.control c.args.who c.args.self.now c.args.m.now q) (sym (c.step.ensures.stays (ap is_died c.in-Died.is)).0)
+    subst (λ (q : Pool). TookSteps M.control c.args.who c.args.self.now c.args.m.now q) (sym (c.step.ensures.stays (ap is_died c.in-Died.is)).0)
     (died_took M.control M.fits M.gives c.args.who c.args.self.now c.args.m.now c.args.life.now.left l.self l.m l.life.left l.invariant.1 (left_none g c) some)
 
 pub returns-in-Died-clause-took : goal.returns-in-Died-clause-took

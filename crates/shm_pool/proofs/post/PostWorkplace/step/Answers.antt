@@ -2,7 +2,7 @@ use Rattle.std.proofs.Common.{◌≡◌, ℕ, ◌<◌, true, false, sym, ap, ◌
 use Rattle.shm_graph.specs.{declared.run.{Account.Account, Start.Start}, Laws.step_of, Runs.{Stood, account_after}}
 use Rattle.shm_graph.specs.Whole.{Learns, fits_now, gives_now}
 use Rattle.shm_plain.specs.Working.{ready_account}
-use Rattle.shm_pool.specs.{Calls.ClientStepped, Posts.{Knows, account_seen}, Rules.alone, Tokens.{Its, Token}}
+use Rattle.shm_pool.specs.{Calls.ClientStepped, Posts.{PostKnows, account_seen}, Rules.alone, Tokens.{Its, Token}}
 use Rattle.shm_pool.proofs.{Posting.{ready_who, seen_who, stepped_knows}, Seating.seated_on}
 use Rattle.shm_pool.proofs.post.PostWorkplace.step.{Given.Over, Goals.{After-top-2, After-step_place}}
 use Rattle.shm_pool.proofs.post.PostWorkplace.step.Goals as goal
@@ -64,8 +64,8 @@ module _ (g : Over) (c : After-step_place g) where
   before : (alone c.self.inside.place).who ≡ c.args.who
   before = sym (seen_who c.self.inside.fallen (alone c.self.inside.place)) ∙ (ap (λ (e : Account). e.who) (seen g h) ∙ c.requires.has.named)
 
-  knows : Knows true false (alone c.step_place.new.place).memo
-  knows = subst (λ (e : Account). Knows true false e.memo) (sym stepped.account) (stepped_knows (alone c.note_ready.new.place) (step_of g.M.Machine.control c.args.m.now stepped.seen) c.note_ready.ensures.acts)
+  knows : PostKnows true false (alone c.step_place.new.place).memo
+  knows = subst (λ (e : Account). PostKnows true false e.memo) (sym stepped.account) (stepped_knows (alone c.note_ready.new.place) (step_of g.M.Machine.control c.args.m.now stepped.seen) c.note_ready.ensures.acts)
 
 pub invariant_of-self : goal.invariant_of-self
 invariant_of-self g c = let d = (goal.at.invariant_of-self g c).After-step_place in (

@@ -1,5 +1,5 @@
 use Rattle.std.proofs.Common.{◌≡◌, ◌<◌, Bool, true, false, Ok, Err, arith, refl, sym, ap, ◌∙◌, subst}
-use Rattle.shm_calls.specs.CallsFit.{CallsFits}
+use Rattle.plans.specs.CallsFit.{CallsFits}
 use Rattle.shm_graph.specs.declared.{ask.Turn.TheVariants.{More, Done}, run.{Account.Account, Start.Start}}
 use Rattle.shm_graph.specs.{Runs.Stood, Whole.fits_now}
 use Rattle.shm_recover.specs.{Machines.Recovering.recover, Recover.{Control.recover_parts, recover_plan}}

@@ -1,6 +1,6 @@
 use Rattle.std.proofs.Common.{◌≡◌, refl, sym, ap, ◌∙◌, subst}
 use Rattle.shm_graph.specs.declared.ask.Me.{Me}
-use Rattle.shm_table.specs.Command.{CommandCall, MayStand, command_control, command_of, Operates.CommandMay}
+use Rattle.shm_table.specs.Command.{CommandCall, LineMayStand, command_control, command_of, Operates.CommandMay}
 use Rattle.shm_table.specs.Proved.Command.Operates.{command_may}
 use Rattle.shm_pool.specs.{declared.reply.Reply.TheVariants.Died, Called.HasCommanded, Tokens.{Acting, me_of}}
 use Rattle.shm_pool.proofs.Commanded.{commanded_dead, commanded_died, commanded_done, me_of_command, stands}
@@ -8,7 +8,7 @@ use Rattle.shm_pool.proofs.token.Client.command.Goals.{After-new-command}
 use Rattle.shm_pool.proofs.token.Client.command.Goals as goal
 
 pub new-command-requires-clause-line : goal.new-command-requires-clause-line
-new-command-requires-clause-line c = let x = c.in-Some.ensures.alive in subst (λ (z : Me). MayStand z c.args.line.now) (sym x.is) (stands (me_of c.args.self.now.of c.args.self.now.account) c.args.line.now c.args.self.now.account.memo (c.requires.line x.alive))
+new-command-requires-clause-line c = let x = c.in-Some.ensures.alive in subst (λ (z : Me). LineMayStand z c.args.line.now) (sym x.is) (stands (me_of c.args.self.now.of c.args.self.now.account) c.args.line.now c.args.self.now.account.memo (c.requires.line x.alive))
 
 -- the machine is the command of the client's identity
 planned : (c : After-new-command) → c.new-command.result ≡ command_of (me_of c.args.self.now.of c.args.self.now.account) c.args.line.now

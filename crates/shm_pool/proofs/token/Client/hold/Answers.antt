@@ -1,6 +1,6 @@
 use Rattle.std.proofs.Common.{◌≡◌, ◌<◌, refl, sym, ap, ◌∙◌, subst}
 use Rattle.shm_graph.specs.declared.ask.Me.{Me}
-use Rattle.shm_calls.specs.Words.{word_control}
+use Rattle.plans.specs.Words.{word_control}
 use Rattle.shm_ref.specs.{Hold.{Control.holding, hold_plan}, Proved.LatchTasks.HoldMay}
 use Rattle.shm_ref.specs.declared.hold.HoldState.{HoldState}
 use Rattle.shm_pool.specs.Tokens.{me_of}

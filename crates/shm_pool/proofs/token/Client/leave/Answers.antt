@@ -1,18 +1,18 @@
 use Rattle.std.proofs.{Common.{◌≡◌, refl, sym, ap, ◌∙◌, subst}, lemmas.Result.{IfErr-weaker, IfOk-weaker}}
 use Rattle.std.specs.Prelude.{IfErr, IfOk}
-use Rattle.shm_calls.specs.{declared.calls.Calls.Calls, CallsControl.{calls_does, calls_of}}
-use Rattle.shm_calls.specs.{CallsFit.{CallsFits, CallsGives}, Proved.CallsKeep.{calls_begin, calls_tells}}
+use Rattle.plans.specs.{declared.calls.Calls.Calls, CallsControl.{calls_does, calls_of}}
+use Rattle.plans.specs.{CallsFit.{CallsFits, CallsGives}, Proved.CallsKeep.{calls_begin, calls_tells}}
 use Rattle.shm_graph.specs.{declared.{ask.Me.Me, memo.Memo.Memo, run.Account.Account}, Asks.Trail, Tells.Tells}
 use Rattle.shm_graph.specs.Whole.{fits_now, gives_now}
 use Rattle.shm_recover.specs.declared.leave.LeaveState.{LeaveState}
-use Rattle.shm_recover.specs.Leave.{Control.{LeaveAnswer, LeaveCall, leave_parts, leaving, leave_steered}, leave_plan}
+use Rattle.shm_recover.specs.Leave.{Control.{LeaveCall, leave_parts, leaving, leave_steered}, leave_plan}
 use Rattle.shm_recover.specs.{Proved.Leave.Laws.{leave_begin, leave_laws}, Machines.leave}
 use Rattle.shm_pool.specs.{Endings.{Answer, HasEnded, HasLeft, HasNotLeft, HasStopped}, Tokens.{IsFor, me_of}}
 use Rattle.shm_pool.proofs.{Calling.is_here, Told.{end_told, stop_told}, token.Client.leave.Goals.After-new-leave}
 use Rattle.shm_pool.proofs.token.Client.leave.Goals as goal
 
 abbrev Machine : Type 0
-Machine = Calls LeaveState LeaveCall Answer LeaveAnswer
+Machine = Calls LeaveState LeaveCall
 
 abbrev who : (c : After-new-leave) → Me
 who c = me_of c.args.self.of c.args.self.account

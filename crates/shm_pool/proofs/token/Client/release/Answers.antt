@@ -1,6 +1,6 @@
 use Rattle.std.proofs.Common.{◌≡◌, refl, sym, ap, ◌∙◌, subst}
 use Rattle.shm_graph.specs.declared.ask.Me.{Me}
-use Rattle.shm_calls.specs.Words.{word_control}
+use Rattle.plans.specs.Words.{word_control}
 use Rattle.shm_ref.specs.{Proved.LatchTasks.ReleaseMay, Release.{release_plan, releasing}}
 use Rattle.shm_ref.specs.declared.release.ReleaseState.{ReleaseState}
 use Rattle.shm_pool.specs.Tokens.{me_of}

@@ -1,5 +1,5 @@
 use Rattle.std.proofs.Common.{sym, ap, ◌∙◌, refl, subst}
-use Rattle.shm_calls.specs.{CallsControl.{calls_control, calls_does}, Tasks.{CallsLeave, CallsMay}}
+use Rattle.plans.specs.{CallsControl.{calls_control, calls_does}, Tasks.{CallsLeave, CallsMay}}
 use Rattle.shm_pool.specs.Doing.{HasDone}
 use Rattle.shm_pool.proofs.token.Client.run_plan.Goals as goal
 

@@ -6,7 +6,7 @@ use Rattle.shm_graph.proofs.Memos.MemoSteps.{acts-entered, recovers-entered}
 use Rattle.shm_recover.specs.declared.join.JoinState.{JoinState}
 use Rattle.shm_recover.specs.Join.{IsMember, JoinFits, JoinGives, is_over, is_start, join_control, join_fresh}
 use Rattle.shm_recover.specs.{Proved.Join.Keeps.join_begins, Leave.MayLeave}
-use Rattle.shm_pool.specs.{Rules.alone, Calls.{Calls, shown}, Tokens.{Its, Token, has_left, its, me_of}}
+use Rattle.shm_pool.specs.{Rules.alone, Calls.{CallSteps, shown}, Tokens.{Its, Token, has_left, its, me_of}}
 use Rattle.shm_pool.proofs.{Calling.{acts_stay, live_here}, Joining.joined_may_leave}
 use Rattle.shm_pool.proofs.token.Vacant.join.Goals.{After-top-2}
 use Rattle.shm_pool.proofs.token.Vacant.join.Goals as goal
@@ -68,6 +68,6 @@ returns-in-Some-clause-call c =
     let e' : Account = alone c.run_place.new.place in
     let p : Its = its c.self.inside.place.table_id c.self.inside.start in
     let me : c.new.result ≡ me_of p e = (λ j. record { geometry = c.new.ensures.geometry j; who = (c.new.ensures.who ∙ i.who) j }) in
-    subst (λ (t : Token). Calls (shown join_control (join_fresh (me_of t.of t.account))) (account_entered Client t.account) e' true c.args.life.now.left c.run_place.new.life.left) c.self.view_is
-    (subst (λ (m : JoinState). Calls (shown join_control m) (account_entered Client e) e' true c.args.life.now.left c.run_place.new.life.left) (c.new-machine.ensures.state ∙ ap (λ (x : Me). join_fresh x) me)
-    (subst (λ (x : Account). Calls (shown join_control c.new-machine.result) x e' true c.args.life.now.left c.run_place.new.life.left) c.note_client.ensures.account c.in-Some.ensures.call.call))
+    subst (λ (t : Token). CallSteps (shown join_control (join_fresh (me_of t.of t.account))) (account_entered Client t.account) e' true c.args.life.now.left c.run_place.new.life.left) c.self.view_is
+    (subst (λ (m : JoinState). CallSteps (shown join_control m) (account_entered Client e) e' true c.args.life.now.left c.run_place.new.life.left) (c.new-machine.ensures.state ∙ ap (λ (x : Me). join_fresh x) me)
+    (subst (λ (x : Account). CallSteps (shown join_control c.new-machine.result) x e' true c.args.life.now.left c.run_place.new.life.left) c.note_client.ensures.account c.in-Some.ensures.call.call))

@@ -1,0 +1,15 @@
+pub mod Besides
+pub mod CallTells
+pub mod CallsKeep
+pub mod Deciding
+pub mod Either
+pub mod EitherOperates
+pub mod EventWords
+pub mod Grown
+pub mod MappedParts
+pub mod Parts
+pub mod Placed
+pub mod PlanKept
+pub mod Tasks
+pub mod WordSteps
+pub mod Words

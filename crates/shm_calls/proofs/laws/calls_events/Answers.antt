@@ -1,5 +1,0 @@
-use Rattle.shm_calls.specs.Proved.CallsKeep.{calls_tells}
-use Rattle.shm_calls.proofs.laws.calls_events.Goals as goal
-
-pub returns : goal.returns
-returns g c = calls_tells g.P.Call.Machine.control g.P.Plan.plan g.met.P.Plan.laws

@@ -1,5 +1,0 @@
-use Rattle.shm_calls.specs.Deciding.{calls_foretell}
-use Rattle.shm_calls.proofs.laws.calls_foretell.Goals as goal
-
-pub returns : goal.returns
-returns g c decided deciding says will h = calls_foretell g.P.Call.Machine.control g.P.Plan.plan decided deciding says (λ a. a) will h

@@ -1,5 +1,0 @@
-use Rattle.shm_steps.proofs.BeginSlots.{up_begins_home, up_begins_send, down_begins_take, down_begins_unsend}
-use Rattle.shm_steps.proofs.beginning.slots_begin.Goals as goal
-
-pub returns : goal.returns
-returns c = record { home = up_begins_home; send = up_begins_send; take = down_begins_take; unsend = down_begins_unsend }

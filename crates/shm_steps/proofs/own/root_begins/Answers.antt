@@ -1,5 +1,0 @@
-use Rattle.shm_steps.proofs.OwnStoresRedo.{root_begins_up, root_begins_down}
-use Rattle.shm_steps.proofs.own.root_begins.Goals as goal
-
-pub returns : goal.returns
-returns c = record { up = root_begins_up; down = root_begins_down }
