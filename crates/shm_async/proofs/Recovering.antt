@@ -15,8 +15,9 @@ use Rattle.shm_recover.specs.Proved.{Recover.Laws.recover_laws, Scan.Laws.scan_l
 use Rattle.shm_recover.specs.{Machines.Recovering.recover, Recover.{Control.recover_parts, recover_plan}}
 use Rattle.shm_recover.proofs.Steady.{recover_steady}
 use Rattle.shm_replay.specs.Closings.{SameTable}
-use Rattle.shm_pool.specs.{Endings.Answer, Rescues.{RecoverMachine, Rescuing, account_of}, Tokens.Its}
-use Rattle.shm_pool.proofs.{Calling.{goes_on, is_over}, Rescuing.{Stepped, account_who}}
+use Rattle.shm_pool.specs.{Calls.ClientStepped, Endings.Answer, Rescues.{RecoverMachine, Rescuing, account_of}}
+use Rattle.shm_pool.specs.Tokens.{Its}
+use Rattle.shm_pool.proofs.{Calling.{goes_on, is_over}, Rescuing.account_who}
 use Rattle.shm_async.specs.Rescued.{CallsOn, GoesOn, HasSpent, HasStepped, account_by}
 use Rattle.shm_async.proofs.Ongoing.{calls_then}
 
@@ -64,7 +65,7 @@ begun_account false e h = absurd (true≢false (sym h))
 
 -- one more, of the recovery v that goes on, which leaves v2 and answers t
 module _ (p : Its) (v v2 : Rescuing) (l l2 : Life) (t : Turn Answer) (g : GoesOn p v) (same : (v2.of ≡ v.of) × (v2.seat.who ≡ v.seat.who)) (life : l2.left + 1 ≡ l.left) (begun : v2.begun ≡ true)
-    (x : Stepped v.machine (account_by v) v2.seat t v2.machine) where
+    (x : ClientStepped recover (fits_now recover (CallsFits recover_parts recover_plan)) (gives_now (CallsGives recover_parts recover_plan)) v.machine (account_by v) v2.seat t v2.machine) where
   acting : acts (account_by v).memo ≡ true
   acting =
       let who : (recover.me v.machine).who ≡ (account_by v).who = ap (λ (m : Me). m.who) g.me ∙ sym (account_who v.begun v.seat) in

@@ -13,6 +13,7 @@ pub mod Named
 pub mod Commanded
 pub mod Keeping
 pub mod Reading
+pub mod Lasting
 pub mod Rescuing
 pub mod Posting
 pub mod Told

@@ -7,10 +7,11 @@ use Rattle.shm_words.specs.Layout.{address_limit, total_of}
 use Rattle.shm_words.proofs.Placing.{total_small}
 use Rattle.shm_graph.specs.{declared.{ask.Me.Me, memo.Memo.Memo}, Asks.Trail, Events.Event, Laws.Control}
 use Rattle.shm_graph.specs.{Operations.IsReady, Reach.is_reached, Runs.Stood}
-use Rattle.plans.specs.{CallsControl.{calls_control, calls_does, calls_of}, Plans.Planned, Tasks.CallsLeave}
+use Rattle.plans.specs.{declared.calls.Calls.Calls, CallsControl.{calls_control, calls_does, calls_of}, Plans.Planned}
+use Rattle.plans.specs.Tasks.{CallsLeave}
 use Rattle.shm_ref.specs.Proved.ReadParts.{reached_room}
 use Rattle.shm_pool.specs.{declared.reply.Reply.{Reply, TheVariants.{Died, Done}}, Called.{HasCalled, IsAlive, Rests}}
-use Rattle.shm_pool.specs.{Calls.IsBetween, Doing.HasDone, Tokens.{Acting, me_of}}
+use Rattle.shm_pool.specs.{Calls.IsBetween, Doing.HasDone, Replies.IfReply, Tokens.{Acting, me_of}}
 use Rattle.shm_pool.proofs.{Calling.live_here, Replied.ready}
 
 -- a client of which a call has died does nothing
@@ -29,6 +30,27 @@ done_dead k does leaves ends m t left stood dead =
       left_so = tt;
       between = tt;
     }
+
+-- a call of which each answer rests
+pub done_rests : {M A : Type 0} (k : Control M A) (does : M → ℕ → Event) (leaves : M → Memo → Memo → Trail → List Event → A → Type 0) (ends : M → A → Type 0) → ((m : M) (a : A) → ends m a) → (m : M) (t t' : Acting) (before left : ℕ) (o : Reply A) → HasDone k does leaves ends m t t' before left o → HasDone k does leaves (λ x a. Unit {0}) m t t' before left o
+done_rests {A = A} k does leaves ends all m t t' before left o h =
+    record {
+      same = h.same;
+      stood = h.stood;
+      died = h.died;
+      again = h.again;
+      spent = h.spent;
+      call = h.call;
+      events = h.events;
+      asked = h.asked;
+      told = h.told;
+      left_so = h.left_so;
+      between = by o h.between;
+    }
+  where
+    by : (o : Reply A) → IfReply o (λ a. ends m a → IsBetween t'.account) → IfReply o (λ a. Unit {0} → IsBetween t'.account)
+    by Died b = tt
+    by (Done a) b = λ _. b (all m a)
 
 -- where each answer rests, so does the client
 pub rests_by : {M A : Type 0} (k : Control M A) (does : M → ℕ → Event) (leaves : M → Memo → Memo → Trail → List Event → A → Type 0) (m : M) (t t' : Acting) (before left : ℕ) (o : Reply A) → HasDone k does leaves (λ x a. Unit {0}) m t t' before left o → Rests t'
@@ -55,11 +77,15 @@ module _ (t : Acting) (me : Me) (stood : Stood t.of.start t.account) (between : 
   pub reach_small : b < address_limit
   reach_small = let most = total_small me.geometry x.fits in let room = reach_room in omega arith
 
--- the machine that a call ran is that of the plan that it names
-pub called_by : {P C B A : Type 0} (k : Control C B) (q : Planned P C B A) (e p : P) (t t' : Acting) (before left : ℕ) (o : Reply A) → e ≡ p → HasDone (calls_control k q.steered) (calls_does k q) (CallsLeave q) (λ m a. Unit {0}) (calls_of q.steered e) t t' before left o → t'.effect ≡ t.effect → HasCalled k q p t t' before left o
-called_by k q e p t t' before left o is done same =
-    let d = subst (λ x. HasDone (calls_control k q.steered) (calls_does k q) (CallsLeave q) (λ m a. Unit {0}) (calls_of q.steered x) t t' before left o) is done in
+-- a client that ran the machine of a plan
+pub called_by : {P C B A : Type 0} (k : Control C B) (q : Planned P C B A) (ends : Calls P C → A → Type 0) → ((m : Calls P C) (a : A) → ends m a) → (p : P) (m : Calls P C) (t t' : Acting) (before left : ℕ) (o : Reply A) → m ≡ calls_of q.steered p → HasDone (calls_control k q.steered) (calls_does k q) (CallsLeave q) ends m t t' before left o → t'.effect ≡ t.effect → HasCalled k q p t t' before left o
+called_by k q ends all p m t t' before left o is done same =
+    let d = done_rests (calls_control k q.steered) (calls_does k q) (CallsLeave q) ends all (calls_of q.steered p) t t' before left o (subst (λ x. HasDone (calls_control k q.steered) (calls_does k q) (CallsLeave q) ends x t t' before left o) is done) in
     record { done = d; rests = rests_by (calls_control k q.steered) (calls_does k q) (CallsLeave q) (calls_of q.steered p) t t' before left o d; effect = same }
+
+-- the plan that a call ran is the one that it names
+pub called_as : {P C B A : Type 0} (k : Control C B) (q : Planned P C B A) (e p : P) (t t' : Acting) (before left : ℕ) (o : Reply A) → e ≡ p → HasCalled k q e t t' before left o → HasCalled k q p t t' before left o
+called_as k q e p t t' before left o is h = subst (λ x. HasCalled k q x t t' before left o) is h
 
 -- a block that is to be named, or none
 pub target_small : (t : Acting) (me : Me) → Stood t.of.start t.account → (t.dead ≡ false → IsBetween t.account) → IsAlive t me → (b : ℕ) → (t.dead ≡ false → b ≢ 0 → is_reached t.account.who t.account.memo b ≡ true) → b < address_limit

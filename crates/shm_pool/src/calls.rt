@@ -7,7 +7,7 @@ ghost use Rattle.std.specs.Prelude.{◌≡◌, ◌≢◌, ◌<◌, ◌↔◌, �
 ghost use Rattle.std.specs.List.{Contains};
 ghost use Rattle.shm_graph.specs.{declared.spot.Spot.TheVariants.Home, Held.is_loose, Reach.is_reached, Runs.Stood};
 ghost use Rattle.shm_graph.specs.Views.{own_word};
-ghost use Rattle.plans.specs.{CallsControl.{calls_control, calls_does, calls_of}, Tasks.CallsLeave, Words.word_control};
+ghost use Rattle.plans.specs.Words.{word_control};
 ghost use Rattle.shm_count.specs.{declared.point.Aim.TheVariants.Up, Step.KeepsPart};
 ghost use Rattle.shm_count.specs.UpRoot.{Control.{rooting, rooting_parts}, rooting_plan};
 ghost use Rattle.shm_ref.specs.{DropRoot.{Control.{drop_parts, dropping}, drop_plan}, Hold.Control.holding};
@@ -19,7 +19,7 @@ ghost use Rattle.shm_queue.specs.Drain.{Control.{drain_parts, draining}, drain_p
 ghost use Rattle.shm_queue.specs.Receive.{Control.{receive_parts, receiving}, receive_plan};
 ghost use Rattle.shm_queue.specs.Send.{Control.{send_parts, sending}, send_plan};
 ghost use Rattle.shm_pool.specs.{Called.{HasAllocated, HasAllocatedNear, HasCalled, IsAlive, Rests}, Calls.IsBetween};
-ghost use Rattle.shm_pool.specs.{Doing.HasDone, Tokens.me_of};
+ghost use Rattle.shm_pool.specs.Tokens.{me_of};
 
 use crate::pool::SharedPool;
 use crate::reply::Reply;
@@ -45,7 +45,7 @@ impl Client {
         if self.dead { None } else { Some(me) }
     }
 
-    /// Runs the machine of a plan of the client.
+    /// Runs the machine of a plan of the client, of which each answer rests.
     fn run_plan<P: Task + Drop>(
         &mut self,
         pool: &SharedPool,
@@ -56,8 +56,8 @@ impl Client {
         requires between { self.old.dead ≡ false → IsBetween self.old.account }
         requires me { P.plan.steered.me plan ≡ me_of self.old.of self.old.account }
         requires may { self.old.dead ≡ false → P.may plan self.old.account.memo }
-        ensures done { HasDone (calls_control P.Call.control P.plan.steered) (calls_does P.Call.control P.plan) (CallsLeave P.plan) (λ m. P.rests m.plan) (calls_of P.plan.steered plan) self.old self.new life.old.left life.new.left result }
-        ensures effect { self.new.effect ≡ self.old.effect }
+        requires rests { (p : P) (a : P.Answer) → P.rests p a }
+        ensures called { HasCalled P.Call.control P.plan plan self.old self.new life.old.left life.new.left result }
     {
         self.run(pool, Calls::new(plan), life)
     }

@@ -1,15 +1,59 @@
 //! Commands of a client, and what one did in which the client died.
 
-ghost use Rattle.std.specs.Prelude.{◌≡◌, true, false, None};
-ghost use Rattle.shm_table.specs.TableTasks.{LineMay};
-ghost use Rattle.shm_pool.specs.{Called.HasCommanded, Calls.IsBetween, Tokens.me_of};
+ghost use Rattle.std.specs.Prelude.{◌≡◌, ◌<◌, true, false, None, Option};
+ghost use Rattle.shm_words.specs.Layout.{GeometryFits};
+ghost use Rattle.shm_graph.specs.declared.ask.Me.{Me as AMe};
+ghost use Rattle.shm_script.specs.declared.{line.Line.Line as ALine, log.Answer.Answer as AnAnswer};
+ghost use Rattle.shm_table.specs.{Command.{LineMayStand, command_effect, command_of}, TableTasks.LineMay};
+ghost use Rattle.shm_pool.specs.{Called.{HasCommanded, HasRun}, Calls.IsBetween, Proved.Shows.command_shows};
+ghost use Rattle.shm_pool.specs.{Shows.{ShowsLaws, ShowsMap}, Tokens.me_of};
 
 use crate::pool::SharedPool;
 use crate::reply::Reply;
 use crate::token::Client;
-use shm_graph::Life;
+use shm_graph::{Life, Me, Operation};
 use shm_script::{Answer, Line};
 use shm_table::{Command, command_maps};
+
+/// A machine for the line of a script, which shows what it is going to answer.
+trait Shows: Operation<Answer = Answer> {
+    /// The machine that is made for an identity and a line.
+    ghost made: { AMe → ALine → Self };
+
+    /// What it is going to answer, where its deciding step was made.
+    ghost effect: { Self → Option AnAnswer };
+
+    /// Makes the machine of a line for the identity `me`.
+    fn of(me: Me, line: &Line) -> Self
+        requires geometry { GeometryFits me.geometry }
+        requires who { me.who < me.geometry.clients }
+        requires line { LineMayStand me line.now }
+        ensures { result ≡ made me line.now };
+
+    /// What it will answer, where its deciding step was made; otherwise none.
+    fn effect(&self) -> Option<Answer>
+        ensures { result ≡ effect self.now };
+
+    ghost shows: { ShowsLaws Self.Machine.control Self.Operation.may Self.Operation.rests made };
+}
+
+impl Shows for Command {
+    ghost made = { command_of };
+
+    ghost effect = { command_effect };
+
+    #[inline(always)]
+    fn of(me: Me, line: &Line) -> Command {
+        Command::new(me, line)
+    }
+
+    #[inline(always)]
+    fn effect(&self) -> Option<Answer> {
+        self.effect()
+    }
+
+    ghost shows = { command_shows };
+}
 
 impl Client {
     /// Runs the command of a line on the tables of the pool, in a pool that was made for tables. A latch that it needs is tried again until
@@ -24,10 +68,26 @@ impl Client {
     {
         // for the proof: while a command runs, the map is what its effect says
         command_maps();
+        self.command_as::<Command>(pool, life, line)
+    }
+
+    /// Runs the machine of a line, and keeps what it shows where the client dies in it.
+    fn command_as<C: Shows + Drop>(
+        &mut self,
+        pool: &SharedPool,
+        life: &mut Life,
+        line: &Line,
+    ) -> Reply<Answer>
+        requires pool { self.old.of ≡ pool.now }
+        requires between { self.old.dead ≡ false → IsBetween self.old.account }
+        requires line { self.old.dead ≡ false → LineMay (me_of self.old.of self.old.account) line.now self.old.account.memo }
+        requires maps { ShowsMap C.control C.fits C.effect C.made }
+        ensures called { HasRun C.control C.fits C.does C.leaves C.effect C.made line.now self.old self.new life.old.left life.new.left result }
+    {
         let Some(me) = self.alive() else {
             return Reply::Died;
         };
-        let mut command = Command::new(me, line);
+        let mut command = C::of(me, line);
         match self.run_on(pool, &mut command, life) {
             Reply::Done(answer) => Reply::Done(answer),
             Reply::Died => {

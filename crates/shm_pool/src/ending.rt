@@ -4,8 +4,10 @@ ghost use Rattle.std.specs.Prelude.{◌≡◌, ◌<◌, true, false, IfOk, IfErr
 ghost use Rattle.shm_graph.specs.{Agents.acts, Whole.{fits_now, gives_now}};
 ghost use Rattle.shm_pool.specs.{Rules.alone, Tokens.{has_left, its, me_of, token_of, IsFor, IsFallen, IsSeated}};
 ghost use Rattle.shm_pool.specs.Endings.{ClientMayLeave, HasEnded, HasStopped, HasLeft, HasNotLeft, LeavesGone, fallen_of};
+ghost use Rattle.shm_pool.specs.Lasts.{HasMade, HasNotMade};
 ghost use Rattle.shm_pool.specs.declared.token.Cause.TheVariants as cause;
 
+use crate::last::Last;
 use crate::pool::SharedPool;
 use crate::rule::Place;
 use crate::steps::{load_status, run_place};
@@ -104,8 +106,19 @@ impl Client {
         ensures stopped { self.dead ≡ false → IfErr result (λ s. HasNotLeft self.of self.account life.old.left life.new.left s.cause s.corpse) }
         ensures again { self.dead ≡ true → (is_err result ≡ true) × IfErr result (λ s. (s.cause ≡ cause.Died) × (s.corpse ≡ fallen_of self) × (life.new ≡ life.old)) }
     {
-        let mut leave = Calls::new(Leave::new(self.me()));
-        self.leave_by(pool, &mut leave, life)
+        self.leave_as::<Leave>(pool, life)
+    }
+
+    /// Makes its last plan, and ends the client with it. A client of which a call has died takes no step.
+    fn leave_as<P: Last + Drop>(self, pool: &SharedPool, life: &mut Life) -> Result<Vacant, Stopped>
+        requires pool { self.of ≡ pool.now }
+        requires may { self.dead ≡ false → P.may (me_of self.of self.account) self.account.memo × (self.account.memo.over ≡ true) }
+        ensures left { IfOk result (HasMade P.Call.control P.plan P.made (me_of self.of self.account) self.of self.account life.old.left life.new.left) }
+        ensures stopped { self.dead ≡ false → IfErr result (λ s. HasNotMade P.Call.control P.plan P.made (me_of self.of self.account) self.of self.account life.old.left life.new.left s.cause s.corpse) }
+        ensures again { self.dead ≡ true → (is_err result ≡ true) × IfErr result (λ s. (s.cause ≡ cause.Died) × (s.corpse ≡ fallen_of self) × (life.new ≡ life.old)) }
+    {
+        let mut last = Calls::new(P::of(self.me()));
+        self.leave_by(pool, &mut last, life)
     }
 
     /// Gives the token back where the client has left: where the last machine that it was stepped through, or ran, left the identity gone.

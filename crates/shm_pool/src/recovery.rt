@@ -5,9 +5,11 @@ ghost use Rattle.shm_words.specs.Layout.{total_of};
 ghost use Rattle.shm_graph.specs.{Agents.acts, Runs.Stood, Whole.{fits_now, gives_now}};
 ghost use Rattle.shm_pool.specs.{Rules.{IsAlone, alone}, Tokens.{me_of, begun_account, recovering_account, IsFallen}};
 ghost use Rattle.shm_pool.specs.Endings.{HasEnded, HasNotRecovered, HasRecovered, HasStopped, LeavesGone};
+ghost use Rattle.shm_pool.specs.Lasts.{HasMade, HasNotMade, IsForRecoverers};
 ghost use Rattle.shm_pool.specs.declared.token.Cause.TheVariants as cause;
 
 use crate::ending::{end_by, stop};
+use crate::last::Last;
 use crate::pool::SharedPool;
 use crate::rule::{Place, Top};
 use crate::steps::{note_client, note_death, note_recoverer};
@@ -90,6 +92,7 @@ impl Corpse {
         note_change(pool.top(), &mut place, begun);
         end_by(pool, place, start, who, m, life)
     }
+
     /// Recovers the identity: its recoverer finishes or drops the step in progress, gives the latch back, drops the roots, finishes the
     /// queues, frees the zero-count blocks that it finds, gives the segments up and stores the status. With no life left no agent
     /// begins.
@@ -104,8 +107,23 @@ impl Corpse {
         ensures stopped { 0 < life.old.left → IfErr result (λ s. HasNotRecovered self.of self.account life.old.left life.new.left s.cause s.corpse) }
         ensures unbegun { life.old.left ≡ 0 → (is_err result ≡ true) × IfErr result (λ s. (s.cause ≡ cause.Died) × (s.corpse ≡ self) × (life.new ≡ life.old)) }
     {
+        self.recover_as::<Recover>(pool, life)
+    }
+
+    /// Begins a recoverer, which makes its last plan. With no life left no agent begins.
+    fn recover_as<P: Last + Drop>(
+        self,
+        pool: &SharedPool,
+        life: &mut Life,
+    ) -> Result<Vacant, Stopped>
+        requires pool { self.of ≡ pool.now }
+        requires may { IsForRecoverers P.may }
+        ensures recovered { IfOk result (HasMade P.Call.control P.plan P.made (me_of self.of self.account) self.of (recovering_account self.account) life.old.left life.new.left) }
+        ensures stopped { 0 < life.old.left → IfErr result (λ s. HasNotMade P.Call.control P.plan P.made (me_of self.of self.account) self.of (recovering_account self.account) life.old.left life.new.left s.cause s.corpse) }
+        ensures unbegun { life.old.left ≡ 0 → (is_err result ≡ true) × IfErr result (λ s. (s.cause ≡ cause.Died) × (s.corpse ≡ self) × (life.new ≡ life.old)) }
+    {
         let me = Me::new(pool.geometry(), self.client());
-        let mut recover = Calls::new(Recover::new(me));
-        self.recover_by(pool, &mut recover, life)
+        let mut last = Calls::new(P::of(me));
+        self.recover_by(pool, &mut last, life)
     }
 }

@@ -1,69 +1,45 @@
 //! A recovery in single steps.
 
 ghost use Rattle.std.specs.Prelude.{◌≡◌, ◌+◌, ◌<◌, ◌↔◌, true, false, Ok, IfOk, IfErr, is_ok};
-ghost use Rattle.shm_words.specs.Layout.{total_of};
 ghost use Rattle.plans.specs.{CallsControl.calls_of, CallsFit.{CallsFits, CallsGives}};
-ghost use Rattle.shm_graph.specs.{Agents.acts, Laws.{is_died, is_done}, Runs.Stood, Whole.{fits_now, gives_now}};
+ghost use Rattle.shm_graph.specs.{Laws.{is_died, is_done}, Runs.Stood, Whole.{fits_now, gives_now}};
 ghost use Rattle.shm_graph.specs.declared.ask.Turn.TheVariants as turns;
 ghost use Rattle.shm_recover.specs.Machines.Recovering.{recover};
 ghost use Rattle.shm_recover.specs.Recover.{Control.{recover_parts, recovering, recover_steered}, recover_plan};
-ghost use Rattle.shm_pool.specs.{Calls.ClientStepped, Rules.{IsAlone, alone}, Rescues.account_of};
-ghost use Rattle.shm_pool.specs.Tokens.{me_of, IsFallen};
+ghost use Rattle.shm_pool.specs.{Calls.ClientStepped, Rescues.account_of, Tokens.me_of};
 
 use crate::pool::SharedPool;
-use crate::recovery::note_change;
-use crate::rule::{Place, Top};
-use crate::steps::step_place;
+use crate::rescue::Rescue;
 use crate::token::{Corpse, Vacant};
 use plans::Calls;
 use shm_count::EraSpent;
-use shm_graph::{Life, Me, Start, Turn};
+use shm_graph::{Life, Turn};
 use shm_recover::Recover;
 use std::marker::Model;
 
 /// An identity that is recovered one word step at a time.
-#[derive(Drop)]
 pub struct Rescuer {
-    place: Place,
-    start: Start,
-    who: u8,
-    /// Whether an agent of the corpse had begun.
-    fell: bool,
-    /// Whether the recoverer has begun.
-    begun: bool,
-    machine: Calls<Recover>,
-    /// Whether it has answered Ok.
-    done: bool,
+    rescue: Rescue<Calls<Recover>>,
+}
+
+// by hand, so that who lets one go needn't know what it is made of
+impl Drop for Rescuer {
+    #[inline(always)]
+    fn drop(self) {
+        let Rescuer { rescue: _rescue } = self;
+    }
 }
 
 impl Model for Rescuer {
-    ghost use Rattle.shm_pool.specs.Rules.{alone};
-    ghost use Rattle.shm_pool.specs.Rescues.{Rescuing, IsRescuing, rescuing_of};
-    ghost use Rattle.shm_pool.specs.Tokens.{IsSeated};
+    ghost use Rattle.plans.specs.CallsFit.{CallsFits, CallsGives};
+    ghost use Rattle.shm_recover.specs.{Machines.Recovering.recover, Recover.{Control.recover_parts, recover_plan}};
+    ghost use Rattle.shm_pool.specs.{Rescues.Rescuing, Stepped.{IsRescue, rescuing_by}};
 
     ghost Value = { Rescuing };
 
-    ghost view = { λ t. rescuing_of t.start t.place t.begun t.machine t.done };
+    ghost view = { λ t. rescuing_by t.rescue };
 
-    ghost invariant = { λ t. IsSeated t.start t.who t.place × IsRescuing t.start t.fell t.begun t.done (alone t.place) t.machine };
-}
-
-/// The recoverer begins, unless it has begun.
-fn note_start(top: &Top, place: &mut Place, fell: bool, begun: bool)
-    requires table { (place.old.table_id ≡ top.now.table_id) × (top.now.table_id.words ≡ total_of top.now.key.geometry) × IsAlone place.old }
-    requires who { (alone place.old).who < top.now.key.geometry.clients }
-    requires fallen { begun ≡ false → IsFallen fell (alone place.old).memo }
-    requires acts { begun ≡ true → acts (alone place.old).memo ≡ true }
-    ensures place { (place.new.table_id ≡ place.old.table_id) × (place.new.id ≡ place.old.id) × IsAlone place.new }
-    ensures stood { Stood top.now.key (alone place.old) → Stood top.now.key (alone place.new) }
-    ensures account { alone place.new ≡ account_of begun (alone place.old) }
-    ensures who { (alone place.new).who ≡ (alone place.old).who }
-    ensures acts { acts (alone place.new).memo ≡ true }
-{
-    if begun {
-        return;
-    }
-    note_change(top, place, fell);
+    ghost invariant = { λ t. IsRescue recover (CallsFits recover_parts recover_plan) (CallsGives recover_parts recover_plan) t.rescue };
 }
 
 impl Corpse {
@@ -73,22 +49,8 @@ impl Corpse {
         ensures machine { result.machine ≡ calls_of recover_steered (recovering (me_of self.of self.account)) }
         ensures fits { let r = (account_of false self.account).memo in fits_now recover (CallsFits recover_parts recover_plan) result.machine r r }
     {
-        let Corpse {
-            place,
-            start,
-            who,
-            begun,
-        } = self;
-        let me = Me::new(start.geometry, who);
-        let machine = Calls::new(Recover::new(me));
         Rescuer {
-            place,
-            start,
-            who,
-            fell: begun,
-            begun: false,
-            machine,
-            done: false,
+            rescue: self.start_as::<Recover>(),
         }
     }
 }
@@ -100,7 +62,7 @@ impl Rescuer {
         ensures below { result < self.now.of.start.geometry.clients }
         ensures stood { Stood self.now.of.start self.now.seat }
     {
-        self.who
+        self.rescue.who
     }
 
     /// One word step of the recovery, unless no life is left. It hasn't answered before.
@@ -114,20 +76,7 @@ impl Rescuer {
         ensures finished { recover.finished self.new.machine ≡ is_done result }
         ensures done { is_died result ≡ false → ((self.new.done ≡ true) ↔ (result ≡ turns.Done (Ok tt))) }
     {
-        if life.left == 0 {
-            return Turn::Died;
-        }
-        note_start(pool.top(), &mut self.place, self.fell, self.begun);
-        self.begun = true;
-        match step_place(pool.top(), &mut self.place, &mut self.machine, life) {
-            Turn::More => Turn::More,
-            Turn::Done(Ok(())) => {
-                self.done = true;
-                Turn::Done(Ok(()))
-            }
-            Turn::Done(Err(spent)) => Turn::Done(Err(spent)),
-            Turn::Died => Turn::Died,
-        }
+        self.rescue.step(pool, life)
     }
 
     /// Gives the token back: vacant where the recovery has answered Ok.
@@ -141,13 +90,15 @@ impl Rescuer {
         ensures err { IfErr result (λ c. (c.of ≡ self.of) × (c.account ≡ self.seat)) }
     {
         let Rescuer {
-            place,
-            start,
-            who,
-            fell,
-            begun,
-            machine: _,
-            done,
+            rescue: Rescue {
+                place,
+                start,
+                who,
+                fell,
+                begun,
+                machine: _,
+                done,
+            },
         } = self;
         if done {
             Ok(Vacant { place, start, who })

@@ -1,6 +1,6 @@
 //! Tokens of one identity each.
 
-ghost use Rattle.std.specs.Prelude.{◌≡◌, ◌+◌, ◌<◌, ◌↔◌, ◌⊎◌, true, false, IfOk, IfErr, is_err};
+ghost use Rattle.std.specs.Prelude.{◌≡◌, ◌+◌, ◌<◌, ◌↔◌, ◌⊎◌, true, false, IfOk, IfErr, is_err, is_ok};
 ghost use Rattle.shm_words.specs.Layout.{GeometryFits};
 ghost use Rattle.shm_graph.specs.{declared.memo.{Kind.TheVariants.Client as AClient, Memo.Memo}, Agents.recovers};
 ghost use Rattle.shm_graph.specs.{Core.core, Laws.is_died, Runs.{account_entered, Stood}, Whole.{fits_now, gives_now}};
@@ -110,7 +110,8 @@ impl Vacant {
         self.who
     }
 
-    /// Makes the identity live, in one word step, and begins its client with it. With no life left no agent begins.
+    /// Makes the identity live, in one word step, and begins its client with it: that needs one word step of its life, and with it answers. With no life
+    /// left no agent begins.
     ///
     /// An identity that was gone has the eras, the queues and the home that it had: of its memo nothing changes but the status, the
     /// call and the agents. A client that has joined may leave.
@@ -127,6 +128,7 @@ impl Vacant {
         ensures call { IfOk result (λ c. CallSteps (shown join_control (join_fresh (me_of self.of self.account))) (account_entered AClient self.account) c.account true life.old.left life.new.left) }
         ensures keeps { IfOk result (λ c. core c.account.memo ≡ core (live self.account.memo)) }
         ensures leaves { IfOk result (λ c. ClientMayLeave c.of c.account) }
+        ensures lives { 0 < life.old.left → is_ok result ≡ true }
         ensures err { IfErr result (λ s. (s.cause ≡ cause.Died) × (s.corpse.of ≡ self.of) × (s.corpse.account.who ≡ self.account.who) × (life.new.left ≡ 0)) }
         ensures unbegun { life.old.left ≡ 0 → (is_err result ≡ true) × IfErr result (λ s. (s.corpse ≡ self) × (life.new ≡ life.old)) }
     {

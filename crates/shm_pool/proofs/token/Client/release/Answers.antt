@@ -4,7 +4,7 @@ use Rattle.plans.specs.Words.{word_control}
 use Rattle.shm_ref.specs.{Proved.LatchTasks.ReleaseMay, Release.{release_plan, releasing}}
 use Rattle.shm_ref.specs.declared.release.ReleaseState.{ReleaseState}
 use Rattle.shm_pool.specs.Tokens.{me_of}
-use Rattle.shm_pool.proofs.{Named.{called_by, called_dead}, token.Client.release.Goals.After-new}
+use Rattle.shm_pool.proofs.{Named.{called_as, called_dead}, token.Client.release.Goals.After-new}
 use Rattle.shm_pool.proofs.token.Client.release.Goals as goal
 
 -- the plan is one of the client's identity
@@ -15,7 +15,7 @@ pub run_plan-requires-clause-may : goal.run_plan-requires-clause-may
 run_plan-requires-clause-may c = λ alive. subst (λ (m : ReleaseState). ReleaseMay m c.args.self.now.account.memo) (sym (planned (goal.at.run_plan-requires-clause-may c).After-new)) (refl, c.requires.held alive)
 
 pub returns : goal.returns
-returns c = record { called = called_by word_control release_plan _ (releasing (me_of c.args.self.now.of c.args.self.now.account)) _ _ _ _ _ (planned (goal.at.returns c).After-new) c.run_plan.ensures.done c.run_plan.ensures.effect }
+returns c = record { called = called_as word_control release_plan _ (releasing (me_of c.args.self.now.of c.args.self.now.account)) _ _ _ _ _ (planned (goal.at.returns c).After-new) c.run_plan.ensures.called }
 
 pub returns-in_default : goal.returns-in_default
 returns-in_default c = record { called = called_dead word_control release_plan (releasing (me_of c.args.self.now.of c.args.self.now.account)) c.args.self.now c.args.life.now.left c.in_default.ensures.stood (c.in_default.ensures.dead refl) }

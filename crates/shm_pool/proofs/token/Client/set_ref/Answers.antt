@@ -3,7 +3,7 @@ use Rattle.shm_graph.specs.declared.ask.Me.{Me}
 use Rattle.shm_ref.specs.{Proved.RootTasks.SetMay, SetRef.{Control.{set_parts, setting}, set_plan}}
 use Rattle.shm_ref.specs.declared.set_ref.SetState.{SetState}
 use Rattle.shm_pool.specs.Tokens.{me_of}
-use Rattle.shm_pool.proofs.Named.{called_by, called_dead, reach_room, target_small}
+use Rattle.shm_pool.proofs.Named.{called_as, called_dead, reach_room, target_small}
 use Rattle.shm_pool.proofs.token.Client.set_ref.Goals.{After-new}
 use Rattle.shm_pool.proofs.token.Client.set_ref.Goals as goal
 
@@ -21,7 +21,7 @@ pub run_plan-requires-clause-may : goal.run_plan-requires-clause-may
 run_plan-requires-clause-may c = λ alive. subst (λ (m : SetState). SetMay m c.args.self.now.account.memo) (sym (planned (goal.at.run_plan-requires-clause-may c).After-new)) (refl, c.in-Some.ensures.alive.kind, c.requires.single alive, c.requires.reached alive, c.requires.target alive)
 
 pub returns : goal.returns
-returns c = record { called = called_by set_parts set_plan _ (setting (me_of c.args.self.now.of c.args.self.now.account) c.args.block c.args.k c.args.to) _ _ _ _ _ (planned (goal.at.returns c).After-new) c.run_plan.ensures.done c.run_plan.ensures.effect }
+returns c = record { called = called_as set_parts set_plan _ (setting (me_of c.args.self.now.of c.args.self.now.account) c.args.block c.args.k c.args.to) _ _ _ _ _ (planned (goal.at.returns c).After-new) c.run_plan.ensures.called }
 
 pub returns-in_default : goal.returns-in_default
 returns-in_default c = record { called = called_dead set_parts set_plan (setting (me_of c.args.self.now.of c.args.self.now.account) c.args.block c.args.k c.args.to) c.args.self.now c.args.life.now.left c.in_default.ensures.stood (c.in_default.ensures.dead refl) }

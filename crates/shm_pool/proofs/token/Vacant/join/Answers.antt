@@ -1,4 +1,4 @@
-use Rattle.std.proofs.Common.{refl, ◌≡◌, ℕ, ◌<◌, Bool, true, false, cond, rules, sym, ap, ◌∙◌, subst, []}
+use Rattle.std.proofs.Common.{arith, refl, ◌≡◌, ℕ, ◌<◌, Bool, true, false, cond, rules, sym, ap, ◌∙◌, subst, []}
 use Rattle.shm_graph.specs.declared.{ask.Me.Me, memo.{Kind.TheVariants.Client, Memo.Memo}, run.Account.Account}
 use Rattle.shm_graph.specs.{declared.run.Start.Start, Agents.{acts, is_gone, recovers}, Asks.call_before}
 use Rattle.shm_graph.specs.Runs.{account_entered}
@@ -7,7 +7,7 @@ use Rattle.shm_recover.specs.declared.join.JoinState.{JoinState}
 use Rattle.shm_recover.specs.Join.{IsMember, JoinFits, JoinGives, is_over, is_start, join_control, join_fresh}
 use Rattle.shm_recover.specs.{Proved.Join.Keeps.join_begins, Leave.MayLeave}
 use Rattle.shm_pool.specs.{Rules.alone, Calls.{CallSteps, shown}, Tokens.{Its, Token, has_left, its, me_of}}
-use Rattle.shm_pool.proofs.{Calling.{acts_stay, live_here}, Joining.joined_may_leave}
+use Rattle.shm_pool.proofs.{Calling.{acts_stay, live_here}, Joining.{joined_may_leave, joins_once}}
 use Rattle.shm_pool.proofs.token.Vacant.join.Goals.{After-top-2}
 use Rattle.shm_pool.proofs.token.Vacant.join.Goals as goal
 
@@ -71,3 +71,9 @@ returns-in-Some-clause-call c =
     subst (λ (t : Token). CallSteps (shown join_control (join_fresh (me_of t.of t.account))) (account_entered Client t.account) e' true c.args.life.now.left c.run_place.new.life.left) c.self.view_is
     (subst (λ (m : JoinState). CallSteps (shown join_control m) (account_entered Client e) e' true c.args.life.now.left c.run_place.new.life.left) (c.new-machine.ensures.state ∙ ap (λ (x : Me). join_fresh x) me)
     (subst (λ (x : Account). CallSteps (shown join_control c.new-machine.result) x e' true c.args.life.now.left c.run_place.new.life.left) c.note_client.ensures.account c.in-Some.ensures.call.call))
+
+pub returns-in-None-clause-lives : goal.returns-in-None-clause-lives
+returns-in-None-clause-lives c = λ some.
+    let same : c.run_place.new.life.left ≡ c.args.life.now.left = joins_once c.new-machine.result c.run_place.new.m (alone c.note_client.new.place) (alone c.run_place.new.place) c.args.life.now.left c.run_place.new.life.left c.in-None.ensures.call in
+    let spent : c.run_place.new.life.left ≡ 0 = c.in-None.ensures.spent refl in
+    absurd (omega arith)

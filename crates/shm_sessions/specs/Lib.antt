@@ -1,0 +1,3 @@
+-- what the crate's contracts cite
+pub mod Logs
+pub mod Kept

@@ -1,0 +1,4 @@
+pub mod Opening
+pub mod Lines
+pub mod Begun
+pub mod Tabled

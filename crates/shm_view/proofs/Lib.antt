@@ -1,0 +1,4 @@
+pub mod Summing
+pub mod Chaining
+pub mod Listing
+pub mod Pushing

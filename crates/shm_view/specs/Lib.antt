@@ -1,0 +1,5 @@
+pub mod Sums
+pub mod Kinds
+pub mod Chains
+pub mod Figures
+pub mod Svg

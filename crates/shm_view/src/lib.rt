@@ -1,0 +1,25 @@
+//! What an image of a pool shows: its segments, pages, blocks, counts and identities as figures and as a picture.
+#![tactic(auto)]
+
+mod cell;
+mod census;
+mod chain;
+mod histogram;
+mod identity;
+mod json;
+mod looks;
+mod pool;
+mod stats;
+mod svg;
+mod tables;
+mod text;
+
+pub use cell::{Cell, Table};
+pub use census::{Census, take_census};
+pub use histogram::Histogram;
+pub use identity::{Identity, read_identity};
+pub use json::stats_json;
+pub use pool::pool_picture;
+pub use stats::{Stats, image_stats};
+pub use svg::{Colour, Picture, Shape, svg_text};
+pub use text::stats_text;

@@ -1,0 +1,218 @@
+//! A pool as a picture.
+
+ghost use Rattle.std.specs.Prelude.{◌≡◌, ◌<◌, ◌≤◌, ◌^◌, IfErr, IfOk, None};
+ghost use Rattle.shm_words.specs.Layout.{GeometryFits};
+ghost use Rattle.shm_audit.specs.{Faults.image_fault_of, Stops.StopsBy};
+ghost use Rattle.shm_view.specs.{Svg.picture_text, declared.svg.Picture.Picture as APicture};
+
+use crate::svg::{Colour, Picture, Shape, svg_text};
+use shm_audit::{AuditStop, audit, open_image, word};
+use shm_words::{Geometry, Header};
+use std::alloc::{AllocError, Global};
+
+/// How many segments a picture shows at most.
+const MOST: u16 = 64;
+
+/// Where the pages of a segment begin, and the space of a page: 16 words in a line, and a gap.
+const LEFT: u32 = 250;
+
+const PAGE: u32 = 136;
+
+const WIDTH: u32 = LEFT + 16 * PAGE + 16;
+
+/// Where the first segment begins, and the space of a segment: 8 lines of words, and a gap.
+const TOP: u32 = 130;
+
+const LINE: u32 = 10;
+
+const ROW: u32 = 8 * LINE + 16;
+
+const WHITE: Colour = Colour {
+    red: 255,
+    green: 255,
+    blue: 255,
+};
+
+const GREY: Colour = Colour {
+    red: 221,
+    green: 221,
+    blue: 221,
+};
+
+/// The pool of an image as a picture, or the first fault of the image, as an audit finds it.
+///
+/// It has a row for each of the first 64 segments, with its owner and its 16 pages, and a page has its 128 words in 8 lines. A block is as
+/// large as its class says, of the colour of its class, strong where it is live and pale where it is free; a page without a class is grey.
+pub fn pool_picture(alloc: Global, image: &[u8]) -> Result<Vec<u8>, AuditStop>
+    ensures none { IfOk result (λ _. image_fault_of image.now ≡ None) }
+    ensures drawn { IfOk result (λ text. (p : APicture) × (text.items ≡ picture_text p)) }
+    ensures err { IfErr result (StopsBy (image_fault_of image.now)) }
+{
+    let _verdict = audit(alloc, image)?;
+    let (geometry, words) = open_image(image).map_err(AuditStop::Fault)?;
+    let picture = draw(alloc, geometry, words)?;
+    Ok(svg_text(alloc, &picture)?)
+}
+
+// the picture of a pool with these words
+fn draw(alloc: Global, geometry: Geometry, words: &[[u8; 8]]) -> Result<Picture, AllocError>
+    requires { GeometryFits geometry }
+{
+    let rows = geometry.segments().min(MOST);
+    let bottom = TOP + ROW * u32::from(rows);
+    let mut shapes = Vec::new(alloc);
+    shapes.push(rect((0, 0), (WIDTH, bottom + 60), WHITE))?;
+    draw_legend(alloc, &mut shapes)?;
+    for s in 0..rows {
+        draw_segment(alloc, &mut shapes, geometry, words, s)?;
+    }
+    let rest = geometry.segments() - rows;
+    if rest > 0 {
+        let text = format!(in alloc; "and {rest} more segments, not shown")?;
+        shapes.push(Shape::Label {
+            x: 16,
+            y: bottom + 36,
+            text,
+        })?;
+    }
+    Ok(Picture {
+        width: WIDTH,
+        height: bottom + 60,
+        shapes,
+    })
+}
+
+// a rectangle
+fn rect(place: (u32, u32), size: (u32, u32), fill: Colour) -> Shape {
+    Shape::Rect {
+        x: place.0,
+        y: place.1,
+        width: size.0,
+        height: size.1,
+        fill,
+    }
+}
+
+// what the colours mean
+fn draw_legend(alloc: Global, shapes: &mut Vec<Shape>) -> Result<(), AllocError> {
+    draw_key(alloc, shapes, 16, 4)?;
+    draw_key(alloc, shapes, 486, 8)?;
+    draw_key(alloc, shapes, 956, 16)?;
+    draw_key(alloc, shapes, 1426, 32)?;
+    shapes.push(rect((1896, 32), (34, 34), GREY))?;
+    let text = format!(in alloc; "no blocks")?;
+    shapes.push(Shape::Label {
+        x: 1942,
+        y: 60,
+        text,
+    })?;
+    Ok(())
+}
+
+// what the colours of a class mean, from the left edge x on
+fn draw_key(alloc: Global, shapes: &mut Vec<Shape>, x: u32, class: u32) -> Result<(), AllocError>
+    requires { x < 2 ^ 16 }
+{
+    shapes.push(rect((x, 32), (34, 34), colour(class, true)))?;
+    shapes.push(rect((x + 40, 32), (34, 34), colour(class, false)))?;
+    let text = format!(in alloc; "{class} words: live, free")?;
+    shapes.push(Shape::Label {
+        x: x + 86,
+        y: 60,
+        text,
+    })?;
+    Ok(())
+}
+
+// the row of a segment: its owner and its pages
+#[tactic(auto, using(shm_words::proofs::Placing::total_small), unfolding(shm_words::specs::Layout::address))]
+fn draw_segment(
+    alloc: Global,
+    shapes: &mut Vec<Shape>,
+    geometry: Geometry,
+    words: &[[u8; 8]],
+    s: u16,
+) -> Result<(), AllocError>
+    requires fits { GeometryFits geometry }
+    requires segment { s < geometry.segments }
+    requires shown { s < 64 }
+{
+    let y = TOP + ROW * u32::from(s);
+    let text = match word(words, geometry.segment(s)) {
+        0 => format!(in alloc; "{s}: nobody's")?,
+        owner => format!(in alloc; "{s}: client {}", owner - 1)?,
+    };
+    shapes.push(Shape::Label {
+        x: 16,
+        y: y + 52,
+        text,
+    })?;
+    for p in 0..16 {
+        let class = class_of(word(words, geometry.page(s, p)));
+        draw_page(
+            shapes,
+            words,
+            geometry.body(s, p),
+            class,
+            (LEFT + PAGE * u32::from(p), y),
+        )?;
+    }
+    Ok(())
+}
+
+// the class that the word of a page says, and 0 where it says none
+fn class_of(word: u64) -> u32
+    ensures { result ≤ 32 }
+{
+    match word {
+        4 => 4,
+        8 => 8,
+        16 => 16,
+        32 => 32,
+        _ => 0,
+    }
+}
+
+// a page of this class that begins at an address, and its blocks; a page of class 0 has none
+fn draw_page(
+    shapes: &mut Vec<Shape>,
+    words: &[[u8; 8]],
+    first: u32,
+    class: u32,
+    place: (u32, u32),
+) -> Result<(), AllocError>
+    requires first { first < 2 ^ 24 }
+    requires class { class ≤ 32 }
+    requires x { place.0 < 2 ^ 24 }
+    requires y { place.1 < 2 ^ 24 }
+{
+    if class == 0 {
+        shapes.push(rect(place, (128, 8 * LINE), GREY))?;
+        return Ok(());
+    }
+    let size = (8 * class.min(16) - 2, LINE * (class.max(16) / 16) - 2);
+    for k in 0..32 {
+        let from = 4 * k;
+        if from % class == 0 {
+            let is_live = Header::unpack(word(words, first + from)).live;
+            let at = (place.0 + 8 * (from % 16), place.1 + LINE * (from / 16));
+            shapes.push(rect(at, size, colour(class, is_live)))?;
+        }
+    }
+    Ok(())
+}
+
+// the colour of the blocks of a class, live or free
+fn colour(class: u32, is_live: bool) -> Colour {
+    let (red, green, blue) = match (class, is_live) {
+        (4, true) => (0, 114, 178),
+        (4, false) => (198, 223, 240),
+        (8, true) => (213, 94, 0),
+        (8, false) => (248, 220, 196),
+        (16, true) => (0, 158, 115),
+        (16, false) => (196, 235, 223),
+        (_, true) => (123, 50, 148),
+        (_, false) => (227, 208, 234),
+    };
+    Colour { red, green, blue }
+}

@@ -1,0 +1,45 @@
+//! What a call reads.
+
+use shm_audit::write_image;
+use shm_words::Geometry;
+use std::alloc::{AllocError, Global};
+
+/// The sizes that a row says, by the format and the numbers of clients and of segments.
+fn sizes_of(rest: &str) -> Option<Geometry> {
+    let mut words = rest.split(' ');
+    let format = words.next()?;
+    let clients = words.next()?.parse::<u8>().ok()?;
+    let segments = words.next()?.parse::<u16>().ok()?;
+    if format == "2" {
+        Geometry::wide(clients, segments).ok()
+    } else {
+        Geometry::new(clients, segments).ok()
+    }
+}
+
+/// The image of a pool of these sizes whose words are 0; an empty input where they aren't those of a pool.
+pub fn new_image(alloc: Global, rest: &str) -> Result<Vec<u8>, AllocError> {
+    match sizes_of(rest) {
+        Some(geometry) => {
+            let words: Vec<u64> = vec![in alloc; 0; geometry.total() as usize]?;
+            write_image(alloc, geometry, words.as_slice())
+        }
+        None => Ok(Vec::new(alloc)),
+    }
+}
+
+/// Sets the word of the pool at an address, where the input has it.
+pub fn set_word(input: &mut [u8], at: u64, word: u64) {
+    let mut place = at.saturating_mul(8).saturating_add(24);
+    for byte in word.to_le_bytes() {
+        set_byte(input, place, u64::from(byte));
+        place = place.saturating_add(1);
+    }
+}
+
+/// Sets a byte, where the input has it.
+pub fn set_byte(input: &mut [u8], at: u64, byte: u64) {
+    if at < input.len() as u64 {
+        input[at as usize] = (byte % 256) as u8;
+    }
+}

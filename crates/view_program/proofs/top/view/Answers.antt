@@ -1,0 +1,16 @@
+use Rattle.std.proofs.Common.{arith}
+use Rattle.view_program.proofs.top.view.Goals as goal
+
+-- a call whose words aren't accepted, or that was stopped for want of memory, has another status
+
+pub returns-in-Ok-None-clause-shown : goal.returns-in-Ok-None-clause-shown
+returns-in-Ok-None-clause-shown g c h = absurd (omega (arith, h, c.new.ensures))
+
+pub returns-in-Ok-None-clause-refused : goal.returns-in-Ok-None-clause-refused
+returns-in-Ok-None-clause-refused g c h = absurd (omega (arith, h, c.new.ensures))
+
+pub returns-in-Err-clause-shown : goal.returns-in-Err-clause-shown
+returns-in-Err-clause-shown g c h = absurd (omega (arith, h, c.stopped.ensures))
+
+pub returns-in-Err-clause-refused : goal.returns-in-Err-clause-refused
+returns-in-Err-clause-refused g c h = absurd (omega (arith, h, c.stopped.ensures))

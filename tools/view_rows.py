@@ -1,0 +1,239 @@
+#!/usr/bin/env python3
+"""The rows of t_view and what they have to write, made without the program: by tools/figures.py, docs/IMAGE.md and docs/VIEW.md.
+
+    python3 tools/view_rows.py           compares crates/t_view/stdin and stdout, and the rows of cxlview, with what they are to be
+    python3 tools/view_rows.py --write   writes them
+
+Run it at the top of the repository. It ends with status 1 where a file differs."""
+import sys
+
+from audit import read
+from figures import shown_of
+
+COMMANDS = """usage:
+  cxlview stats < IMAGE           write the figures of an image as aligned text
+  cxlview stats --json < IMAGE    write them as JSON
+  cxlview pool < IMAGE > SVG      draw the pool of an image
+"""
+STATUSES = """Input comes on standard input, and what is written goes to standard output.
+status: 0 done, 2 words not accepted, 3 input refused, 4 a read failed, 5 a write failed, 6 no memory
+docs/VIEW.md says what the figures and the pictures show, docs/IMAGE.md what an image is.
+"""
+FORMS = {"stats": "", "stats --json": "--json", "pool": "--svg"}
+
+
+class Rows:
+    """Rows and what they have to write, and the input that they have made."""
+
+    def __init__(self):
+        self.rows, self.told, self.data = [], [], b""
+
+    def title(self, text):
+        self.rows.append(f"# {text}")
+        self.told.append(f"# {text}\n")
+        self.data = b""
+
+    def image(self, data):
+        """Makes this image: of a pool whose words are 0, and then the words that aren't."""
+        pool = read(data)
+        self.rows.append(f"image {2 if pool.wide else 1} {pool.clients} {pool.segments}")
+        self.rows += [f"set {at} {word}" for at, word in enumerate(pool.words) if word]
+        self.data = data
+
+    def byte(self, at, value):
+        self.rows.append(f"byte {at} {value}")
+        self.data = self.data[:at] + bytes([value]) + self.data[at + 1 :]
+
+    def set(self, at, word):
+        self.rows.append(f"set {at} {word}")
+        self.data = with_words(self.data, {at: word})
+
+    def cut(self, length):
+        self.rows.append(f"cut {length}")
+        self.data = self.data[:length]
+
+    def call(self, words, status, said, written=""):
+        self.rows.append(f"view {words}")
+        self.told.append(f"> {words}\nstatus {status}\n{said}{written}")
+
+    def shown(self, *forms):
+        """Calls that show the image."""
+        for words in forms or FORMS:
+            self.call(words, 0, "", shown_of(read(self.data), FORMS[words]))
+
+    def refused(self, line, why):
+        """Each command refuses the image."""
+        for words in FORMS:
+            self.call(words, 3, f"{line}\ncxlview: {why}\n")
+
+
+def with_words(data, words):
+    """An image with these words of the pool at their addresses."""
+    data = bytearray(data)
+    for at, word in words.items():
+        data[24 + 8 * at : 32 + 8 * at] = word.to_bytes(8, "little")
+    return bytes(data)
+
+
+def live(client, count, era=1):
+    """The header of a live block."""
+    return 1 << 63 | client << 57 | count << 47 | era
+
+
+def tag(pool, refs, plain, author):
+    """The tag of a block without a link."""
+    low = 24 if pool.wide else 20
+    return refs << low + 10 | plain << low + 6 | author << low
+
+
+def empty(wide, clients, segments):
+    """The image of a pool whose words are 0."""
+    size = 1 + 21 * clients + (clients if wide else 0) + 11 * clients * clients + 2065 * segments
+    frame = (b"CXLSHM02" if wide else b"CXLSHM01") + clients.to_bytes(8, "little") + segments.to_bytes(8, "little")
+    return frame + bytes(8 * size)
+
+
+def busy(wide):
+    """An image of three clients and four segments in the midst of work: a table with a chain of three, roots, queues, a latch that is held."""
+    data = empty(wide, 3, 4)
+    pool = read(data)
+    page = lambda s, p: pool.bodies + 2048 * s + 128 * p
+    directory, entries, values = page(0, 0), [page(0, 1) + 8 * k for k in (0, 1, 5)], [page(0, 2) + 4 * k for k in (0, 31)]
+    words = {1: 1, 2: 2, 3: 3, pool.holds + 1: 1, pool.latches: 2, pool.homes: directory}
+    words |= {pool.owners: 1, pool.owners + 2: 2, pool.owners + 3: 1, pool.pages: 32, pool.pages + 1: 8, pool.pages + 2: 4, pool.pages + 16 * 2 + 15: 16}
+    words |= {directory: live(0, 1), directory + 1: tag(pool, 16, 0, 0), directory + 2 + 5: entries[0]}
+    for k, entry in enumerate(entries):
+        after = entries[k + 1] if k < 2 else 0
+        words |= {entry: live(0, 1, 2 + k), entry + 1: tag(pool, 2, 1, 0), entry + 2: after, entry + 3: values[k % 2], entry + 4: 5 + 16 * k}
+    words |= {values[0]: live(0, 2 + 3), values[0] + 1: tag(pool, 0, 1, 0), values[0] + 2: 77, values[1]: live(2, 1), values[1] + 1: tag(pool, 0, 1, 2)}
+    words |= {pool.roots: values[0], pool.roots + 15: values[0], pool.queues + 10 * (0 * 3 + 1) + 2 + 7: values[0]}
+    words |= {page(2, 15) + 16: live(1, 1), page(2, 15) + 17: tag(pool, 0, 8, 1), pool.queues + 10 * (2 * 3 + 1) + 2: page(2, 15) + 16}
+    return with_words(data, words)
+
+
+def words_rows(rows):
+    rows.title("words that aren't accepted")
+    for words, why in (
+        ("", "cxlview: a command is missing\n"),
+        ("statz", "cxlview: `statz` is no command\n"),
+        ("stats one.image", "cxlview: `stats` doesn't take `one.image`: it reads standard input: `cxlview stats < one.image`\n"),
+        ("stats --svg", "cxlview: `stats` doesn't take `--svg`\n"),
+        ("stats --json --json", "cxlview: `stats` doesn't take a word twice\n"),
+        ("pool --json", "cxlview: `pool` doesn't take `--json`\n"),
+        ("pool 1", "cxlview: `pool` doesn't take `1`: it reads standard input: `cxlview pool < 1`\n"),
+    ):
+        rows.call(words, 2, why + COMMANDS)
+    for words in ("--help", "help", "stats -h"):
+        rows.call(words, 2, COMMANDS + STATUSES)
+
+
+def shown_rows(rows):
+    for name in ("one_put.image", "one_put.format_2.image"):
+        rows.title(f"the image examples/{name}")
+        rows.image(open(f"examples/{name}", "rb").read())
+        rows.shown()
+    rows.title("empty pools")
+    for sizes in ((False, 1, 1), (False, 16, 2), (True, 2, 1)):
+        rows.image(empty(*sizes))
+        rows.shown(*FORMS if sizes[1] == 1 else ("stats", "stats --json"))
+    for wide in (False, True):
+        rows.title(f"clients in the midst of work, format {1 + wide}")
+        rows.image(busy(wide))
+        rows.shown()
+    rows.title("the verdicts")
+    rows.image(busy(False))
+    pool = read(rows.data)
+    for client in (1, 2):
+        rows.set(client, 3)
+        rows.shown("stats")
+    rows.set(pool.bodies + 2 * 128, live(0, 4))
+    rows.shown("stats")
+    rows.set(pool.bodies + 2 * 128 + 4, live(0, 0))
+    rows.set(pool.bodies + 2 * 128 + 5, tag(pool, 0, 1, 0))
+    rows.shown("stats", "stats --json")
+    rows.title("a status that none has, a chain that goes in a circle, and a home that names no directory")
+    rows.image(busy(False))
+    rows.set(1, 7)
+    rows.set(pool.bodies + 128 + 40 + 2, pool.bodies + 128)
+    rows.shown("stats")
+    rows.set(pool.homes + 1, pool.bodies + 2 * 128 + 31 * 4)
+    rows.shown("stats")
+
+
+def fault_rows(rows):
+    first = open("examples/one_put.image", "rb").read()
+    rows.title("images that are refused")
+    rows.refused("refused short 0", "the image has 0 bytes, and the first 24 say what it is: `CXLSHM01` or `CXLSHM02`, how many clients, and how many segments")
+    rows.image(first)
+    rows.cut(23)
+    rows.refused("refused short 23", "the image has 23 bytes, and the first 24 say what it is: `CXLSHM01` or `CXLSHM02`, how many clients, and how many segments")
+    rows.image(first)
+    rows.byte(7, ord("3"))
+    rows.refused(f"refused magic {int.from_bytes(b'CXLSHM03', 'little')}", "an image begins with `CXLSHM01` or `CXLSHM02`, and this one with `CXLSHM03`")
+    rows.image(first)
+    rows.byte(8, 17)
+    rows.refused("refused geometry 17 1", "the image says 17 clients and 1 segments: a pool has 1 to 16 clients and 1 to 256 segments, or 1 to 8000 in format 2")
+    rows.image(first)
+    rows.cut(16807)
+    rows.refused("refused length 16807 want 16808", "the image has 16807 bytes, and by its clients and segments it has 16808")
+    rows.image(first)
+    rows.set(34, 5)
+    rows.refused("refused page 34 5", "word 34 of the pool, at byte 296 of the image, is 5: the word of a page is 0, 4, 8, 16 or 32")
+    rows.image(first)
+    rows.set(54, 1)
+    rows.refused("refused header 54 1", "word 54 of the pool, at byte 456 of the image, is 1: the header of a block is 0, or that of a live block of a client of the pool")
+    rows.image(first)
+    rows.set(51, 1 << 36)
+    rows.refused(f"refused tag 51 {1 << 36}", f"word 51 of the pool, at byte 432 of the image, is {1 << 36}: it isn't the tag of a block of its size by a client of the pool")
+    rows.image(first)
+    rows.set(185, 307)
+    rows.refused("refused reference 185 307", "word 185 of the pool, at byte 1504 of the image, is 307: a reference is 0, or names a live block with a count above 0")
+
+
+def stream_rows(rows):
+    rows.title("reads and writes that fail")
+    rows.image(open("examples/one_put.image", "rb").read())
+    for number in (1, 3):
+        rows.rows.append(f"read {number}")
+        rows.call("stats", 4, "cxlview: standard input can't be read\n")
+    rows.rows.append("write 1")
+    rows.call("stats", 5, "cxlview: standard output can't be written\n")
+    picture = shown_of(read(rows.data), "--svg")
+    rows.rows.append("write 2")
+    rows.call("pool", 5, "cxlview: standard output can't be written\n", picture[:4096])
+
+
+def files():
+    """What each file is to hold."""
+    rows = Rows()
+    words_rows(rows)
+    shown_rows(rows)
+    fault_rows(rows)
+    stream_rows(rows)
+    image = open("examples/one_put.image", "rb").read()
+    return {
+        "crates/t_view/stdin": ("\n".join(rows.rows) + "\n").encode(),
+        "crates/t_view/stdout": "".join(rows.told).encode(),
+        "crates/cxlview/stdin": image,
+        "crates/cxlview/stdout": shown_of(read(image), "").encode(),
+    }
+
+
+def main(words):
+    differs = 0
+    for path, data in files().items():
+        if words == ["--write"]:
+            open(path, "wb").write(data)
+        else:
+            try:
+                held = open(path, "rb").read()
+            except FileNotFoundError:
+                held = b""
+            if held != data:
+                print(f"{path} isn't what tools/view_rows.py makes")
+                differs = 1
+    return differs
+
+
+if __name__ == "__main__":
+    sys.exit(main(sys.argv[1:]))
