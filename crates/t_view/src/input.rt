@@ -1,11 +1,16 @@
 //! What a call reads.
 
+ghost use Rattle.std.specs.Prelude.{IfSome};
+ghost use Rattle.shm_words.specs.Layout.{GeometryFits};
+
 use shm_audit::write_image;
 use shm_words::Geometry;
 use std::alloc::{AllocError, Global};
 
 /// The sizes that a row says, by the format and the numbers of clients and of segments.
-fn sizes_of(rest: &str) -> Option<Geometry> {
+fn sizes_of(rest: &str) -> Option<Geometry>
+    ensures fits { IfSome result GeometryFits }
+{
     let mut words = rest.split(' ');
     let format = words.next()?;
     let clients = words.next()?.parse::<u8>().ok()?;
