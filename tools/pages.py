@@ -2,7 +2,8 @@
 """Compares the names in README.md and docs/ with the tree: prints each that stands nowhere, and ends with 1 if there is one.
 
 Read are: names in backticks that are one word of letters, digits and underscores or a path of such (`Type::name`, `name.field`); names of must-fail edits
-(behind "Wrong ideas"); and paths of files (crates/.., docs/.., examples/.., tools/..). Run it at the top of the repository."""
+(behind "Wrong ideas"); and paths of files (crates/.., docs/.., examples/.., tools/..). The program that docs/LIBRARY.md shows first is compared with its
+file. Run it at the top of the repository."""
 import glob, os, re, subprocess, sys
 
 tree = subprocess.run(["git", "ls-files"], capture_output=True, text=True).stdout.split()
@@ -24,5 +25,10 @@ for page in ["README.md", *sorted(glob.glob("docs/**/*.md", recursive=True))]:
     for path in set(re.findall(r"\b(?:crates|docs|examples|tools)/[A-Za-z0-9_/.-]*[A-Za-z0-9_]", text)):
         if "/out/" not in path and path.rstrip("/") not in files and not any(f.startswith(path) for f in tree) and not re.search(r"\b[A-Z]{4,}\b", path):
             found.append(f"{page}: no file {path}")
+# a program that a page shows first, whole, and its file
+for page, file in {"docs/LIBRARY.md": "crates/lojarnek_example/src/main.rt"}.items():
+    shown = re.search(r"```rust\n(.*?)```", open(page, encoding="utf-8").read(), flags=re.S)
+    if shown is None or shown[1] != open(file, encoding="utf-8").read():
+        found.append(f"{page}: its first program isn't {file}")
 print("\n".join(found) if found else "each name of the pages stands in the tree")
 sys.exit(1 if found else 0)

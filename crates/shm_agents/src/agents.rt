@@ -140,7 +140,7 @@ impl<P: Piece> Agents<P> {
     }
 
     /// A turn of theirs: the agent makes one word step, or where it has none left it dies.
-    #[inline(always)]
+    #[inline(never)]
     pub fn turn<W: Workplace>(&mut self, script: &Script, pool: &mut W)
         requires has { W.has pool.old self.old.me.who }
         requires stands { AgentsStand (W.start pool.old) script.now self.old (W.account pool.old self.old.me.who) }

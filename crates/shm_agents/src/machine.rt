@@ -1,5 +1,8 @@
 //! Pieces of work at their machines.
 
+ghost use Rattle.std.specs.Prelude.{◌≡◌, false};
+ghost use Rattle.shm_graph.specs.Laws.{turn_of};
+
 use crate::piece::{Outcome, Piece};
 use plans::{Calls, Or};
 use shm_graph::{Ask, Machine, Me, Site, Turn};
@@ -96,8 +99,41 @@ impl Piece for WorkMachine {
         self.one.take(seen)
     }
 
+    // Nearly all word steps are a command's: it alone is made here, so that what is inlined stays small.
     #[inline(always)]
     fn act<S: Site>(&mut self, site: &S, words: &mut S::Words) -> Turn<Outcome> {
-        self.one.act(site, words)
+        match &mut self.one {
+            Or::First(first) => match act_apart(first, site, words) {
+                Turn::Done(answer) => Turn::Done(Or::First(answer)),
+                Turn::More => Turn::More,
+                Turn::Died => Turn::Died,
+            },
+            Or::Second(Or::First(command)) => match command.act(site, words) {
+                Turn::Done(answer) => Turn::Done(Or::Second(Or::First(answer))),
+                Turn::More => Turn::More,
+                Turn::Died => Turn::Died,
+            },
+            Or::Second(Or::Second(leave)) => match act_apart(leave, site, words) {
+                Turn::Done(answer) => Turn::Done(Or::Second(Or::Second(answer))),
+                Turn::More => Turn::More,
+                Turn::Died => Turn::Died,
+            },
+        }
     }
+}
+
+/// Makes the word step that a machine asks for next, as a call of its own.
+#[inline(never)]
+fn act_apart<M: Machine, S: Site>(
+    machine: &mut M,
+    site: &S,
+    words: &mut S::Words,
+) -> Turn<M::Answer>
+    requires runs { M.control.finished machine.old ≡ false }
+    requires may { S.may site.now words.old (M.control.asks machine.old) }
+    ensures made { S.made site.now words.old (M.control.asks machine.old) words.new }
+    ensures machine { let a = M.control.asks machine.old in machine.new ≡ M.control.after machine.old (S.seen site.now words.old a words.new) }
+    ensures turn { let a = M.control.asks machine.old in result ≡ turn_of (M.control.turns machine.old (S.seen site.now words.old a words.new)) }
+{
+    machine.act(site, words)
 }

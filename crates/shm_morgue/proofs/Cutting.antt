@@ -23,6 +23,10 @@ one_more w a (suc n) c e = ap (λ (l : List Puts). record { of = w; client = a; 
 pub more_porters : (w : Which) (a n c : ℕ) → c ≡ a + n → first_porters w a n ++ record { of = w; client = c; entries = [] } ∷ [] ≡ first_porters w a (n + 1)
 more_porters w a n c e = let s : suc n ≡ n + 1 = omega arith in one_more w a n c e ∙ ap (λ (k : ℕ). first_porters w a k) s
 
+pub porters_long : (w : Which) (c n : ℕ) → length (first_porters w c n) ≡ n
+porters_long w c zero = refl
+porters_long w c (suc n) = ap suc (porters_long w (suc c) n)
+
 one_medic : (w : Which) (n : ℕ) → first_medics w n ++ record { of = w; entries = [] } ∷ [] ≡ first_medics w (suc n)
 one_medic w zero = refl
 one_medic w (suc n) = ap (λ (l : List Takes). record { of = w; entries = [] } ∷ l) (one_medic w n)

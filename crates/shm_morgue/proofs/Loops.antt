@@ -1,9 +1,8 @@
 -- vectors that are gone through
-use Rattle.std.proofs.Common.{inl, inr, ◌≡◌, ℕ, zero, suc, ◌+◌, ◌<◌, List, [], ◌∷◌, ◌++◌, length, take, refl, sym, ap, ◌∙◌, subst, arith, length-append, append_assoc, append-nil}
-use Rattle.std.proofs.{Math.Seq.take-append_seam, lemmas.{Bool.cases_eq, List.{get_or-set_other, get_or-set_same}}}
-use Rattle.std.specs.{Prelude.{None, Option, slice_index_or, slice_set}, List.AllByRecursion}
-use Rattle.shm_team.specs.declared.left.Left.{Left}
-use Rattle.shm_morgue.specs.{Slots.either, declared.rule.Taken.Taken}
+use Rattle.std.proofs.Common.{◌≡◌, ℕ, zero, suc, ◌+◌, ◌<◌, List, [], ◌∷◌, ◌++◌, length, take, refl, sym, ap, ◌∙◌, subst, arith, length-append, append_assoc, append-nil}
+use Rattle.std.proofs.Math.Seq.{take-append_seam}
+use Rattle.std.specs.{Prelude.slice_index_or, List.AllByRecursion}
+use Rattle.shm_morgue.specs.declared.rule.Taken.{Taken}
 use Rattle.shm_morgue.specs.Entries.{Puts, Takes, Which, all_taken, first_medics, first_porters}
 
 -- what stands behind a front

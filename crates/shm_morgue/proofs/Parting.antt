@@ -6,7 +6,7 @@ use Rattle.shm_graph.specs.declared.{ask.Me.Me, memo.{Agent.Agent, Fate.TheVaria
 use Rattle.shm_graph.specs.{declared.run.{Account.Account, Start.Start}, Agents.{acts, steps_of}, Held.is_loose}
 use Rattle.shm_graph.specs.Runs.{account_died, is_dead, told_left}
 use Rattle.shm_count.specs.Roots.{member}
-use Rattle.shm_agents.specs.declared.agents.Standing.{Standing, TheVariants.{AtWork, Dead, Gone}}
+use Rattle.shm_agents.specs.declared.agents.Standing.{Standing, TheVariants.{AtWork, Gone}}
 use Rattle.shm_agents.specs.Agents.{IsFallen, IsFold, IsFresh, IsMending, IsPlaying, IsSettled, Playing, Stage, AgentsStand, is_at_work, is_client, logged}
 use Rattle.shm_agents.specs.Agents.Stage.{Fresh, Plays, Parted, Fallen, Mending, Mended}
 use Rattle.shm_agents.specs.{Courses.{AreAgents, AreCommandsTold, AreRecoverers}, Logs.IsLogOf, Turns.lives_of}

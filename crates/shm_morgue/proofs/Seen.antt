@@ -3,13 +3,10 @@ use Rattle.std.proofs.{Common.{◌≡◌, ℕ, List, [], length, subst}, lemmas.
 use Rattle.crossbeam_queue.specs.Passes.{view}
 use Rattle.shm_pool.specs.Tokens.{Its}
 use Rattle.shm_morgue.specs.{declared.rule.{Desk.Desk, Hands.Hands, Taken.Taken}, Entries.MayHold}
-use Rattle.shm_morgue.specs.{Hands.{IsPorter, Place, desk, first_entries, first_list, puts_of, takes_of}, Keeps.MayWait}
+use Rattle.shm_morgue.specs.{Hands.{IsPorter, Place, desk, first_entries, puts_of}, Keeps.MayWait}
 
 pub same_puts : (p q : Place) (client : ℕ) → p.table_id ≡ q.table_id → view p ≡ view q → puts_of p client ≡ puts_of q client
 same_puts p q client t v = λ j. record { of = record { queue = t j; clients = (v j).clients; medics = (v j).doctors }; client = client; entries = first_entries (v j).porters }
-
-pub same_takes : (p q : Place) → p.table_id ≡ q.table_id → view p ≡ view q → takes_of p ≡ takes_of q
-same_takes p q t v = λ j. record { of = record { queue = t j; clients = (v j).clients; medics = (v j).doctors }; entries = first_list (v j).medics }
 
 pub waits_alone : (pools : List Its) (p : Place) (client n : ℕ) (items : List Taken) → IsPorter p client n → MayWait pools (view p) items → MayHold pools client (length (first_entries (view p).porters)) items
 waits_alone pools p client n items h w =

@@ -46,15 +46,9 @@ fn gather_medics<J: Pools>(morgue: &Morgue<J>, mut medics: Vec<Medic<J>>) -> Pla
     let Some(first) = medics.pop() else {
         unreachable!()
     };
-    let Medic {
-        mut place,
-        pools: _,
-    } = first;
+    let mut place = first.into_place();
     while let Some(medic) = medics.pop() {
-        let Medic {
-            place: other,
-            pools: _,
-        } = medic;
+        let other = medic.into_place();
         morgue.queue.absorb::<Gathers>(&mut place, other);
     }
     place
@@ -73,12 +67,7 @@ fn gather_porters<J: Pools>(
     ensures view { view result ≡ hands (desks_of porters.items) (view place).medics morgue.now.clients morgue.now.medics }
 {
     while let Some(porter) = porters.pop() {
-        let Porter {
-            place: other,
-            client: _,
-            puts: _,
-            pools: _,
-        } = porter;
+        let other = porter.into_place();
         morgue.queue.absorb::<Gathers>(&mut place, other);
     }
     place

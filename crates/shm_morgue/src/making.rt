@@ -2,7 +2,7 @@
 
 ghost use Rattle.std.specs.Prelude.{◌≡◌, ◌<◌, ◌≤◌, [], IfOk, OnOk};
 ghost use Rattle.crossbeam_queue.specs.Passes.{IsPassOf, view};
-ghost use Rattle.shm_morgue.specs.Entries.{first_medics, first_porters};
+ghost use Rattle.shm_morgue.specs.{Closing.IsPlaceOf, Entries.{first_medics, first_porters}};
 ghost use Rattle.shm_morgue.specs.Hands.{blank_desks, blank_lists, hands, newborn, which, whole};
 
 use crate::morgue::{Medic, Morgue, Porter};
@@ -47,15 +47,15 @@ fn cut_porters<J: Pools>(
     ensures porters { IfOk result (λ v. v.items ≡ first_porters (which home.old) 0 clients) }
 {
     let _ = doctors;
-    let mut porters = Vec::new(alloc);
+    let mut porters = Vec::with_capacity(alloc, clients as usize)?;
     for client in 0..clients {
         let place = queue.another::<CutsPorter>(home);
-        porters.push(Porter {
+        porters.push_reserved(Porter {
             place,
             client,
             puts: 0,
             pools: PhantomData,
-        })?;
+        });
     }
     Ok(porters)
 }
@@ -74,15 +74,54 @@ fn cut_medics<J: Pools>(
     ensures medics { IfOk result (λ v. v.items ≡ first_medics (which home.old) doctors) }
 {
     let _ = clients;
-    let mut medics = Vec::new(alloc);
+    let mut medics = Vec::with_capacity(alloc, doctors as usize)?;
     for _medic in 0..doctors {
         let place = queue.another::<CutsMedic>(home);
-        medics.push(Medic {
+        medics.push_reserved(Medic {
             place,
             pools: PhantomData,
-        })?;
+        });
     }
     Ok(medics)
+}
+
+/// A morgue whose desks and lists aren't set up yet, and its first pass.
+fn begun<J: Pools>(alloc: Global, clients: u8, medics: u8) -> Result<(Morgue<J>, Place), AllocError>
+    requires clients { 0 < clients }
+    requires medics { 0 < medics }
+    ensures which { IfOk result (λ r. r.0 ≡ record { queue = r.1.table_id; clients = clients; medics = medics }) }
+    ensures of { IfOk result (λ r. IsPlaceOf r.0 r.1) }
+    ensures fresh { IfOk result (λ r. view r.1 ≡ newborn) }
+{
+    let (queue, home) = Queue::ruled(alloc, clients as usize)?;
+    Ok((
+        Morgue {
+            queue,
+            clients,
+            medics,
+        },
+        home,
+    ))
+}
+
+/// A porter for each client, in order, and the medics, by the first pass of a morgue.
+fn cut_all<J: Pools>(
+    alloc: Global,
+    queue: &Queue<J>,
+    mut home: Place,
+    clients: u8,
+    doctors: u8,
+) -> Result<(Vec<Porter<J>>, Vec<Medic<J>>), AllocError>
+    requires of { IsPassOf queue.now home }
+    requires fresh { view home ≡ newborn }
+    requires some { 0 < clients }
+    ensures porters { IfOk result (λ v. v.0.items ≡ first_porters (record { queue = home.table_id; clients = clients; medics = doctors }) 0 clients) }
+    ensures medics { IfOk result (λ v. v.1.items ≡ first_medics (record { queue = home.table_id; clients = clients; medics = doctors }) doctors) }
+{
+    open::<J, Brand>(queue, &mut home, clients, doctors);
+    let porters = cut_porters(alloc, queue, &mut home, clients, doctors)?;
+    let medics = cut_medics(alloc, queue, &mut home, clients, doctors)?;
+    Ok((porters, medics))
 }
 
 impl<J: Pools> Morgue<J> {
@@ -98,18 +137,12 @@ impl<J: Pools> Morgue<J> {
         ensures porters { IfOk result (λ m. m.porters.items ≡ first_porters m.morgue 0 clients) }
         ensures medics { IfOk result (λ m. m.medics.items ≡ first_medics m.morgue medics) }
     {
-        let (queue, mut home) = Queue::ruled(alloc, clients as usize)?;
-        open::<J, Brand>(&queue, &mut home, clients, medics);
-        let porters = cut_porters(alloc, &queue, &mut home, clients, medics)?;
-        let healers = cut_medics(alloc, &queue, &mut home, clients, medics)?;
+        let (morgue, home) = begun(alloc, clients, medics)?;
+        let (porters, medics) = cut_all(alloc, &morgue.queue, home, clients, medics)?;
         Ok(Made3 {
-            morgue: Morgue {
-                queue,
-                clients,
-                medics,
-            },
+            morgue,
             porters,
-            medics: healers,
+            medics,
         })
     }
 }

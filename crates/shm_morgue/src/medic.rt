@@ -25,13 +25,20 @@ pub(crate) struct Round<J: Pools> {
     pub(crate) slots: Vec<Option<Left>>,
 }
 
+/// How many identities a trace has.
+pub(crate) fn clients_of(trace: &Trace) -> u8
+    ensures { result ≡ trace.now.clients }
+{
+    trace.clients
+}
+
 /// A place for each identity, with nothing in it.
 pub(crate) fn blank_slots(alloc: Global, clients: u8) -> Result<Vec<Option<Left>>, AllocError>
     ensures { IfOk result (λ v. v.items ≡ replicate clients None) }
 {
     let mut slots = Vec::with_capacity(alloc, clients as usize)?;
     for _client in 0..clients {
-        slots.push(None)?;
+        slots.push_reserved(None);
     }
     Ok(slots)
 }
@@ -73,8 +80,9 @@ fn heal<J: Pools, R: Wait, G: Gate>(
         mut medic,
         mut slots,
     } = round;
+    let clients = clients_of(trace);
     for _look in rt.forever() {
-        let over = ended.load(Ordering::SeqCst) >= trace.clients as u32;
+        let over = ended.load(Ordering::SeqCst) >= clients as u32;
         match medic.take(rt, morgue) {
             Some(taken) => {
                 gate.rescue(number, taken.corpse.client());

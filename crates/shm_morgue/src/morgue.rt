@@ -1,9 +1,9 @@
 //! A morgue, its porters and its medics.
 
-ghost use Rattle.std.specs.Prelude.{◌≡◌, ◌+◌, ◌-◌, ◌^◌, ◌<◌, ◌∷◌, ◌++◌, [], length, IfOk, IfErr, MatchOption};
+ghost use Rattle.std.specs.Prelude.{◌≡◌, ◌+◌, ◌-◌, ◌^◌, ◌<◌, ◌∷◌, ◌++◌, ℕ, [], length, IfOk, IfErr, MatchOption};
 ghost use Rattle.std.specs.List.{All, Contains};
 ghost use Rattle.crossbeam_queue.specs.Fifo.{Held};
-ghost use Rattle.shm_morgue.specs.Entries.{entry, IsOf, MayHold};
+ghost use Rattle.shm_morgue.specs.{Entries.{entry, IsOf, MayHold}, Hands.{IsMedic, IsPorter, puts_of, takes_of}};
 
 use crate::rule::{Place, Pools, Put, Queue, Take, Taken};
 use shm_pool::Corpse;
@@ -11,11 +11,21 @@ use std::marker::{Model, PhantomData};
 use std::sync::Wait;
 
 /// A queue that corpses go through, with room for one of each client. To a contract it is its name.
-#[derive(Drop)]
 pub struct Morgue<J: Pools> {
     pub(crate) queue: Queue<J>,
     pub(crate) clients: u8,
     pub(crate) medics: u8,
+}
+
+// by hand, so that who lets it go needn't know what it is made of
+impl<J: Pools> Drop for Morgue<J> {
+    fn drop(self) {
+        let Morgue {
+            queue: _queue,
+            clients: _clients,
+            medics: _medics,
+        } = self;
+    }
 }
 
 impl<J: Pools> Model for Morgue<J> {
@@ -30,12 +40,22 @@ impl<J: Pools> Model for Morgue<J> {
 }
 
 /// Who puts the corpses of one client. Contracts see all that it has put.
-#[derive(Drop)]
 pub struct Porter<J: Pools> {
     pub(crate) place: Place,
     pub(crate) client: u8,
     pub(crate) puts: u32,
     pub(crate) pools: PhantomData<J>,
+}
+
+impl<J: Pools> Drop for Porter<J> {
+    fn drop(self) {
+        let Porter {
+            place: _place,
+            client: _client,
+            puts: _puts,
+            pools: _pools,
+        } = self;
+    }
 }
 
 impl<J: Pools> Model for Porter<J> {
@@ -51,10 +71,18 @@ impl<J: Pools> Model for Porter<J> {
 }
 
 /// Who takes corpses. Contracts see all that it has taken.
-#[derive(Drop)]
 pub struct Medic<J: Pools> {
     pub(crate) place: Place,
     pub(crate) pools: PhantomData<J>,
+}
+
+impl<J: Pools> Drop for Medic<J> {
+    fn drop(self) {
+        let Medic {
+            place: _place,
+            pools: _pools,
+        } = self;
+    }
 }
 
 impl<J: Pools> Model for Medic<J> {
@@ -76,6 +104,20 @@ pub struct NoRoom {
 }
 
 impl<J: Pools> Porter<J> {
+    /// Its pass of the queue.
+    pub(crate) fn into_place(self) -> Place
+        ensures view { puts_of result self.client ≡ self }
+        ensures porter { (n : ℕ) × IsPorter result self.client n }
+    {
+        let Porter {
+            place,
+            client: _,
+            puts: _,
+            pools: _,
+        } = self;
+        place
+    }
+
     /// Whose corpses it puts.
     pub fn client(&self) -> u8
         ensures { result ≡ self.now.client }
@@ -124,6 +166,15 @@ impl<J: Pools> Porter<J> {
 }
 
 impl<J: Pools> Medic<J> {
+    /// Its pass of the queue.
+    pub(crate) fn into_place(self) -> Place
+        ensures view { takes_of result ≡ self }
+        ensures medic { IsMedic result }
+    {
+        let Medic { place, pools: _ } = self;
+        place
+    }
+
     /// Takes the corpse that has waited longest. It may wait in the queue. `None` comes only where the queue was empty at one step of this call.
     pub fn take<R: Wait>(&mut self, rt: &R, morgue: &Morgue<J>) -> Option<Taken>
         requires of { self.old.of ≡ morgue.now }

@@ -1,22 +1,19 @@
 //! A trace is run by workers whose dead go through a morgue to medics.
 
-ghost use Rattle.std.specs.Prelude.{◌≡◌, ◌<◌, ◌≤◌, ◌++◌, ◌∷◌, ℕ, IfOk, List, None, [], length, slice_index_or};
+ghost use Rattle.std.specs.Prelude.{◌≡◌, ◌<◌, ◌≤◌, ◌++◌, ◌∷◌, ℕ, IfOk, List, None, [], length, replicate, slice_index_or, vec_capacity};
 ghost use Rattle.std.specs.List.{All, AllByRecursion};
 ghost use Rattle.shm_graph.specs.declared.run.Move.{Move as AMove};
 ghost use Rattle.shm_plain.specs.Pools.{pool as pool_of};
-ghost use Rattle.shm_pool.specs.Tokens.{Its as APool};
 ghost use Rattle.shm_replay.specs.Replays.{start_of};
-ghost use Rattle.shm_script.specs.Values.{Traced as ATrace};
-ghost use Rattle.shm_team.specs.{Dones.{AreDones, IsDone}, Jobs.AreJobs, Rans.IsTeamRun};
+ghost use Rattle.shm_team.specs.{Dones.AreDones, Jobs.AreJobs, Rans.IsTeamRun};
 ghost use Rattle.shm_morgue.specs.Crew.{HasWorked, HaveWorked, IsRound, IsTask};
 ghost use Rattle.shm_morgue.specs.Entries.{IsCarried, IsOf, Puts as APorter, Takes as AMedic, all_taken, first_medics, first_porters};
-ghost use Rattle.shm_morgue.specs.Slots.{AreEnough, AreRescued, IsEnough, either};
-ghost use Rattle.shm_morgue.specs.declared.rule.Taken.{Taken as ATaken};
+ghost use Rattle.shm_morgue.specs.{Slots.{AreEnough, AreRescued, either}, declared.rule.Taken.Taken as ATaken};
 
 use crate::closing::{MorgueCause, MorgueStop};
 use crate::gate::Gate;
 use crate::making::Made3;
-use crate::medic::{Round, blank_slots, heal_all, rescue_into};
+use crate::medic::{Round, blank_slots, clients_of, heal_all, rescue_into};
 use crate::morgue::{Medic, Morgue, Porter};
 use crate::rule::{Pools, Taken};
 use crate::worker::{Outcome, Shift, Task, Worked, work_all};
@@ -40,6 +37,40 @@ pub struct Rescued {
     pub logs: Vec<Log>,
 }
 
+/// A task for each identity, in order, where there is room for all of them.
+fn tasks_in<'a, J: Pools, A: Play>(
+    pool: &SharedPool,
+    trace: &Trace,
+    morgue: &Morgue<J>,
+    ended: &'a AtomicU32,
+    jobs: Vec<Job<A>>,
+    porters: Vec<Porter<J>>,
+    mut tasks: Vec<Task<'a, J, A>>,
+) -> Vec<Task<'a, J, A>>
+    requires jobs { AreJobs trace.now pool.now 0 jobs.items }
+    requires porters { porters.items ≡ first_porters morgue.now 0 (length jobs.items) }
+    requires none { tasks.items ≡ [] }
+    requires room { length jobs.items ≤ vec_capacity tasks }
+    ensures many { length result.items ≡ length jobs.items }
+    ensures tasks { (i : ℕ) (d : _) → i < length result.items → let k = slice_index_or result.items i d in (k.job.token.account.who ≡ i) × IsTask trace.now pool.now morgue.now k.job k.porter }
+{
+    let _ = pool;
+    let _ = trace;
+    let _ = morgue;
+    let mut rest = porters.into_iter();
+    for job in jobs {
+        let Some(porter) = rest.next() else {
+            unreachable!()
+        };
+        tasks.push_reserved(Task {
+            job,
+            porter,
+            shift: Shift::of(ended),
+        });
+    }
+    tasks
+}
+
 /// A task for each identity, in order.
 fn all_tasks<'a, J: Pools, A: Play>(
     alloc: Global,
@@ -55,22 +86,8 @@ fn all_tasks<'a, J: Pools, A: Play>(
     ensures many { IfOk result (λ v. length v.items ≡ length jobs.items) }
     ensures tasks { IfOk result (λ v. (i : ℕ) (d : _) → i < length v.items → let k = slice_index_or v.items i d in (k.job.token.account.who ≡ i) × IsTask trace.now pool.now morgue.now k.job k.porter) }
 {
-    let _ = pool;
-    let _ = trace;
-    let _ = morgue;
-    let mut tasks = Vec::new(alloc);
-    let mut rest = porters.into_iter();
-    for job in jobs {
-        let Some(porter) = rest.next() else {
-            unreachable!()
-        };
-        tasks.push(Task {
-            job,
-            porter,
-            shift: Shift::of(ended),
-        })?;
-    }
-    Ok(tasks)
+    let tasks = Vec::with_capacity(alloc, jobs.len())?;
+    Ok(tasks_in(pool, trace, morgue, ended, jobs, porters, tasks))
 }
 
 /// The work of each medic, in order.
@@ -82,16 +99,17 @@ fn all_rounds<J: Pools>(
     medics: Vec<Medic<J>>,
 ) -> Result<Vec<Round<J>>, AllocError>
     requires clients { pool.now.start.geometry.clients ≡ trace.now.clients }
-    requires medics { AllByRecursion (λ (m : AMedic). m ≡ record { of = morgue.now; entries = [] }) medics.items }
-    ensures many { IfOk result (λ v. length v.items ≡ length medics.items) }
+    requires medics { medics.items ≡ first_medics morgue.now morgue.now.medics }
+    ensures many { IfOk result (λ v. length v.items ≡ morgue.now.medics) }
     ensures rounds { IfOk result (λ v. All (λ r. IsRound trace.now pool.now morgue.now r.medic r.slots.items) v.items) }
 {
     let _ = pool;
     let _ = morgue;
+    let clients = clients_of(trace);
     let mut rounds = Vec::new(alloc);
     let mut number: u8 = 0;
     for medic in medics {
-        let slots = blank_slots(alloc, trace.clients)?;
+        let slots = blank_slots(alloc, clients)?;
         rounds.push(Round {
             number,
             medic,
@@ -134,6 +152,32 @@ fn all_at_work<'a, J: Pools + Send + Sync, A: Play + Send, R: Threads + Wait + S
     Ok((worked?, healed?))
 }
 
+/// The porters of workers, and what each leaves of its identity, in order, where there is room for all of them.
+fn parts_in<J: Pools>(
+    pool: &SharedPool,
+    trace: &Trace,
+    morgue: &Morgue<J>,
+    works: Vec<Worked<J>>,
+    mut porters: Vec<Porter<J>>,
+    mut outcomes: Vec<Outcome>,
+) -> (Vec<Porter<J>>, Vec<Outcome>)
+    requires works { (i : ℕ) (d : _) → i < length works.items → let x = slice_index_or works.items i d in HasWorked trace.now pool.now morgue.now i x.porter x.outcome }
+    requires none { (porters.items ≡ []) × (outcomes.items ≡ []) }
+    requires room { (length works.items ≤ vec_capacity porters) × (length works.items ≤ vec_capacity outcomes) }
+    ensures many { length result.0.items ≡ length works.items }
+    ensures worked { HaveWorked trace.now pool.now morgue.now 0 result.0.items result.1.items }
+{
+    let _ = pool;
+    let _ = trace;
+    let _ = morgue;
+    for worked in works {
+        let Worked { porter, outcome } = worked;
+        porters.push_reserved(porter);
+        outcomes.push_reserved(outcome);
+    }
+    (porters, outcomes)
+}
+
 /// The porters of workers, and what each leaves of its identity, in order.
 fn parts<J: Pools>(
     alloc: Global,
@@ -146,17 +190,9 @@ fn parts<J: Pools>(
     ensures many { IfOk result (λ v. length v.0.items ≡ length works.items) }
     ensures worked { IfOk result (λ v. HaveWorked trace.now pool.now morgue.now 0 v.0.items v.1.items) }
 {
-    let _ = pool;
-    let _ = trace;
-    let _ = morgue;
-    let mut porters = Vec::new(alloc);
-    let mut outcomes = Vec::new(alloc);
-    for worked in works {
-        let Worked { porter, outcome } = worked;
-        porters.push(porter)?;
-        outcomes.push(outcome)?;
-    }
-    Ok((porters, outcomes))
+    let porters = Vec::with_capacity(alloc, works.len())?;
+    let outcomes = Vec::with_capacity(alloc, works.len())?;
+    Ok(parts_in(pool, trace, morgue, works, porters, outcomes))
 }
 
 /// What lies in another place comes into this one.
@@ -179,6 +215,38 @@ fn merge(slots: &mut [Option<Left>], others: &mut [Option<Left>])
     }
 }
 
+/// The medics, and all that they rescued, where there is room for all of them.
+fn gather_in<J: Pools>(
+    pool: &SharedPool,
+    trace: &Trace,
+    morgue: &Morgue<J>,
+    rounds: Vec<Round<J>>,
+    mut medics: Vec<Medic<J>>,
+    mut slots: Vec<Option<Left>>,
+) -> (Vec<Medic<J>>, Vec<Option<Left>>)
+    requires clients { pool.now.start.geometry.clients ≡ trace.now.clients }
+    requires rounds { All (λ r. IsRound trace.now pool.now morgue.now r.medic r.slots.items) rounds.items }
+    requires none { (medics.items ≡ []) × (slots.items ≡ replicate trace.now.clients None) }
+    requires room { length rounds.items ≤ vec_capacity medics }
+    ensures many { length result.0.items ≡ length rounds.items }
+    ensures of { AllByRecursion (λ (m : AMedic). m.of ≡ morgue.now) result.0.items }
+    ensures rescued { AreRescued trace.now pool.now (all_taken result.0.items) result.1.items }
+{
+    let _ = pool;
+    let _ = trace;
+    let _ = morgue;
+    for round in rounds {
+        let Round {
+            number: _,
+            medic,
+            slots: mut others,
+        } = round;
+        merge(&mut slots, &mut others);
+        medics.push_reserved(medic);
+    }
+    (medics, slots)
+}
+
 /// The medics, and all that they rescued.
 fn gather<J: Pools>(
     alloc: Global,
@@ -193,20 +261,9 @@ fn gather<J: Pools>(
     ensures of { IfOk result (λ v. AllByRecursion (λ (m : AMedic). m.of ≡ morgue.now) v.0.items) }
     ensures rescued { IfOk result (λ v. AreRescued trace.now pool.now (all_taken v.0.items) v.1.items) }
 {
-    let _ = pool;
-    let _ = morgue;
-    let mut medics = Vec::new(alloc);
-    let mut slots = blank_slots(alloc, trace.clients)?;
-    for round in rounds {
-        let Round {
-            number: _,
-            medic,
-            slots: mut others,
-        } = round;
-        merge(&mut slots, &mut others);
-        medics.push(medic)?;
-    }
-    Ok((medics, slots))
+    let medics = Vec::with_capacity(alloc, rounds.len())?;
+    let slots = blank_slots(alloc, clients_of(trace))?;
+    Ok(gather_in(pool, trace, morgue, rounds, medics, slots))
 }
 
 /// What is left in a morgue whose porters and medics are all there.
@@ -257,22 +314,6 @@ fn rescue_all<R: Wait>(
     }
 }
 
-/// What is done of an identity: where its corpse was put, its token is who rescued it has kept.
-fn done_of(outcome: Outcome, slot: &mut Option<Left>) -> Done
-    requires { (t : ATrace) × (p : APool) × (c : ℕ) × IsEnough t p c outcome slot.old }
-    ensures { (t : ATrace) (p : APool) (c : ℕ) → IsEnough t p c outcome slot.old → IsDone t p c result }
-{
-    let Outcome { log, left } = outcome;
-    let left = match left {
-        Some(left) => left,
-        None => match slot.take() {
-            Some(left) => left,
-            None => unreachable!(),
-        },
-    };
-    Done { log, left }
-}
-
 /// What is done of each identity, in order.
 fn all_done(
     alloc: Global,
@@ -291,9 +332,63 @@ fn all_done(
     let mut dones = Vec::new(alloc);
     for outcome in outcomes {
         let at = dones.len();
-        dones.push(done_of(outcome, &mut slots[at]))?;
+        dones.push(outcome.done(&mut slots[at]))?;
     }
     Ok(dones)
+}
+
+/// All workers and all medics at work, with the porters and the medics of a morgue as it was made.
+fn all_work<J: Pools + Send + Sync, A: Play + Send, R: Threads + Wait + Sync, G: Gate>(
+    rt: &R,
+    alloc: Global,
+    pool: &SharedPool,
+    trace: &Trace,
+    morgue: &Morgue<J>,
+    gate: &G,
+    jobs: Vec<Job<A>>,
+    porters: Vec<Porter<J>>,
+    medics: Vec<Medic<J>>,
+) -> Result<(Vec<Worked<J>>, Vec<Round<J>>), AllocError>
+    requires pools { J.pools ≡ pool.now ∷ [] }
+    requires clients { pool.now.start.geometry.clients ≡ trace.now.clients }
+    requires jobs { AreJobs trace.now pool.now 0 jobs.items }
+    requires porters { porters.items ≡ first_porters morgue.now 0 (length jobs.items) }
+    requires medics { medics.items ≡ first_medics morgue.now morgue.now.medics }
+    ensures tasks { IfOk result (λ v. length v.0.items ≡ length jobs.items) }
+    ensures worked { IfOk result (λ v. (i : ℕ) (d : _) → i < length v.0.items → let x = slice_index_or v.0.items i d in HasWorked trace.now pool.now morgue.now i x.porter x.outcome) }
+    ensures rounds { IfOk result (λ v. length v.1.items ≡ morgue.now.medics) }
+    ensures healed { IfOk result (λ v. All (λ r. IsRound trace.now pool.now morgue.now r.medic r.slots.items) v.1.items) }
+{
+    let ended = AtomicU32::new(0);
+    let tasks = all_tasks(alloc, pool, trace, morgue, &ended, jobs, porters)?;
+    let rounds = all_rounds(alloc, pool, trace, morgue, medics)?;
+    let (works, rounds) = all_at_work(rt, pool, trace, morgue, gate, &ended, tasks, rounds)?;
+    Ok((works, rounds))
+}
+
+/// What is done of each identity, once workers and medics have ended: the morgue is closed, and what is left in it is recovered.
+fn all_closed<J: Pools, R: Wait>(
+    rt: &R,
+    alloc: Global,
+    pool: &SharedPool,
+    trace: &Trace,
+    morgue: Morgue<J>,
+    works: Vec<Worked<J>>,
+    rounds: Vec<Round<J>>,
+) -> Result<Vec<Done>, AllocError>
+    requires pools { J.pools ≡ pool.now ∷ [] }
+    requires clients { pool.now.start.geometry.clients ≡ trace.now.clients }
+    requires all { (length works.items ≡ trace.now.clients) × (morgue.clients ≡ trace.now.clients) × (length rounds.items ≡ morgue.medics) }
+    requires worked { (i : ℕ) (d : _) → i < length works.items → let x = slice_index_or works.items i d in HasWorked trace.now pool.now morgue i x.porter x.outcome }
+    requires healed { All (λ r. IsRound trace.now pool.now morgue r.medic r.slots.items) rounds.items }
+    ensures many { IfOk result (λ v. length v.items ≡ trace.now.clients) }
+    ensures dones { IfOk result (λ v. AreDones trace.now pool.now 0 v.items) }
+{
+    let (porters, outcomes) = parts(alloc, pool, trace, &morgue, works)?;
+    let (medics, mut slots) = gather(alloc, pool, trace, &morgue, rounds)?;
+    let left = close(rt, alloc, morgue, porters, medics)?;
+    rescue_all(rt, pool, trace, left, &mut slots);
+    all_done(alloc, pool, trace, outcomes, &mut slots)
 }
 
 /// What is done of each identity by workers and medics with a morgue of their own, and by the caller what they left in it.
@@ -319,16 +414,9 @@ fn run_in<J: Pools + Send + Sync, A: Play + Send, R: Threads + Wait + Sync, G: G
         morgue,
         porters,
         medics,
-    } = Morgue::<J>::make(alloc, trace.clients, medics)?;
-    let ended = AtomicU32::new(0);
-    let tasks = all_tasks(alloc, pool, trace, &morgue, &ended, jobs, porters)?;
-    let rounds = all_rounds(alloc, pool, trace, &morgue, medics)?;
-    let (works, rounds) = all_at_work(rt, pool, trace, &morgue, gate, &ended, tasks, rounds)?;
-    let (porters, outcomes) = parts(alloc, pool, trace, &morgue, works)?;
-    let (medics, mut slots) = gather(alloc, pool, trace, &morgue, rounds)?;
-    let left = close(rt, alloc, morgue, porters, medics)?;
-    rescue_all(rt, pool, trace, left, &mut slots);
-    all_done(alloc, pool, trace, outcomes, &mut slots)
+    } = Morgue::<J>::make(alloc, clients_of(trace), medics)?;
+    let (works, rounds) = all_work(rt, alloc, pool, trace, &morgue, gate, jobs, porters, medics)?;
+    all_closed(rt, alloc, pool, trace, morgue, works, rounds)
 }
 
 /// Runs a trace by workers and medics, whoever plays its scripts.

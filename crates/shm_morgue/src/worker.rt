@@ -4,9 +4,11 @@ ghost use Rattle.std.specs.Prelude.{◌≡◌, ◌<◌, ◌∷◌, ℕ, IfOk, Ma
 ghost use Rattle.std.specs.List.{Contains};
 ghost use Rattle.shm_graph.specs.Runs.{first_account};
 ghost use Rattle.shm_agents.specs.Agents.{AgentsStand, is_client};
-ghost use Rattle.shm_pool.specs.Posts.{IsPosted};
-ghost use Rattle.shm_team.specs.{Jobs.AreAgentsOf, Working.AreAtWork};
+ghost use Rattle.shm_pool.specs.{Posts.IsPosted, Tokens.Its as APool};
+ghost use Rattle.shm_script.specs.Values.{Traced as ATrace};
+ghost use Rattle.shm_team.specs.{Dones.IsDone, Jobs.AreAgentsOf, Working.AreAtWork};
 ghost use Rattle.shm_morgue.specs.{Crew.{HasWorked, IsTask, WasLeft}, Dead.{HasParted, IsRescue}, Entries.entry};
+ghost use Rattle.shm_morgue.specs.Slots.{IsEnough};
 
 use crate::gate::Gate;
 use crate::morgue::{Morgue, NoRoom, Porter};
@@ -17,7 +19,7 @@ use shm_play::play::Play;
 use shm_play::players::Players;
 use shm_pool::{Corpse, Post, SharedPool, Vacant};
 use shm_script::{Log, Script, Trace};
-use shm_team::{Finish, Job, Left, hand_back};
+use shm_team::{Done, Finish, Job, Left, hand_back};
 use std::alloc::AllocError;
 use std::marker::{Send, Sync};
 use std::sync::Wait;
@@ -52,10 +54,37 @@ pub(crate) struct Task<'a, J: Pools, A: Play> {
 }
 
 /// What a worker leaves of its identity: the log of its client, if it has a script; and its token, unless the porter has put it.
-#[derive(Drop)]
 pub(crate) struct Outcome {
     pub(crate) log: Option<Log>,
     pub(crate) left: Option<Left>,
+}
+
+// by hand, so that who lets it go needn't know what it is made of
+impl Drop for Outcome {
+    fn drop(self) {
+        let Outcome {
+            log: _log,
+            left: _left,
+        } = self;
+    }
+}
+
+impl Outcome {
+    /// What is done of the identity: where its corpse was put, its token is who rescued it has kept.
+    pub(crate) fn done(self, slot: &mut Option<Left>) -> Done
+        requires { (t : ATrace) × (p : APool) × (c : ℕ) × IsEnough t p c self slot.old }
+        ensures { (t : ATrace) (p : APool) (c : ℕ) → IsEnough t p c self slot.old → IsDone t p c result }
+    {
+        let Outcome { log, left } = self;
+        let left = match left {
+            Some(left) => left,
+            None => match slot.take() {
+                Some(left) => left,
+                None => unreachable!(),
+            },
+        };
+        Done { log, left }
+    }
 }
 
 /// A worker that has ended.

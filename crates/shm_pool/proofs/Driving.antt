@@ -12,7 +12,7 @@ use Rattle.shm_graph.specs.{Tells.{Tells, after_all, machine_steps, tells_along}
 use Rattle.shm_graph.proofs.{Machines.TellsAlong.after_all-append, Runs.OwnEvents.own_told}
 use Rattle.shm_pool.specs.{declared.reply.Reply.{Reply, TheVariants.{Done, Died}}, Replies.{IfReply, is_reply}}
 use Rattle.shm_pool.specs.Rules.{IsMade}
-use Rattle.shm_pool.specs.Calls.{ClientStepped, Drives, Ending, IsDriven, Ongoing, Shown, accounts_by, fresh_after, pairs, shown}
+use Rattle.shm_pool.specs.Calls.{AreMade, ClientStepped, Drives, Ending, IsDriven, Ongoing, Shown, accounts_by, fresh_after, pairs, shown}
 use Rattle.shm_pool.proofs.Calling.{accounts_more, fresh_more, going_more, is_by}
 
 -- ---- one step more
@@ -24,6 +24,10 @@ pairs_more (u ∷ us) t = ap (λ (tr : Trail). pair u.ask u.seen ∷ tr) (pairs_
 events_more : (r : Account) (ts : List Step) (t : Step) → events_of r.memo (ts ++ t ∷ []) ≡ events_of r.memo ts ++ event_on (accounts_by r ts).memo t (asked_spot (accounts_by r ts).memo t) ∷ []
 events_more r [] t = refl
 events_more r (u ∷ us) t = ap (λ (es : List Event). event_on r.memo u (asked_spot r.memo u) ∷ es) (events_more (account_after r u) us t)
+
+made_more : (r : Account) (ts : List Step) (t : Step) → AreMade r ts → IsMade (accounts_by r ts) t → AreMade r (ts ++ t ∷ [])
+made_more r [] t made now = (now, tt)
+made_more r (u ∷ us) t made now = (made.0, made_more (account_after r u) us t made.1 now)
 
 first_of : (x y : Event) → x ∷ [] ≡ y ∷ [] → x ≡ y
 first_of x y e = cc
@@ -59,7 +63,7 @@ module _ {M A : Type 0} (k : Control M A) (fits : M → Memo → Memo → Trail 
 
   -- before its first step it asked for none
   pub driven_none : (m : M) (r : Account) → IsDriven k fits m m r r []
-  driven_none m r = record { steps = refl; machine = refl; asked = sym (append-nil _); events = λ does tells. refl }
+  driven_none m r = record { steps = refl; machine = refl; made = tt; asked = sym (append-nil _); events = λ does tells. refl }
 
   -- and one more
   driven_more : (m0 m m' : M) (r r' r'' : Account) (t : Turn A) (ts : List Step) (r0 : Memo) → (k.me m).who ≡ r'.who → (k.me m).who < (k.me m).geometry.clients → k.finished m ≡ false → fits_now k fits m r0 r'.memo → r' ≡ accounts_by r ts → k.fresh m ≡ fresh_after (k.fresh m0) ts → IsDriven k fits m0 m r r' ts
@@ -71,6 +75,7 @@ module _ {M A : Type 0} (k : Control M A) (fits : M → Memo → Memo → Trail 
       record {
         steps = (λ i. d.steps i ++ step_of k (d.machine i) x.seen ∷ []) ∙ (sym (steps_more k m0 (pairs ts) s) ∙ ap (machine_steps k m0) (sym more));
         machine = x.next ∙ (ap (λ (z : M). k.after z x.seen) d.machine ∙ (sym (after_all-append k m0 (pairs ts) s) ∙ ap (after_all k m0) (sym more)));
+        made = made_more r ts u d.made (subst (λ (z : Account). IsMade z u) is x.made);
         asked = ap (λ (b : Bool). call_before b r''.memo.call) (fresh_more (k.fresh m0) ts u)
             ∙ (ap (λ (z : Account). z.memo.call) x.account
             ∙ (ap (λ (tr : Trail). tr ++ s ∷ []) (ap (λ (b : Bool). call_before b r'.memo.call) first ∙ d.asked)

@@ -1,5 +1,5 @@
 -- what a join leaves
-use Rattle.std.proofs.Common.{◌≡◌, ◌<◌, ◌+◌, ℕ, Bool, false, true, List, [], ◌∷◌, ◌++◌, length, ap, ◌∙◌, subst, sym, inl, inr, refl, eq-eqb, arith, true≢false}
+use Rattle.std.proofs.Common.{◌≡◌, ◌<◌, ◌+◌, ℕ, false, List, [], ◌∷◌, ◌++◌, length, ap, ◌∙◌, subst, sym, inl, inr, refl, eq-eqb, arith, true≢false}
 use Rattle.std.specs.Prelude.{slice_index}
 use Rattle.shm_words.specs.Layout.{GeometryFits}
 use Rattle.shm_graph.specs.declared.{memo.{Kind.TheVariants.Client, Memo.Memo, Step.Step}, run.Account.Account}

@@ -1,9 +1,9 @@
 -- the machine of a plan that an agent makes last
-use Rattle.std.proofs.Common.{◌≡◌, Bool, false, true, ◌&&◌, sym, ap, ◌∙◌, subst}
+use Rattle.std.proofs.Common.{◌≡◌, Bool, false, true, ◌&&◌, sym, subst}
 use Rattle.shm_graph.specs.{declared.{ask.Me.Me, memo.Memo.Memo}, Asks.call_before, Laws.Control, Whole.fits_now}
 use Rattle.plans.specs.{CallsControl.{calls_control, calls_of}, CallsFit.CallsFits, Plans.{Planned, PlanLaws}}
 use Rattle.plans.specs.Proved.CallsKeep.{calls_begin}
-use Rattle.shm_pool.specs.{Endings.Answer, Lasts.LastLaws, Tokens.{Its, me_of}}
+use Rattle.shm_pool.specs.{Endings.Answer, Lasts.LastLaws}
 
 module _ {P C B : Type 0} (k : Control C B) (q : Planned P C B Answer) (laws : PlanLaws k q) (made : Me → P) (may : Me → Memo → Type 0) (l : LastLaws k q made may) (me : Me) where
   -- it isn't finished

@@ -1,5 +1,5 @@
 -- a call of a client over the operation that it runs: made by one plan for the identity of the client, or, of a client that has died, none
-use Rattle.std.proofs.Common.{◌≡◌, ◌≢◌, ◌+◌, ◌<◌, ◌≤◌, ℕ, true, false, List, refl, sym, ◌∙◌, subst, arith}
+use Rattle.std.proofs.Common.{◌≡◌, ◌≢◌, ◌+◌, ◌<◌, ◌≤◌, ℕ, true, false, List, refl, sym, ap, ◌∙◌, subst, arith}
 use Rattle.std.proofs.lemmas.Bool.{true≢false}
 use mathlib.Core.Logic.{dite}
 use native.Mathlib.Decide.{ℕ_discrete}
@@ -83,9 +83,12 @@ called_by k q ends all p m t t' before left o is done same =
     let d = done_rests (calls_control k q.steered) (calls_does k q) (CallsLeave q) ends all (calls_of q.steered p) t t' before left o (subst (λ x. HasDone (calls_control k q.steered) (calls_does k q) (CallsLeave q) ends x t t' before left o) is done) in
     record { done = d; rests = rests_by (calls_control k q.steered) (calls_does k q) (CallsLeave q) (calls_of q.steered p) t t' before left o d; effect = same }
 
--- the plan that a call ran is the one that it names
-pub called_as : {P C B A : Type 0} (k : Control C B) (q : Planned P C B A) (e p : P) (t t' : Acting) (before left : ℕ) (o : Reply A) → e ≡ p → HasCalled k q e t t' before left o → HasCalled k q p t t' before left o
-called_as k q e p t t' before left o is h = subst (λ x. HasCalled k q x t t' before left o) is h
+-- a plan that was made for a client that lives may begin where one made for its identity may, and what a call of it left is what one of that leaves
+pub may_as : {P : Type 0} (may : P → Memo → Type 0) (make : Me → P) {t : Acting} {me : Me} {p : P} → IsAlive t me → p ≡ make me → may (make (me_of t.of t.account)) t.account.memo → may p t.account.memo
+may_as may make {t = t} x made h = subst (λ z. may z t.account.memo) (sym (made ∙ ap make x.is)) h
+
+pub called_as : {P C B A : Type 0} (k : Control C B) (q : Planned P C B A) (make : Me → P) {t t' : Acting} {me : Me} {p : P} {before left : ℕ} {o : Reply A} → IsAlive t me → p ≡ make me → HasCalled k q p t t' before left o → HasCalled k q (make (me_of t.of t.account)) t t' before left o
+called_as k q make {t = t} {t' = t'} {before = before} {left = left} {o = o} x made h = subst (λ z. HasCalled k q z t t' before left o) (made ∙ ap make x.is) h
 
 -- a block that is to be named, or none
 pub target_small : (t : Acting) (me : Me) → Stood t.of.start t.account → (t.dead ≡ false → IsBetween t.account) → IsAlive t me → (b : ℕ) → (t.dead ≡ false → b ≢ 0 → is_reached t.account.who t.account.memo b ≡ true) → b < address_limit

@@ -8,7 +8,7 @@ use Rattle.shm_pool.specs.Tokens.{Its, Token}
 
 module _ {M : Type 0} (k : Control M Answer) (fits : M → Memo → Memo → Trail → Type 0) (gives : M → Memo → Memo → Answer → Type 0) (does : M → ℕ → Event) (tells : Tells k fits does) (m : M) (p : Its) (e : Account) (before left : ℕ) where
   driven_told : (m' : M) (e' : Account) (ts : List Step) → IsDriven k fits m m' e e' ts → AreTold k does m e ts
-  driven_told m' e' ts d = record { steps = d.steps; events = d.events does tells }
+  driven_told m' e' ts d = record { steps = d.steps; made = d.made; events = d.events does tells }
 
   pub end_told : (t : Token) → HasEnded k fits gives m p e before left t → EndIsTold k fits gives does m p e before left t
   end_told t h = let a = h.answered in record { same = h.same; gone = h.gone; answered = a; events = driven_told a.machine t.account (a.call.steps ++ a.call.last) a.driven }

@@ -1,17 +1,17 @@
 -- what the calls of a client leave, each of which runs one operation
-use Rattle.std.specs.Prelude.{◌≡◌, ◌<◌, ℕ, true, false, List, length, take, Result, Option}
+use Rattle.std.specs.Prelude.{◌≡◌, ◌<◌, ℕ, true, false, List, ◌++◌, length, take, Result, Option}
 use Rattle.shm_words.specs.Layout.{GeometryFits}
 use Rattle.shm_graph.specs.{declared.{ask.Me.Me, memo.Memo.Memo, run.Account.Account}, Agents.recovers}
-use Rattle.shm_graph.specs.{Reach.is_reached, Asks.Trail, Events.Event, Laws.Control, Whole.fits_now}
+use Rattle.shm_graph.specs.{Reach.is_reached, Asks.Trail, Events.Event, Laws.Control}
 use Rattle.shm_alloc.specs.declared.{alloc.AllocFault.AllocFault, point.AllocPoint.TheVariants.Era}
 use Rattle.shm_alloc.specs.{declared.{point.AllocState.AllocState, request.Near.Near}, Alloc.AsPart.AllocLeaves}
 use Rattle.shm_alloc.specs.Alloc.{Control.alloc_control, Events.alloc_event}
 use Rattle.plans.specs.{CallsControl.{calls_control, calls_does, calls_of}, Plans.Planned, Tasks.CallsLeave}
 use Rattle.shm_count.specs.{declared.answer.Made.Made, Roots.root_word}
 use Rattle.shm_script.specs.declared.{line.Line.Line, log.Answer.Answer}
-use Rattle.shm_table.specs.Command.{CommandFits, command_control, command_does, command_effect, command_of}
-use Rattle.shm_table.specs.Command.{Maps.MapSoFar, Operates.CommandLeaves}
-use Rattle.shm_pool.specs.{declared.reply.Reply.Reply, Calls.{Drives, IsBetween, StillFits}, Doing.HasDone}
+use Rattle.shm_table.specs.Command.{command_control, command_effect, command_of, Maps.MapSoFar, Operates.CommandLeaves}
+use Rattle.shm_table.specs.Command.Sends.{SentSoFar}
+use Rattle.shm_pool.specs.{declared.reply.Reply.Reply, Calls.{CallSteps, IsBetween, shown}, Doing.{HasAsked, HasDone}}
 use Rattle.shm_pool.specs.{Replies.{IfReply, IsLost}, Tokens.{Acting, has_left, me_of}}
 
 -- the client t of which no call has died is this identity, in a pool that there may be
@@ -54,17 +54,20 @@ pub record HasAllocatedNear (n : ℕ) (xs : List ℕ) (near : Near) (t t' : Acti
 abbrev pub HasAllocated : ℕ → List ℕ → Acting → Acting → ℕ → ℕ → Reply (Result Made AllocFault) → Type 0
 HasAllocated n xs t t' before left o = HasAllocatedNear n xs (record { segment = 0; page = 0; index = 0 }) t t' before left o
 
-module _ {M : Type 0} (k : Control M Answer) (fits : M → Memo → Memo → Trail → Type 0) (does : M → ℕ → Event) (leaves : M → Memo → Memo → Trail → List Event → Answer → Type 0) (shows : M → Option Answer) (made : Me → Line → M) where
-  -- The command of a line of this identity was cut off. What it shows is what it was going to answer where its deciding step was made, and otherwise none; and the own map is as after that answer
+module _ {M : Type 0} (k : Control M Answer) (shows : M → Option Answer) (made : Me → Line → M) where
+  -- The command of a line of this identity was cut off: its machine asked for these steps and isn't finished. What it shows is what it was going to answer where its deciding step was made, and otherwise none; the own map, and what was sent, are as after that answer
   pub record HasShown (me : Me) (l : Line) (e e' : Account) (before left : ℕ) (a : Option Answer) : Type 0 where
     pub machine : M
-    pub driven : Drives k fits (made me l) machine e e' false before left
-    pub still : StillFits k (fits_now k fits) machine e.memo e'.memo
+    pub call : CallSteps (shown k (made me l)) e e' false before left
+    pub asked : HasAsked k (made me l) machine e (call.steps ++ call.last)
+    pub going : k.finished machine ≡ false
     pub effect : a ≡ shows machine
     pub map : MapSoFar l a e.memo e'.memo
+    pub sent : SentSoFar l a e.memo e'.memo
 
-  -- a client ran the command of a line; it keeps what that showed where it died in it
-  pub record HasRun (l : Line) (t t' : Acting) (before left : ℕ) (o : Reply Answer) : Type 0 where
+  -- A client ran the command of a line; it keeps what that showed where it died in it. `does` has the event of each step that the command made (`done.events`), so that what is left is told by the events that happened
+  pub record HasRun (leaves : M → Memo → Memo → Trail → List Event → Answer → Type 0) (l : Line) (t t' : Acting) (before left : ℕ) (o : Reply Answer) : Type 0 where
+    pub does : M → ℕ → Event
     pub done : HasDone k does leaves (λ m a. Unit {0}) (made (me_of t.of t.account) l) t t' before left o
     pub rests : Rests t'
     pub answered : IfReply o (λ a. t'.effect ≡ t.effect)
@@ -72,10 +75,10 @@ module _ {M : Type 0} (k : Control M Answer) (fits : M → Memo → Memo → Tra
 
 -- the same of the machine of a command
 abbrev pub HasEffect : Me → Line → Account → Account → ℕ → ℕ → Option Answer → Type 0
-HasEffect = HasShown command_control CommandFits command_does CommandLeaves command_effect command_of
+HasEffect = HasShown command_control command_effect command_of
 
 abbrev pub HasCommanded : Line → Acting → Acting → ℕ → ℕ → Reply Answer → Type 0
-HasCommanded = HasRun command_control CommandFits command_does CommandLeaves command_effect command_of
+HasCommanded = HasRun command_control command_effect command_of CommandLeaves
 
 -- a root of the client names the block, which is in reach
 pub record HasRoot (x : Made) (t : Acting) : Type 0 where

@@ -22,6 +22,11 @@ abbrev pub accounts_by : Account → List Step → Account
 accounts_by r [] = r
 accounts_by r (t ∷ ts) = accounts_by (account_after r t) ts
 
+-- each of these steps of an account was one turn of the pool, in a state that is held
+abbrev pub AreMade : Account → List Step → Type 0
+AreMade r [] = Unit {0}
+AreMade r (t ∷ ts) = IsMade r t × AreMade (account_after r t) ts
+
 -- the step is one of a machine that shows s, and is its first one or not
 pub record IsBy (s : Shown) (fresh : Bool) (t : Step) : Type 0 where
   pub me : t.me ≡ s.me
@@ -69,10 +74,11 @@ pairs [] = []
 pairs (t ∷ ts) = pair t.ask t.seen ∷ pairs ts
 
 module _ {M A : Type 0} (k : Control M A) (fits : M → Memo → Memo → Trail → Type 0) where
-  -- these steps of an account, which was r and is r' now, are those that the machine m asked for, which is m' now: they are its call so far, and their events are those that it tells
+  -- these steps of an account, which was r and is r' now, are those that the machine m asked for, which is m' now: each was a turn, they are its call so far, and their events are those that it tells
   pub record IsDriven (m m' : M) (r r' : Account) (ts : List Step) : Type 0 where
     pub steps : ts ≡ machine_steps k m (pairs ts)
     pub machine : m' ≡ after_all k m (pairs ts)
+    pub made : AreMade r ts
     pub asked : call_before (fresh_after (k.fresh m) ts) r'.memo.call ≡ call_before (k.fresh m) r.memo.call ++ pairs ts
     pub events : (does : M → ℕ → Event) → Tells k fits does → events_of r.memo ts ≡ tells_along k does m (pairs ts)
 

@@ -2,14 +2,21 @@
 use Rattle.std.specs.Prelude.{◌≡◌, ◌↔◌, ℕ, true, false, List, ◌++◌}
 use Rattle.shm_graph.specs.{declared.{memo.{Memo.Memo, Step.Step}, run.Account.Account}, Asks.Trail}
 use Rattle.shm_graph.specs.{CallEvents.events_of, Events.Event, Laws.Control, Runs.Stood}
-use Rattle.shm_graph.specs.Tells.{happens_along, machine_steps, tells_along}
-use Rattle.shm_pool.specs.{declared.reply.Reply.Reply, Calls.{CallSteps, IsBetween, TellsLine, pairs, shown}}
+use Rattle.shm_graph.specs.Tells.{after_all, happens_along, machine_steps, tells_along}
+use Rattle.shm_pool.specs.{declared.reply.Reply.Reply, Calls.{AreMade, CallSteps, IsBetween, TellsLine, pairs, shown}}
 use Rattle.shm_pool.specs.{Replies.{IfReply, IsLost, is_reply}, Tokens.Acting}
 
+-- m asked for these steps of the account e, each of which was a turn, and is m' then
+pub record HasAsked {M A : Type 0} (k : Control M A) (m m' : M) (e : Account) (ts : List Step) : Type 0 where
+  pub steps : ts ≡ machine_steps k m (pairs ts)
+  pub machine : m' ≡ after_all k m (pairs ts)
+  pub made : AreMade e ts
+
 module _ {M A : Type 0} (k : Control M A) (does : M → ℕ → Event) where
-  -- m asked for these steps of the account e, and tells their events
+  -- m asked for these steps of the account e, each of which was a turn, and tells their events
   pub record AreTold (m : M) (e : Account) (ts : List Step) : Type 0 where
     pub steps : ts ≡ machine_steps k m (pairs ts)
+    pub made : AreMade e ts
     pub events : events_of e.memo ts ≡ tells_along k does m (pairs ts)
 
 module _ {M A : Type 0} (k : Control M A) (does : M → ℕ → Event) (leaves : M → Memo → Memo → Trail → List Event → A → Type 0) (ends : M → A → Type 0) where
@@ -17,7 +24,7 @@ module _ {M A : Type 0} (k : Control M A) (does : M → ℕ → Event) (leaves :
   abbrev pub LeftOf : M → Account → Account → A → Type 0
   LeftOf m e e' a = leaves m e.memo e'.memo e'.memo.call (happens_along k does m e'.memo.call) a
 
-  -- What the client c became by a call of the operation m that had `before` word steps left, of which `left` are left, and gave o. It is the same identity, in a state that holds. It is dead exactly where no answer came; then no life was left, or it was dead before, and nothing changed. What it made were steps of m, with the events that it tells; and where an answer came they are its call, it told its line, left what it leaves, and is between two calls again where it rests
+  -- What the client c became by a call of the operation m that had `before` word steps left, of which `left` are left, and gave o. It is the same identity, in a state that holds. It is dead exactly where no answer came; then no life was left, or it was dead before, and nothing changed. What it made were steps of m, each a turn of the pool, with the events that it tells; and where an answer came they are its call, it told its line, left what it leaves, and is between two calls again where it rests
   pub record HasDone (m : M) (c c' : Acting) (before left : ℕ) (o : Reply A) : Type 0 where
     pub same : (c'.of ≡ c.of) × (c'.account.who ≡ c.account.who)
     pub stood : Stood c'.of.start c'.account

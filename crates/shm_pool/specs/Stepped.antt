@@ -1,5 +1,4 @@
 -- the fields of a recovery in single steps
-use Rattle.std.specs.Prelude.{ℕ}
 use Rattle.shm_graph.specs.{declared.memo.Memo.Memo, Asks.Trail, Laws.Control}
 use Rattle.shm_pool.specs.{declared.rescue.Rescue.Rescue, Endings.Answer, Rescues.{IsRescuing, RescuingBy, rescuing_of}}
 use Rattle.shm_pool.specs.{Rules.alone, Tokens.IsSeated}

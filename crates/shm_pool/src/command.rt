@@ -4,16 +4,17 @@ ghost use Rattle.std.specs.Prelude.{◌≡◌, ◌<◌, true, false, None, Optio
 ghost use Rattle.shm_words.specs.Layout.{GeometryFits};
 ghost use Rattle.shm_graph.specs.declared.ask.Me.{Me as AMe};
 ghost use Rattle.shm_script.specs.declared.{line.Line.Line as ALine, log.Answer.Answer as AnAnswer};
-ghost use Rattle.shm_table.specs.{Command.{LineMayStand, command_effect, command_of}, TableTasks.LineMay};
+ghost use Rattle.shm_table.specs.Command.{LineMayStand, Maps.MapSoFar, Sends.SentSoFar, command_effect, command_of};
+ghost use Rattle.shm_table.specs.TableTasks.{LineMay};
 ghost use Rattle.shm_pool.specs.{Called.{HasCommanded, HasRun}, Calls.IsBetween, Proved.Shows.command_shows};
-ghost use Rattle.shm_pool.specs.{Shows.{ShowsLaws, ShowsMap}, Tokens.me_of};
+ghost use Rattle.shm_pool.specs.{Shows.{ShowsLaws, ShowsSoFar}, Tokens.me_of};
 
 use crate::pool::SharedPool;
 use crate::reply::Reply;
 use crate::token::Client;
 use shm_graph::{Life, Me, Operation};
 use shm_script::{Answer, Line};
-use shm_table::{Command, command_maps};
+use shm_table::{Command, command_maps, command_sends};
 
 /// A machine for the line of a script, which shows what it is going to answer.
 trait Shows: Operation<Answer = Answer> {
@@ -66,8 +67,9 @@ impl Client {
         requires line { self.old.dead ≡ false → LineMay (me_of self.old.of self.old.account) line.now self.old.account.memo }
         ensures called { HasCommanded line.now self.old self.new life.old.left life.new.left result }
     {
-        // for the proof: while a command runs, the map is what its effect says
+        // for the proof: while a command runs, the map and what was sent are what its effect says
         command_maps();
+        command_sends();
         self.command_as::<Command>(pool, life, line)
     }
 
@@ -81,8 +83,9 @@ impl Client {
         requires pool { self.old.of ≡ pool.now }
         requires between { self.old.dead ≡ false → IsBetween self.old.account }
         requires line { self.old.dead ≡ false → LineMay (me_of self.old.of self.old.account) line.now self.old.account.memo }
-        requires maps { ShowsMap C.control C.fits C.effect C.made }
-        ensures called { HasRun C.control C.fits C.does C.leaves C.effect C.made line.now self.old self.new life.old.left life.new.left result }
+        requires maps { ShowsSoFar MapSoFar C.control C.fits C.effect C.made }
+        requires sends { ShowsSoFar SentSoFar C.control C.fits C.effect C.made }
+        ensures called { HasRun C.control C.effect C.made C.leaves line.now self.old self.new life.old.left life.new.left result }
     {
         let Some(me) = self.alive() else {
             return Reply::Died;

@@ -25,7 +25,7 @@ first_of c (Word t) ms h = ((h.0, tt), h.1)
 first_of c (Begins k x) ms h = ((h.0, tt), h.1)
 first_of c (Dies k) ms h = absurd h
 
-leads_aside : (g : Geometry) (a : State) (ms : List Move) (b : State) (c d : ℕ) → Leads g a ms b → AreOf c ms → d ≢ c → account_at b.accounts d ≡ account_at a.accounts d
+pub leads_aside : (g : Geometry) (a : State) (ms : List Move) (b : State) (c d : ℕ) → Leads g a ms b → AreOf c ms → d ≢ c → account_at b.accounts d ≡ account_at a.accounts d
 leads_aside g a [] b c d run own n = ap (λ (s : State). account_at s.accounts d) (sym run)
 leads_aside g a (m ∷ ms) b c d run own n =
     let (now, then) = first_of c m ms own in

@@ -6,10 +6,10 @@ mod Reviving
 mod Giving
 pub mod Seating
 mod Lone
-mod Telling
-mod Aside
-mod Firsts
-mod Later
+pub mod Telling
+pub mod Aside
+pub mod Firsts
+pub mod Later
 pub mod Gathering
 pub mod Visited
 pub mod Ending
@@ -18,6 +18,6 @@ pub mod Starting
 mod Answering
 mod SomeSteps
 mod SameTurns
-mod SameRuns
-mod SameLogs
+pub mod SameRuns
+pub mod SameLogs
 pub mod SameReplays

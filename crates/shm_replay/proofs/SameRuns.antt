@@ -32,7 +32,7 @@ pool_same p q start turns now =
     ∙ (ap (λ (s : State). pool q.start s.words s.accounts p.turns) now ∙ ap (λ (ms : List Move). pool q.start q.words q.accounts ms) turns)
 
 -- the turns of a pool lead to it alone
-run_same : (p q : Pool) → IsRun p → IsRun q → p.start ≡ q.start → p.turns ≡ q.turns → p ≡ q
+pub run_same : (p q : Pool) → IsRun p → IsRun q → p.start ≡ q.start → p.turns ≡ q.turns → p ≡ q
 run_same p q run now start turns =
     let all : Leads q.start.geometry (first_state q.start) q.turns (state_of p) =
     subst (λ (ms : List Move). Leads q.start.geometry (first_state q.start) ms (state_of p)) turns (subst (λ (s : Start). Leads s.geometry (first_state s) p.turns (state_of p)) start run.leads) in

@@ -1,4 +1,12 @@
 -- What a plan leaves that was run for the one client and answered, and what a call leaves that comes after another.
+use Rattle.shm_tree.specs.declared.{hints.Hints.{Hints, TheVariants.Off}, node.Side.{Side, TheVariants.{Left, Right}}}
+use Rattle.shm_tree.specs.{declared.stop.Stop.Stop, Asking.IsAskedBy}
+use Rattle.shm_tree.specs.Causes.{AllocRefused, DropRefused, SetRefused, ShareRefused, StopCause, Within}
+use Rattle.shm_tree.specs.{Keeping.{HasNode, HasTree, IsStill, child_of}, Standing.{TreeStands, word_of}}
+use Rattle.shm_tree.specs.Trees.{Tree, Empty, Node, height}
+use Rattle.shm_tree.specs.Working.{HasRoom, IfAlive, IfRefused, IsEmptied, IsReached, IsWorking, Reaches}
+use Rattle.shm_tree.specs.declared.stop.Stop.TheVariants as stop
+use Rattle.shm_tree.proofs.{Asking.asked_more, Alive.{IsOn, on_answer}, Turns.did_then}
 use Rattle.std.proofs.Common.{◌≡◌, ◌≢◌, ℕ, true, List, [], ◌++◌, refl, sym, ◌∙◌, subst, inl, inr}
 use Rattle.std.specs.Prelude.{IfOk, Ok, Err, Result, Some}
 use Rattle.shm_graph.specs.declared.{ask.Me.Me, memo.Memo.Memo, run.Start.Start, spot.Spot.TheVariants.Body}
@@ -14,15 +22,7 @@ use Rattle.shm_count.specs.declared.answer.ShareFault.TheVariants as share
 use Rattle.shm_ref.specs.{declared.answer.SetFault.SetFault, DropRoot.{Control.dropping, DropLeaves}}
 use Rattle.shm_ref.specs.SetRef.{Control.setting, SetLeaves}
 use Rattle.shm_ref.specs.declared.answer.SetFault.TheVariants as set
-use Rattle.shm_client.specs.Allocating.{IsAsked}
 use Rattle.shm_client.proofs.Running.{MachineLeft, PlanLeft, plan_done}
-use Rattle.shm_tree.specs.declared.{node.Side.{Side, TheVariants.{Left, Right}}, stop.Stop.Stop}
-use Rattle.shm_tree.specs.Causes.{AllocRefused, DropRefused, SetRefused, ShareRefused, StopCause, Within}
-use Rattle.shm_tree.specs.{Keeping.{HasNode, HasTree, IsStill, child_of}, Standing.{TreeStands, word_of}}
-use Rattle.shm_tree.specs.Trees.{Tree, Empty, Node, height}
-use Rattle.shm_tree.specs.Working.{HasRoom, IfAlive, IfRefused, IsEmptied, IsReached, IsWorking, Reaches}
-use Rattle.shm_tree.specs.declared.stop.Stop.TheVariants as stop
-use Rattle.shm_tree.proofs.{Alive.{IsOn, on_answer}, Turns.did_then}
 
 -- ---- one call
 
@@ -106,8 +106,8 @@ alive_died T P e d = let Q : Stop → Type 0 = λ z. IfAlive {T = T} (Err z) P i
 pub refused_died : (T : Type 0) (P : Type 0) (e : Stop) → e ≡ stop.Died → IfRefused {T = T} (Err e) P
 refused_died T P e d = let Q : Stop → Type 0 = λ z. IfRefused {T = T} (Err z) P in subst Q (sym d) tt
 
-pub cause_died : (p q : Pool) (e : Stop) → e ≡ stop.Died → StopCause p q e
-cause_died p q e d = let Q : Stop → Type 0 = λ z. StopCause p q z in subst Q (sym d) tt
+pub cause_died : (hints : Hints) (p q : Pool) (e : Stop) → e ≡ stop.Died → StopCause hints p q e
+cause_died hints p q e d = let Q : Stop → Type 0 = λ z. StopCause hints p q z in subst Q (sym d) tt
 
 -- or as it was refused: the caller stopped so too
 pub alive_map : (T S : Type 0) (P Q : Type 0) (e : Stop) → (P → Q) → IfAlive {T = T} (Err e) P → IfAlive {T = S} (Err e) Q
@@ -155,9 +155,9 @@ within_after L p m q hp hm start (es, did) w =
     }
 
 module _ (p m q : Pool) (hp : IsRun p) (hm : IsRun m) (start : m.start ≡ p.start) (before : (es : List Event) × Did 0 p m es) where
-  alloc_after : (f : AllocFault) → AllocRefused m q f → AllocRefused p q f
-  alloc_after f (s, xs, long, asked, w) =
-      (s, xs, long, subst (λ (z : Start). IsAsked z.geometry 0 2 xs s) start asked, within_after (λ r0 r tr es. AllocGives s r0 r tr (Err f)) p m q hp hm start before w)
+  alloc_after : (hints : Hints) (f : AllocFault) → AllocRefused hints m q f → AllocRefused hints p q f
+  alloc_after hints f (s, xs, long, asked, w) =
+      (s, xs, long, subst (λ (z : Start). IsAskedBy hints z.geometry xs s) start asked, within_after (λ r0 r tr es. AllocGives s r0 r tr (Err f)) p m q hp hm start before w)
 
   set_after : (f : SetFault) → SetRefused m q f → SetRefused p q f
   set_after f (b, i, c, w) =
@@ -172,12 +172,20 @@ module _ (p m q : Pool) (hp : IsRun p) (hm : IsRun m) (start : m.start ≡ p.sta
       (k, within_after (λ r0 r tr es. DropLeaves (dropping (member p.start.geometry 0) k) r0 r tr es (Err f)) p m q hp hm start before (subst (λ (z : Start). Within m q (λ r0 r tr es. DropLeaves (dropping (member z.geometry 0) k) r0 r tr es (Err f))) start w))
 
   -- the cause of a stop is one of a stop of the whole
-  pub cause_after : (e : Stop) → StopCause m q e → StopCause p q e
-  cause_after stop.Died h = tt
-  cause_after (stop.Full s b) h = alloc_after (alloc.Full s b) h
-  cause_after (stop.CountFull b c) (inl h) = inl (set_after (set.CountFull b c) h)
-  cause_after (stop.CountFull b c) (inr h) = inr (share_after (share.CountFull b c) h)
-  cause_after (stop.EraSpent e) (inl h) = inl (alloc_after (alloc.EraSpent e) h)
-  cause_after (stop.EraSpent e) (inr (inl h)) = inr (inl (set_after (set.EraSpent e) h))
-  cause_after (stop.EraSpent e) (inr (inr (inl h))) = inr (inr (inl (share_after (share.EraSpent e) h)))
-  cause_after (stop.EraSpent e) (inr (inr (inr h))) = inr (inr (inr (drop_after (record { era = e }) h)))
+  pub cause_after : (hints : Hints) (e : Stop) → StopCause hints m q e → StopCause hints p q e
+  cause_after hints stop.Died h = tt
+  cause_after hints (stop.Full s b) h = alloc_after hints (alloc.Full s b) h
+  cause_after hints (stop.CountFull b c) (inl h) = inl (set_after (set.CountFull b c) h)
+  cause_after hints (stop.CountFull b c) (inr h) = inr (share_after (share.CountFull b c) h)
+  cause_after hints (stop.EraSpent e) (inl h) = inl (alloc_after hints (alloc.EraSpent e) h)
+  cause_after hints (stop.EraSpent e) (inr (inl h)) = inr (inl (set_after (set.EraSpent e) h))
+  cause_after hints (stop.EraSpent e) (inr (inr (inl h))) = inr (inr (inl (share_after (share.EraSpent e) h)))
+  cause_after hints (stop.EraSpent e) (inr (inr (inr h))) = inr (inr (inr (drop_after (record { era = e }) h)))
+
+-- the cause of a stop of calls without hints is one of a stop of calls with any
+pub cause_by : (hints : Hints) (p q : Pool) (e : Stop) → StopCause Off p q e → StopCause hints p q e
+cause_by hints p q stop.Died h = tt
+cause_by hints p q (stop.Full s b) (m, xs, long, asked, w) = (m, xs, long, asked_more hints p.start.geometry xs m asked, w)
+cause_by hints p q (stop.CountFull b c) h = h
+cause_by hints p q (stop.EraSpent e) (inl (m, xs, long, asked, w)) = inl (m, xs, long, asked_more hints p.start.geometry xs m asked, w)
+cause_by hints p q (stop.EraSpent e) (inr h) = inr h

@@ -1,4 +1,17 @@
 -- How far a call came that builds a tree, and what it leaves.
+use Rattle.shm_tree.specs.declared.{hints.Hints.{Hints, TheVariants.Off}, node.{Content.Content, Pair.Pair, Side.Side}}
+use Rattle.shm_tree.specs.{declared.{node.Side.TheVariants.{Left, Right}, stop.Stop.Stop}, Bounds.drop_steps}
+use Rattle.shm_tree.specs.Building.{Builds, IsAtHand, IsBuilt, IsCheap, IsCut, IsHeld, IsRebuilt, block_of, root_block, rooms}
+use Rattle.shm_tree.specs.{Causes.StopCause, Changing.Changes, Falling.KeepsFalling}
+use Rattle.shm_tree.specs.Keeping.{HasGrown, HasMade, HasTree, IsBorn, IsDropped, IsLinked, IsStill, KeepsNodes, KeepsTrees}
+use Rattle.shm_tree.specs.{Looking.Looks, Spending.HasSpent, Standing.TreeStands, Tearing.HasTorn}
+use Rattle.shm_tree.specs.Trees.{Tree, Empty, Node}
+use Rattle.shm_tree.specs.Working.{AreSameRoots, DiedIn, HasRoom, IfAlive, IfRefused, IsEmptied, IsReached, IsRooted, IsSameLatch, IsWorking, Reaches, Went}
+use Rattle.shm_tree.specs.declared.stop.Stop.TheVariants as stop
+use Rattle.shm_tree.proofs.Answering.{alive_map, cause_after, cause_by, refused_map}
+use Rattle.shm_tree.proofs.{CutOffs.{died_then, look_died, look_then}, Links.went_then, Nodes.{keeps_then, made_then}}
+use Rattle.shm_tree.proofs.Spendings.{spent_call, spent_drop, spent_more, spent_then}
+use Rattle.shm_tree.proofs.Weights.{blocks_dropped, blocks_nodes, blocks_then, weight_none, weight_root}
 use Rattle.std.proofs.Common.{◌≡◌, ◌≢◌, ◌==◌, ℕ, zero, suc, Bool, true, false, ◌+◌, ◌<◌, ◌≤◌, [], lit≤, refl, sym, ap, ◌∙◌, subst, arith, Result, Ok, Err, inl, inr}
 use Rattle.std.proofs.lemmas.Bool.{cases_eq, ne_eqb}
 use Rattle.std.specs.{Prelude.{IfOk, IfSome, Option, None, Some}, Result.IsErrAnd}
@@ -7,19 +20,6 @@ use Rattle.shm_graph.specs.References.{one_if, sum_below}
 use Rattle.shm_plain.specs.Pools.{IsRun, Pool}
 use Rattle.shm_plain.proofs.OwnTurns.{did_none}
 use Rattle.shm_count.specs.declared.answer.Made.{Made}
-use Rattle.shm_tree.specs.declared.node.{Content.Content, Pair.Pair, Side.{Side, TheVariants.{Left, Right}}}
-use Rattle.shm_tree.specs.{declared.stop.Stop.Stop, Bounds.drop_steps}
-use Rattle.shm_tree.specs.Building.{Builds, IsAtHand, IsBuilt, IsCheap, IsCut, IsHeld, IsRebuilt, block_of, root_block, rooms}
-use Rattle.shm_tree.specs.{Causes.StopCause, Changing.Changes, Falling.KeepsFalling}
-use Rattle.shm_tree.specs.Keeping.{HasGrown, HasMade, HasTree, IsBorn, IsDropped, IsLinked, IsStill, KeepsNodes, KeepsTrees}
-use Rattle.shm_tree.specs.{Looking.Looks, Spending.HasSpent, Standing.TreeStands, Tearing.HasTorn}
-use Rattle.shm_tree.specs.Trees.{Tree, Empty, Node}
-use Rattle.shm_tree.specs.Working.{AreSameRoots, DiedIn, HasRoom, IfAlive, IfRefused, IsEmptied, IsReached, IsRooted, IsSameLatch, IsWorking, Reaches, Went}
-use Rattle.shm_tree.specs.declared.stop.Stop.TheVariants as stop
-use Rattle.shm_tree.proofs.{Answering.{alive_map, cause_after, refused_map}, CutOffs.{died_then, look_died, look_then}}
-use Rattle.shm_tree.proofs.{Links.went_then, Nodes.{keeps_then, made_then}}
-use Rattle.shm_tree.proofs.Spendings.{spent_call, spent_drop, spent_more, spent_then}
-use Rattle.shm_tree.proofs.Weights.{blocks_dropped, blocks_nodes, blocks_then, weight_none, weight_root}
 
 -- ---- trees and nodes
 
@@ -141,30 +141,30 @@ cut_then {n = n} {m = m} {p = p} {q = q} {r = r} hp hq start a b =
 -- ---- stops
 
 -- a call stopped as it is handed on, by what its exit tells
-pub builds_from : {T : Type 0} {k c : ℕ} {p q : Pool} {x y : ℕ} {e : Stop} (o : Result T Stop) → IsErrAnd o (λ v. v ≡ e) → Builds {T = T} k c (Err e) p q x y → Builds {T = T} k c o p q x y
+pub builds_from : {hints : Hints} {T : Type 0} {k c : ℕ} {p q : Pool} {x y : ℕ} {e : Stop} (o : Result T Stop) → IsErrAnd o (λ v. v ≡ e) → Builds {T = T} hints k c (Err e) p q x y → Builds {T = T} hints k c o p q x y
 builds_from (Ok a) h b = absurd h
-builds_from {T = T} {k = k} {c = c} {p = p} {q = q} {x = x} {y = y} (Err v) h b = subst (λ (w : Stop). Builds {T = T} k c (Err w) p q x y) (sym h) b
+builds_from {hints = hints} {T = T} {k = k} {c = c} {p = p} {q = q} {x = x} {y = y} (Err v) h b = subst (λ (w : Stop). Builds {T = T} hints k c (Err w) p q x y) (sym h) b
 
 -- no word step was left for the first call
-pub builds_first : {S T : Type 0} {k c : ℕ} {p q : Pool} {x y : ℕ} {e : Stop} → Looks {T = S} (Err e) p q x y → Builds {T = T} k c (Err e) p q x y
-builds_first {T = T} {k = k} {c = c} {p = p} {q = q} {x = x} {y = y} l =
+pub builds_first : {hints : Hints} {S T : Type 0} {k c : ℕ} {p q : Pool} {x y : ℕ} {e : Stop} → Looks {T = S} (Err e) p q x y → Builds {T = T} hints k c (Err e) p q x y
+builds_first {hints = hints} {T = T} {k = k} {c = c} {p = p} {q = q} {x = x} {y = y} l =
     let d = l.died in
-    subst (λ (v : Stop). Builds {T = T} k c (Err v) p q x y) (sym d.0) (record { went = l.went; working = tt; latch = tt; refused = tt; spent = tt; cause = tt; died = look_died p q y stop.Died (refl, d.1, d.2) })
+    subst (λ (v : Stop). Builds {T = T} hints k c (Err v) p q x y) (sym d.0) (record { went = l.went; working = tt; latch = tt; refused = tt; spent = tt; cause = tt; died = look_died p q y stop.Died (refl, d.1, d.2) })
 
 -- or for one after others
-pub builds_died : {S T : Type 0} {k c : ℕ} {p q r : Pool} {x y z : ℕ} {e : Stop} → IsRun p → Went p q x y → IsSameLatch p q → Looks {T = S} (Err e) q r y z → Builds {T = T} k c (Err e) p r x z
+pub builds_died : {hints : Hints} {S T : Type 0} {k c : ℕ} {p q r : Pool} {x y z : ℕ} {e : Stop} → IsRun p → Went p q x y → IsSameLatch p q → Looks {T = S} (Err e) q r y z → Builds {T = T} hints k c (Err e) p r x z
 builds_died hp went latch l = builds_first (looks_after hp went latch l)
 
 -- a call was refused, or found no word step
-pub builds_cut : (S : Type 0) (m : ℕ) (b : Geometry → ℕ) {T : Type 0} {n k a c : ℕ} {p q r : Pool} {x y z : ℕ} (e : Stop) → n + m ≤ k → a + b p.start.geometry ≤ c → IsWorking p → Went p q x y → IsSameLatch p q → IsCut n p q → HasSpent a p q x y → Builds {T = S} m (b q.start.geometry) (Err e) q r y z → Builds {T = T} k c (Err e) p r x z
-builds_cut S m b {T = T} {n = n} {k = k} {a = a} {c = c} {p = p} {q = q} {r = r} {x = x} {y = y} {z = z} e le low wp went latch cut spent h =
+pub builds_cut : {hints : Hints} (S : Type 0) (m : ℕ) (b : Geometry → ℕ) {T : Type 0} {n k a c : ℕ} {p q r : Pool} {x y z : ℕ} (e : Stop) → n + m ≤ k → a + b p.start.geometry ≤ c → IsWorking p → Went p q x y → IsSameLatch p q → IsCut n p q → HasSpent a p q x y → Builds {T = S} hints m (b q.start.geometry) (Err e) q r y z → Builds {T = T} hints k c (Err e) p r x z
+builds_cut {hints = hints} S m b {T = T} {n = n} {k = k} {a = a} {c = c} {p = p} {q = q} {r = r} {x = x} {y = y} {z = z} e le low wp went latch cut spent h =
     record {
       went = went_on wp.run went h.went;
       working = alive_map S T (IsWorking r) (IsWorking r) e (λ v. v) h.working;
       latch = alive_map S T (IsSameLatch q r) (IsSameLatch p r) e (λ v. v ∙ latch) h.latch;
       refused = refused_map S T (IsCut m q r) (IsCut k p r) e (λ v. cut_more k (cut_then wp.run went.run went.start cut v) le) h.refused;
       spent = alive_map S T (HasSpent (b q.start.geometry) q r y z) (HasSpent c p r x z) e (λ v. spent_more (a + b p.start.geometry) c low (spent_then b wp went h.went spent v)) h.spent;
-      cause = cause_after p q r wp.run went.run went.start went.did e h.cause;
+      cause = cause_after p q r wp.run went.run went.start went.did hints e h.cause;
       died = died_then p q r z e latch h.died;
     }
 
@@ -273,23 +273,23 @@ pub top_stands : {low m : Made} {p q r s : Pool} (t : Tree) → low.block ≢ 0 
 top_stands {m = m} t some under over left h = left.trees m.root m.block t (apart some under over) over.low over.names h
 
 -- a call that was done
-pub builds_done : {T : Type 0} {n c : ℕ} {p q : Pool} {x y : ℕ} (a : T) → Went p q x y → IsWorking q → IsSameLatch p q → HasSpent c p q x y → Builds {T = T} n c (Ok a) p q x y
+pub builds_done : {hints : Hints} {T : Type 0} {n c : ℕ} {p q : Pool} {x y : ℕ} (a : T) → Went p q x y → IsWorking q → IsSameLatch p q → HasSpent c p q x y → Builds {T = T} hints n c (Ok a) p q x y
 builds_done a g w l s = record { went = g; working = w; latch = l; refused = tt; spent = s; cause = tt; died = tt }
 
 -- one call that builds after another
-pub builds_on : {S T : Type 0} {m : S} {v : T} {n k a : ℕ} {p q r : Pool} {x y z : ℕ} (b : Geometry → ℕ) → IsWorking p → Builds {T = S} n a (Ok m) p q x y → Builds {T = T} k (b q.start.geometry) (Ok v) q r y z → Builds {T = T} (n + k) (a + b p.start.geometry) (Ok v) p r x z
+pub builds_on : {hints : Hints} {S T : Type 0} {m : S} {v : T} {n k a : ℕ} {p q r : Pool} {x y z : ℕ} (b : Geometry → ℕ) → IsWorking p → Builds {T = S} hints n a (Ok m) p q x y → Builds {T = T} hints k (b q.start.geometry) (Ok v) q r y z → Builds {T = T} hints (n + k) (a + b p.start.geometry) (Ok v) p r x z
 builds_on b wp l h = builds_done _ (went_on wp.run l.went h.went) h.working (h.latch ∙ l.latch) (spent_then b wp l.went h.went l.spent h.spent)
 
 -- then the root of what it was built of was dropped
-pub builds_drop : {m : Made} {n a : ℕ} {p q r : Pool} {x y z : ℕ} (k : ℕ) → IsWorking p → Builds n a (Ok m) p q x y → Went q r y z → IsWorking r → IsSameLatch q r → (i : ℕ) × HasTorn k i q r × (y ≤ z + drop_steps q.start.geometry i) → Builds n (a + drop_steps p.start.geometry 0) (Ok m) p r x z
+pub builds_drop : {hints : Hints} {m : Made} {n a : ℕ} {p q r : Pool} {x y z : ℕ} (k : ℕ) → IsWorking p → Builds hints n a (Ok m) p q x y → Went q r y z → IsWorking r → IsSameLatch q r → (i : ℕ) × HasTorn k i q r × (y ≤ z + drop_steps q.start.geometry i) → Builds hints n (a + drop_steps p.start.geometry 0) (Ok m) p r x z
 builds_drop k wp l went w latch few = builds_done _ (went_on wp.run l.went went) w (latch ∙ l.latch) (spent_then (λ g. drop_steps g 0) wp l.went went l.spent (spent_drop k w few))
 
 -- or the drop stopped
-pub builds_stuck : {m : Made} {n a : ℕ} {p q r : Pool} {x y z : ℕ} (e : Stop) → IsWorking p → Builds n a (Ok m) p q x y → IsCut n p q → Went q r y z → IfAlive {T = Unit {0}} (Err e) (IsWorking r) → IfAlive {T = Unit {0}} (Err e) (IsSameLatch q r) → IfRefused {T = Unit {0}} (Err e) (IsStill q r)
-    → IfRefused {T = Unit {0}} (Err e) (y ≤ z + drop_steps q.start.geometry 0) → StopCause q r e → DiedIn e q r z → Builds {T = Made} n (a + drop_steps p.start.geometry 0) (Err e) p r x z
-builds_stuck {n = n} {a = a} e wp l cut went w latch still few cause died =
+pub builds_stuck : {hints : Hints} {m : Made} {n a : ℕ} {p q r : Pool} {x y z : ℕ} (e : Stop) → IsWorking p → Builds hints n a (Ok m) p q x y → IsCut n p q → Went q r y z → IfAlive {T = Unit {0}} (Err e) (IsWorking r) → IfAlive {T = Unit {0}} (Err e) (IsSameLatch q r) → IfRefused {T = Unit {0}} (Err e) (IsStill q r)
+    → IfRefused {T = Unit {0}} (Err e) (y ≤ z + drop_steps q.start.geometry 0) → StopCause Off q r e → DiedIn e q r z → Builds {T = Made} hints n (a + drop_steps p.start.geometry 0) (Err e) p r x z
+builds_stuck {hints = hints} {n = n} {a = a} {q = q} {r = r} e wp l cut went w latch still few cause died =
     builds_cut (Unit {0}) 0 (λ g. drop_steps g 0) {T = Made} {n = n} {k = n} {a = a} e (omega arith) (omega arith) wp l.went l.latch cut l.spent
-    (record { went = went; working = w; latch = latch; refused = still_cuts (Unit {0}) _ _ _ still; spent = spent_refused (Unit {0}) _ _ went few; cause = cause; died = died })
+    (record { went = went; working = w; latch = latch; refused = still_cuts (Unit {0}) _ _ _ still; spent = spent_refused (Unit {0}) _ _ went few; cause = cause_by hints q r e cause; died = died })
 
 pub alive_kept : {T : Type 0} {P Q : Type 0} (o : Result T Stop) → (P → Q) → IfAlive o P → IfAlive o Q
 alive_kept (Ok a) f h = f h
@@ -316,12 +316,12 @@ ok_any (Ok a) h = h a
 ok_any (Err e) h = tt
 
 -- a call that builds after calls that read, which took at most so many word steps
-pub builds_after : {T : Type 0} {c : ℕ} {p q r : Pool} {x y z : ℕ} (n k a : ℕ) (b : Geometry → ℕ) (o : Result T Stop) → n ≤ k → a + b p.start.geometry ≤ c → IsWorking p → Looked p q x y → x ≤ y + a → Builds {T = T} n (b q.start.geometry) o q r y z → Builds {T = T} k c o p r x z
+pub builds_after : {hints : Hints} {T : Type 0} {c : ℕ} {p q r : Pool} {x y z : ℕ} (n k a : ℕ) (b : Geometry → ℕ) (o : Result T Stop) → n ≤ k → a + b p.start.geometry ≤ c → IsWorking p → Looked p q x y → x ≤ y + a → Builds {T = T} hints n (b q.start.geometry) o q r y z → Builds {T = T} hints k c o p r x z
 builds_after {c = c} {p = p} n k a b (Ok v) le low wp l few h = builds_done v (went_on wp.run l.went h.went) h.working (h.latch ∙ l.latch) (spent_more (a + b p.start.geometry) c low (spent_then b wp l.went h.went (spent_call a l.went few) h.spent))
 builds_after {T = T} n k a b (Err e) le low wp l few h = builds_cut T n b {T = T} {n = 0} {k = k} {a = a} e (omega arith) low wp l.went l.latch (still_cut l.still) (spent_call a l.went few) h
 
 -- a call that changes something, as one that builds
-pub builds_call : {T : Type 0} {c : ℕ} {L : Pool → Pool → Type 0} {p q : Pool} {x y : ℕ} (n : ℕ) (o : Result T Stop) → Changes c L o p q x y → (L p q → IsCut n p q) → Builds n c o p q x y
+pub builds_call : {hints : Hints} {T : Type 0} {c : ℕ} {L : Pool → Pool → Type 0} {p q : Pool} {x y : ℕ} (n : ℕ) (o : Result T Stop) → Changes hints c L o p q x y → (L p q → IsCut n p q) → Builds hints n c o p q x y
 builds_call {c = c} n (Ok v) h cut = builds_done v h.went h.working h.latch (spent_call c h.went h.steps)
 builds_call {T = T} {c = c} {L = L} {p = p} {q = q} {x = x} {y = y} n (Err e) h cut =
     record {
@@ -334,8 +334,13 @@ builds_call {T = T} {c = c} {L = L} {p = p} {q = q} {x = x} {y = y} n (Err e) h 
       died = h.died;
     }
 
+-- a call without hints, as one with any
+pub builds_by : {hints : Hints} {T : Type 0} {n c : ℕ} {p q : Pool} {x y : ℕ} (o : Result T Stop) → Builds Off n c o p q x y → Builds hints n c o p q x y
+builds_by (Ok v) h = record { went = h.went; working = h.working; latch = h.latch; refused = h.refused; spent = h.spent; cause = tt; died = tt }
+builds_by {hints = hints} {p = p} {q = q} (Err e) h = record { went = h.went; working = h.working; latch = h.latch; refused = h.refused; spent = h.spent; cause = cause_by hints p q e h.cause; died = h.died }
+
 -- a node that was linked
-pub builds_link : {c : ℕ} {p q : Pool} {x y : ℕ} (o : Result Made Stop) → Changes c (HasGrown 1) o p q x y → Builds 1 c o p q x y
+pub builds_link : {hints : Hints} {c : ℕ} {p q : Pool} {x y : ℕ} (o : Result Made Stop) → Changes hints c (HasGrown 1) o p q x y → Builds hints 1 c o p q x y
 builds_link o h = builds_call 1 o h grown_cut
 
 pub at_hand_still : {p q : Pool} {x y : ℕ} (b : ℕ) → Looked p q x y → IsAtHand p b → IsAtHand q b

@@ -1,12 +1,7 @@
 -- What calls cost that come one after the other.
-use Rattle.std.proofs.Common.{◌≡◌, ◌≢◌, ℕ, ◌+◌, ◌*◌, ◌<◌, ◌≤◌, true, false, List, sym, ◌∙◌, subst, arith, inl, inr, true≢false, Result, Ok, Err}
-use Rattle.std.proofs.lemmas.Bool.{cases_Bool}
-use Rattle.std.specs.Prelude.{IfOk, Option, None, Some}
-use Rattle.shm_words.specs.declared.geometry.Geometry.{Geometry}
-use Rattle.shm_plain.specs.Pools.{Pool, memo_of}
-use Rattle.shm_count.specs.declared.answer.Made.{Made}
-use Rattle.shm_tree.specs.declared.{remove.Removed.Removed, stop.Stop.Stop, registers.Registers.Registers}
-use Rattle.shm_tree.specs.{Bounds.{drop_steps, share_steps}, Building.root_block, Changing.Changes}
+use Rattle.shm_tree.specs.declared.{hints.Hints.Hints, remove.Removed.Removed, stop.Stop.Stop}
+use Rattle.shm_tree.specs.{declared.registers.Registers.Registers, Bounds.{drop_steps, share_steps}}
+use Rattle.shm_tree.specs.{Building.root_block, Changing.Changes}
 use Rattle.shm_tree.specs.Costing.{Costs, MakesFew, copied_steps, copy_steps, read_steps, sweep_steps}
 use Rattle.shm_tree.specs.Forests.{HasVersions, IsForest, IsFree, KeepsRoots, KeepsVersions, block_in, root_at, version}
 use Rattle.shm_tree.specs.{Keeping.{HasMade, IsDropped, IsShared, IsStill, is_live}, Living.{AreLivesTrees, KeepsLives}}
@@ -16,6 +11,12 @@ use Rattle.shm_tree.proofs.{Building.{Looked, looked_none, made_more, went_on}, 
 use Rattle.shm_tree.proofs.{Forests.{Sweeping, sweeping_more, sweeping_none}, Fresh.made_few, Nodes.made_then}
 use Rattle.shm_tree.proofs.Resting.{rests_dropped, rests_still, rests_then}
 use Rattle.shm_tree.proofs.Spendings.{spent_call, spent_drop, spent_more, spent_then}
+use Rattle.std.proofs.Common.{◌≡◌, ◌≢◌, ℕ, ◌+◌, ◌*◌, ◌<◌, ◌≤◌, true, false, List, sym, ◌∙◌, subst, arith, inl, inr, true≢false, Result, Ok, Err}
+use Rattle.std.proofs.lemmas.Bool.{cases_Bool}
+use Rattle.std.specs.Prelude.{IfOk, Option, None, Some}
+use Rattle.shm_words.specs.declared.geometry.Geometry.{Geometry}
+use Rattle.shm_plain.specs.Pools.{Pool, memo_of}
+use Rattle.shm_count.specs.declared.answer.Made.{Made}
 
 le_self : (n : ℕ) → n ≤ n
 le_self n = omega arith
@@ -54,7 +55,7 @@ costs_dropped p q x y k (Ok a) w d torn = record { made = d.made; spent = spent_
 costs_dropped p q x y k (Err e) w d torn = tt
 
 -- a tree got a further root
-pub costs_copied : {p q r : Pool} {x y z : ℕ} (b : ℕ) (o : Result Made Stop) → IsWorking p → Looked p q x y → x ≤ y + 1 → Changes (share_steps q.start.geometry) IsStill o q r y z → IfOk o (λ m. IsShared m.root b q r) → IfOk o (λ m. Costs 0 (copied_steps p.start.geometry) p r x z)
+pub costs_copied : {hints : Hints} {p q r : Pool} {x y z : ℕ} (b : ℕ) (o : Result Made Stop) → IsWorking p → Looked p q x y → x ≤ y + 1 → Changes hints (share_steps q.start.geometry) IsStill o q r y z → IfOk o (λ m. IsShared m.root b q r) → IfOk o (λ m. Costs 0 (copied_steps p.start.geometry) p r x z)
 costs_copied {q = q} {r = r} {y = y} {z = z} b (Ok m) wp l one h sh =
     let later : Costs 0 (share_steps q.start.geometry) q r y z = record { made = sh.made; spent = spent_call (share_steps q.start.geometry) h.went h.steps; rests = rests_shared sh } in
     costs_then share_steps wp l.working h.working l.went h.went (costs_still 1 l.went l.still one) later

@@ -1,11 +1,11 @@
 -- Where what found no word step is cut off: in the midst of a call, or between two of them.
+use Rattle.shm_tree.specs.{declared.{hints.Hints.Hints, stop.Stop.Stop}, Changing.Changes, Falling.AreFalling}
+use Rattle.shm_tree.specs.{Looking.Looks, Working.{DiedBegun, DiedIn, IsCutOff, IsSameLatch, IsWorking}}
+use Rattle.shm_tree.specs.declared.stop.Stop.TheVariants as stop
+use Rattle.shm_tree.proofs.Alive.{went_dead}
 use Rattle.std.proofs.Common.{◌≡◌, ℕ, zero, suc, Bool, true, false, Err, inl, inr, refl, ap, ◌∙◌, arith}
 use Rattle.shm_plain.specs.{Calls.Ran, Pools.{Pool, memo_of}}
 use Rattle.shm_count.specs.Roots.{root_word}
-use Rattle.shm_tree.specs.{declared.stop.Stop.Stop, Changing.Changes, Falling.AreFalling, Looking.Looks}
-use Rattle.shm_tree.specs.Working.{DiedBegun, DiedIn, IsCutOff, IsSameLatch, IsWorking}
-use Rattle.shm_tree.specs.declared.stop.Stop.TheVariants as stop
-use Rattle.shm_tree.proofs.Alive.{went_dead}
 
 -- ---- a call that was run
 
@@ -48,5 +48,5 @@ looks_dead {p = p} {q = q} wp ran falls = record { went = went_dead true p q _ _
 
 -- ---- a call that changes something
 
-pub changes_dead : {T : Type 0} {c : ℕ} {L : Pool → Pool → Type 0} {p q : Pool} {x y : ℕ} → IsWorking p → Ran 0 true false p q x y → (AreFalling p → AreFalling q) → Changes {T = T} c L (Err stop.Died) p q x y
+pub changes_dead : {hints : Hints} {T : Type 0} {c : ℕ} {L : Pool → Pool → Type 0} {p q : Pool} {x y : ℕ} → IsWorking p → Ran 0 true false p q x y → (AreFalling p → AreFalling q) → Changes {T = T} hints c L (Err stop.Died) p q x y
 changes_dead {p = p} {q = q} wp ran falls = record { went = went_dead true p q _ _ wp ran falls; working = tt; latch = tt; reaches = tt; refused = tt; steps = tt; cause = tt; died = died_ran _ ran }

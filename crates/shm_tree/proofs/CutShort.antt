@@ -1,8 +1,4 @@
 -- What shows that a line is cut short: what its parts leave that stopped for want of a word step.
-use Rattle.std.proofs.Common.{◌≡◌, ℕ, ◌<◌, Bool, true, false, List, refl, sym, ap, ◌∙◌, subst, arith, Result, Ok, Err, inl, inr, ◌⊎◌}
-use Rattle.std.proofs.lemmas.Bool.{cases_lt}
-use Rattle.std.specs.{Prelude.{Some, IfErr}, Result.IsErrAnd}
-use Rattle.shm_plain.specs.{Calls.Ran, Pools.{Pool, memo_of}}
 use Rattle.shm_tree.specs.declared.{line.TreeLine.TreeLine, registers.Registers.Registers, stop.Stop.Stop}
 use Rattle.shm_tree.specs.{Building.root_block, CutShort.{DiesHalfDone, IsHalfDone}}
 use Rattle.shm_tree.specs.Forests.{HasVersions, IsForest, IsFree, IsSpare, IsUnspent, MayBeDone, block_in, root_at, version}
@@ -10,6 +6,10 @@ use Rattle.shm_tree.specs.{Standing.IsTree, Trees.{Tree, Empty}}
 use Rattle.shm_tree.specs.Working.{AreSameRoots, DiedBegun, IsCutOff, IsInCall, IsUnderWay}
 use Rattle.shm_tree.specs.declared.stop.Stop.TheVariants as stop
 use Rattle.shm_tree.proofs.Forests.{block_low}
+use Rattle.std.proofs.Common.{◌≡◌, ℕ, ◌<◌, Bool, true, false, List, refl, sym, ap, ◌∙◌, subst, arith, Result, Ok, Err, inl, inr, ◌⊎◌}
+use Rattle.std.proofs.lemmas.Bool.{cases_lt}
+use Rattle.std.specs.{Prelude.{Some, IfErr}, Result.IsErrAnd}
+use Rattle.shm_plain.specs.{Calls.Ran, Pools.{Pool, memo_of}}
 
 -- ---- calls
 

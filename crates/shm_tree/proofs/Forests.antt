@@ -1,4 +1,13 @@
 -- What calls on the pool keep of registers and of their versions.
+use Rattle.shm_tree.specs.declared.{hints.Hints.{Hints, TheVariants.Off}, registers.Registers.Registers, stop.Stop.Stop}
+use Rattle.shm_tree.specs.{Building.{IsBuilt, IsCut, root_block}, Changing.Changes, Causes.StopCause}
+use Rattle.shm_tree.specs.Forests.{CallLeaves, IsForest, IsFree, IsTidy, KeepsNamed, KeepsOthers, KeepsRegisters, KeepsRoot, KeepsRoots, KeepsVersions, CallStopped, block_in, root_at, version}
+use Rattle.shm_tree.specs.{Keeping.{IsDropped, IsShared, IsStill}, Standing.{IsTree, TreeStands, weight}, Trees.Tree}
+use Rattle.shm_tree.specs.Working.{DiedIn, IfAlive, IfRefused, IsEmptied, IsRooted, IsSameLatch, IsWorking, Went}
+use Rattle.shm_tree.specs.declared.stop.Stop.TheVariants as stop
+use Rattle.shm_tree.proofs.Answering.{alive_map, cause_after, cause_by}
+use Rattle.shm_tree.proofs.Building.{Looked, looked_none, alive_kept, alive_refused, none_stands, rooted_some, went_on}
+use Rattle.shm_tree.proofs.{Links.still_then, Turns.did_then, Weights.{weight_nodes, weight_none, weight_root}}
 use Rattle.std.proofs.Common.{◌≡◌, ◌≢◌, ℕ, ◌+◌, ◌<◌, ◌≤◌, Bool, true, false, List, [], ◌++◌, refl, sym, ap, ◌∙◌, subst, arith, Result, Ok, Err, inl, inr, true≢false}
 use Rattle.std.proofs.lemmas.Bool.{cases_eq, cases_lt, cond-false, cond-true, le-ltb, lt-ltb}
 use Rattle.std.specs.{Prelude.{slice_index, None, nat_lt, IfErr, IfOk}, Result.IsErrAnd}
@@ -6,15 +15,6 @@ use Rattle.shm_graph.specs.Events.{Event}
 use Rattle.shm_plain.specs.{Calls.Did, Pools.{IsRun, Pool, memo_of}}
 use Rattle.shm_plain.proofs.OwnTurns.{did_none}
 use Rattle.shm_count.specs.declared.answer.Made.{Made}
-use Rattle.shm_tree.specs.declared.{registers.Registers.Registers, stop.Stop.Stop}
-use Rattle.shm_tree.specs.{Building.{IsBuilt, IsCut, root_block}, Changing.Changes, Causes.StopCause}
-use Rattle.shm_tree.specs.Forests.{CallLeaves, IsForest, IsFree, IsTidy, KeepsNamed, KeepsOthers, KeepsRegisters, KeepsRoot, KeepsRoots, KeepsVersions, CallStopped, block_in, root_at, version}
-use Rattle.shm_tree.specs.{Keeping.{IsDropped, IsShared, IsStill}, Standing.{IsTree, TreeStands, weight}, Trees.Tree}
-use Rattle.shm_tree.specs.Working.{DiedIn, IfAlive, IfRefused, IsEmptied, IsRooted, IsSameLatch, IsWorking, Went}
-use Rattle.shm_tree.specs.declared.stop.Stop.TheVariants as stop
-use Rattle.shm_tree.proofs.Answering.{alive_map, cause_after}
-use Rattle.shm_tree.proofs.Building.{Looked, looked_none, alive_kept, alive_refused, none_stands, rooted_some, went_on}
-use Rattle.shm_tree.proofs.{Links.still_then, Turns.did_then, Weights.{weight_nodes, weight_none, weight_root}}
 
 -- ---- roots
 
@@ -160,13 +160,17 @@ quiet_then {p = p} {q = q} {r = r} w a b = record { went = went_on w.run a.went 
 
 -- ---- stops
 
-pub stopped_here : {p q : Pool} (e : Stop) → IsRun q → q.start ≡ p.start → StopCause p q e → CallStopped p q e
+pub stopped_here : {hints : Hints} {p q : Pool} (e : Stop) → IsRun q → q.start ≡ p.start → StopCause hints p q e → CallStopped hints p q e
 stopped_here {p = p} {q = q} e run start cause = record { at = q; run = run; start = start; cause = cause; on = ([], did_none 0 q q refl) }
 
-pub stopped_after : {p q r : Pool} {x y : ℕ} (e : Stop) → IsRun p → Went p q x y → CallStopped q r e → CallStopped p r e
-stopped_after {p = p} {q = q} e hp w s = record { at = s.at; run = s.run; start = s.start ∙ w.start; cause = cause_after p q s.at hp w.run w.start w.did e s.cause; on = s.on }
+pub stopped_after : {hints : Hints} {p q r : Pool} {x y : ℕ} (e : Stop) → IsRun p → Went p q x y → CallStopped hints q r e → CallStopped hints p r e
+stopped_after {hints = hints} {p = p} {q = q} e hp w s = record { at = s.at; run = s.run; start = s.start ∙ w.start; cause = cause_after p q s.at hp w.run w.start w.did hints e s.cause; on = s.on }
 
-pub stopped_on : {p q r : Pool} (e : Stop) → CallStopped p q e → IsRun q → q.start ≡ p.start → (es : List Event) × Did 0 q r es → CallStopped p r e
+-- a call without hints, as one with any
+pub stopped_by : {hints : Hints} {p q : Pool} (e : Stop) → CallStopped Off p q e → CallStopped hints p q e
+stopped_by {hints = hints} {p = p} e s = record { at = s.at; run = s.run; start = s.start; cause = cause_by hints p s.at e s.cause; on = s.on }
+
+pub stopped_on : {hints : Hints} {p q r : Pool} (e : Stop) → CallStopped hints p q e → IsRun q → q.start ≡ p.start → (es : List Event) × Did 0 q r es → CallStopped hints p r e
 stopped_on {p = p} {q = q} {r = r} e s hq start did =
     record {
       at = s.at;
@@ -178,17 +182,17 @@ stopped_on {p = p} {q = q} {r = r} e s hq start did =
 
 -- ---- calls on the pool
 
-pub calls_from : {T : Type 0} {K : Pool → Pool → Type 0} {p q : Pool} {x y : ℕ} {e : Stop} (o : Result T Stop) → IsErrAnd o (λ v. v ≡ e) → CallLeaves {T = T} K (Err e) p q x y → CallLeaves {T = T} K o p q x y
+pub calls_from : {hints : Hints} {T : Type 0} {K : Pool → Pool → Type 0} {p q : Pool} {x y : ℕ} {e : Stop} (o : Result T Stop) → IsErrAnd o (λ v. v ≡ e) → CallLeaves {T = T} hints K (Err e) p q x y → CallLeaves {T = T} hints K o p q x y
 calls_from (Ok a) h m = absurd h
-calls_from {T = T} {K = K} {p = p} {q = q} {x = x} {y = y} (Err v) h m = subst (λ (w : Stop). CallLeaves {T = T} K (Err w) p q x y) (sym h) m
+calls_from {hints = hints} {T = T} {K = K} {p = p} {q = q} {x = x} {y = y} (Err v) h m = subst (λ (w : Stop). CallLeaves {T = T} hints K (Err w) p q x y) (sym h) m
 
 -- no word step was left for a call
-pub calls_died : {T : Type 0} {K : Pool → Pool → Type 0} {p q : Pool} {x y : ℕ} (e : Stop) → Went p q x y → (e ≡ stop.Died) × (y ≡ 0) → CallLeaves {T = T} K (Err e) p q x y
-calls_died {T = T} {K = K} {p = p} {q = q} {x = x} {y = y} e w d =
-    subst (λ (v : Stop). CallLeaves {T = T} K (Err v) p q x y) (sym d.0) (record { went = w; working = tt; latch = tt; kept = tt; cause = stopped_here stop.Died w.run w.start tt; died = λ v. d.1 })
+pub calls_died : {hints : Hints} {T : Type 0} {K : Pool → Pool → Type 0} {p q : Pool} {x y : ℕ} (e : Stop) → Went p q x y → (e ≡ stop.Died) × (y ≡ 0) → CallLeaves {T = T} hints K (Err e) p q x y
+calls_died {hints = hints} {T = T} {K = K} {p = p} {q = q} {x = x} {y = y} e w d =
+    subst (λ (v : Stop). CallLeaves {T = T} hints K (Err v) p q x y) (sym d.0) (record { went = w; working = tt; latch = tt; kept = tt; cause = stopped_here stop.Died w.run w.start tt; died = λ v. d.1 })
 
 -- what is kept is more than what is asked
-pub calls_kept : {T : Type 0} {K L : Pool → Pool → Type 0} {p q : Pool} {x y : ℕ} (o : Result T Stop) → (K p q → L p q) → CallLeaves K o p q x y → CallLeaves L o p q x y
+pub calls_kept : {hints : Hints} {T : Type 0} {K L : Pool → Pool → Type 0} {p q : Pool} {x y : ℕ} (o : Result T Stop) → (K p q → L p q) → CallLeaves hints K o p q x y → CallLeaves hints L o p q x y
 calls_kept o f c = record { went = c.went; working = c.working; latch = c.latch; kept = alive_kept o f c.kept; cause = c.cause; died = c.died }
 
 -- what was built under the latch, once that is given back
@@ -212,7 +216,7 @@ named_shared {p = p} {q = q} h j some =
       | inr le ↦ root_past j le
     ]
 
-pub shared_grows : {c : ℕ} {p q r : Pool} {x y z : ℕ} (b : ℕ) (o : Result Made Stop) → IsWorking p → Looked p q x y → Changes c IsStill o q r y z → IfOk o (λ m. IsShared m.root b q r) → CallLeaves KeepsNamed o p r x z
+pub shared_grows : {hints : Hints} {c : ℕ} {p q r : Pool} {x y z : ℕ} (b : ℕ) (o : Result Made Stop) → IsWorking p → Looked p q x y → Changes hints c IsStill o q r y z → IfOk o (λ m. IsShared m.root b q r) → CallLeaves hints KeepsNamed o p r x z
 shared_grows b (Ok m) wp l h sh = record { went = went_on wp.run l.went h.went; working = h.working; latch = h.latch ∙ l.latch; kept = named_then (named_still l.still) (named_shared sh); cause = tt; died = tt }
 shared_grows {p = p} {q = q} {r = r} b (Err e) wp l h sh =
     record {
@@ -268,7 +272,7 @@ sweeping_more {r = r} ks n wp a g w l k others empty =
           ];
     }
 
-pub sweeping_stop : (S : Type 0) {T : Type 0} {p q r : Pool} {x y z : ℕ} (ks : List ℕ) (n : ℕ) (e : Stop) → IsWorking p → Sweeping ks n p q x y → CallLeaves {T = S} (KeepsRoots ks) (Err e) q r y z → CallLeaves {T = T} (KeepsRoots ks) (Err e) p r x z
+pub sweeping_stop : {hints : Hints} (S : Type 0) {T : Type 0} {p q r : Pool} {x y z : ℕ} (ks : List ℕ) (n : ℕ) (e : Stop) → IsWorking p → Sweeping ks n p q x y → CallLeaves {T = S} hints (KeepsRoots ks) (Err e) q r y z → CallLeaves {T = T} hints (KeepsRoots ks) (Err e) p r x z
 sweeping_stop S {T = T} {p = p} {q = q} {r = r} ks n e wp a c =
     record {
       went = went_on wp.run a.went c.went;
@@ -280,14 +284,14 @@ sweeping_stop S {T = T} {p = p} {q = q} {r = r} ks n e wp a c =
     }
 
 -- a root that was to be empty is so already
-pub calls_none : {T : Type 0} {K : Pool → Pool → Type 0} (a : T) (p : Pool) (x : ℕ) → IsWorking p → K p p → CallLeaves {T = T} K (Ok a) p p x x
+pub calls_none : {hints : Hints} {T : Type 0} {K : Pool → Pool → Type 0} (a : T) (p : Pool) (x : ℕ) → IsWorking p → K p p → CallLeaves {T = T} hints K (Ok a) p p x x
 calls_none a p x w k = record { went = (looked_none p x w).went; working = w; latch = refl; kept = k; cause = tt; died = tt }
 
 pub root_self : (p : Pool) (k : ℕ) → KeepsRoot p p k
 root_self p k = record { same = refl; trees = λ t s. s; blocks = λ f t s. refl }
 
 -- a root was dropped, or not
-pub dropped_calls : {T : Type 0} {p q : Pool} {x y : ℕ} (j : ℕ) (o : Result T Stop) → Went p q x y → IfAlive o (IsWorking q) → IfAlive o (IsSameLatch p q) → IfOk o (λ u. IsEmptied j p q) → IfOk o (λ u. IsDropped j p q) → IfRefused o (IsStill p q) → IfErr o (λ e. StopCause p q e) → IfErr o (λ e. DiedIn e p q y) → CallLeaves (KeepsOthers j) o p q x y
+pub dropped_calls : {hints : Hints} {T : Type 0} {p q : Pool} {x y : ℕ} (j : ℕ) (o : Result T Stop) → Went p q x y → IfAlive o (IsWorking q) → IfAlive o (IsSameLatch p q) → IfOk o (λ u. IsEmptied j p q) → IfOk o (λ u. IsDropped j p q) → IfRefused o (IsStill p q) → IfErr o (λ e. StopCause hints p q e) → IfErr o (λ e. DiedIn e p q y) → CallLeaves hints (KeepsOthers j) o p q x y
 dropped_calls j (Ok a) g w l e d s ca di = record { went = g; working = w; latch = l; kept = λ k ne. root_dropped j k ne e d w; cause = tt; died = tt }
 dropped_calls {T = T} {p = p} {q = q} j (Err v) g w l e d s ca di =
     record { went = g; working = w; latch = l; kept = alive_refused T T (IsStill p q) (KeepsOthers j p q) v (λ u k ne. root_still k u) s; cause = stopped_here v g.run g.start ca; died = λ d. (di d).0 }

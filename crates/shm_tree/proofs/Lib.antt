@@ -1,3 +1,4 @@
+pub mod Asking
 pub mod Heights
 pub mod Low
 pub mod Searching

@@ -18,10 +18,10 @@ use Rattle.shm_alloc.specs.declared.{alloc.AllocFault.AllocFault, point.AllocSta
 use Rattle.shm_alloc.specs.Alloc.{Control.tag_asked, AllocGives, IsPrepared, MadeGives, goal_of, more_stored}
 use Rattle.shm_alloc.specs.declared.alloc.AllocFault.TheVariants as fault
 use Rattle.shm_alloc.proofs.AllocBound.{alloc_bound}
-use Rattle.shm_client.specs.Allocating.{IsAsked}
-use Rattle.shm_tree.specs.{declared.node.Content.Content, Bounds.make_steps, Causes.AllocRefused}
-use Rattle.shm_tree.specs.{Keeping.{IsMade, IsStill, KeepsNodes, is_live, made_in}, Standing.{IsNode, word_of}}
-use Rattle.shm_tree.specs.Working.{DiedIn, HasRoom, IsSameLatch, IsWorking, Reaches}
+use Rattle.shm_client.specs.Allocating.{IsAskedNear}
+use Rattle.shm_tree.specs.{declared.{hints.Hints.Hints, node.Content.Content}, Asking.IsAskedBy, Bounds.make_steps}
+use Rattle.shm_tree.specs.{Causes.AllocRefused, Keeping.{IsMade, IsStill, KeepsNodes, is_live, made_in}}
+use Rattle.shm_tree.specs.{Standing.{IsNode, word_of}, Working.{DiedIn, HasRoom, IsSameLatch, IsWorking, Reaches}}
 use Rattle.shm_tree.specs.declared.stop.Stop.TheVariants as stop
 use Rattle.shm_tree.proofs.Alive.{IsHomeless, IsOn, IsQuiet, after, before, known_tag, known_word, still, works}
 use Rattle.shm_tree.proofs.Firsts.{first_tells}
@@ -35,7 +35,7 @@ tag_told wide x f = (tag_refs-word wide x f, tag_plain-word wide x f)
 
 -- ---- an allocation
 
-module _ (p q : Pool) (es : List Event) (on : IsOn p q es) (c : Content) (h : ℕ) (m : AllocState) (asked : IsAsked p.start.geometry 0 2 (c.key ∷ c.number ∷ h ∷ []) m) where
+module _ (p q : Pool) (es : List Event) (on : IsOn p q es) (c : Content) (h : ℕ) (m : AllocState) (asked : IsAskedNear p.start.geometry 0 2 (c.key ∷ c.number ∷ h ∷ []) m.request.near m) where
   abbrev r0 : Memo
   r0 = memo_of p 0
 
@@ -82,8 +82,8 @@ module _ (p q : Pool) (es : List Event) (on : IsOn p q es) (c : Content) (h : �
   pub make_room : HasRoom p → AllocGives m r0 r tr (Err fault.RootsFull) → ⊥
   make_room (k, low, empty) y = y.holds.gives.1.1 k low (ap (λ (z : Me). own_word r0.own (Root z.who k)) asked.me ∙ empty)
 
-  pub make_cause : (f : AllocFault) → AllocGives m r0 r tr (Err f) → AllocRefused p q f
-  make_cause f y = (m, xs, refl, asked, within_self (λ a b t zs. AllocGives m a b t (Err f)) p q es on y)
+  pub make_cause : (hints : Hints) (f : AllocFault) → IsAskedBy hints p.start.geometry xs m → AllocGives m r0 r tr (Err f) → AllocRefused hints p q f
+  make_cause hints f by y = (m, xs, refl, by, within_self (λ a b t zs. AllocGives m a b t (Err f)) p q es on y)
 
   -- ---- it was done
 

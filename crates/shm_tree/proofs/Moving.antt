@@ -1,13 +1,6 @@
 -- What parts of lines leave of registers and of their versions.
-use Rattle.std.proofs.Common.{◌≡◌, ◌≢◌, ◌==◌, ℕ, ◌*◌, ◌<◌, ◌≤◌, Bool, true, false, List, length, lit≤, refl, sym, ap, ◌∙◌, subst, arith, Result, Ok, Err, inl, inr, ◌⊎◌, true≢false}
-use Rattle.std.proofs.lemmas.{Bool.{cases_eq, cases_lt, eq-eqb, eqb-true}, Grind.get_or-set_at}
-use Rattle.std.proofs.lemmas.List.{get_or-set_other, length-set}
-use Rattle.std.specs.{Prelude.{slice_index, slice_set, Option, None, Some, IfErr, IfOk}, List.IsAnyAnswer}
-use Rattle.std.specs.{Option.is_some, Result.IsErrAnd}
-use Rattle.shm_plain.specs.Pools.{Pool, memo_of}
-use Rattle.shm_count.specs.declared.answer.Made.{Made}
-use Rattle.shm_tree.specs.declared.{registers.Registers.Registers, stop.Stop.Stop, remove.Removed.Removed}
-use Rattle.shm_tree.specs.Building.{root_block}
+use Rattle.shm_tree.specs.declared.{hints.Hints.{Hints, TheVariants.Off}, registers.Registers.Registers, stop.Stop.Stop}
+use Rattle.shm_tree.specs.{declared.remove.Removed.Removed, Building.root_block}
 use Rattle.shm_tree.specs.Forests.{CallLeaves, HasVersions, IsCleared, IsPruned, IsTaken, IsForest, IsFree, IsLeft, IsLopped, IsPut, IsSpare, IsTidy, KeepsNamed, KeepsRegisters, KeepsRoot, KeepsRoots, KeepsVersions, Moves, CallStopped, block_in, is_over, root_at, version}
 use Rattle.shm_tree.specs.{Keeping.IsStill, Standing.{IsTree, TreeStands}, Inserting.IsRegistered}
 use Rattle.shm_tree.specs.Removing.{IsKept, IsRemoved, IsWithout}
@@ -16,39 +9,51 @@ use Rattle.shm_tree.specs.Working.{AreSameRoots, IfAlive, IfRefused, IsEmptied, 
 use Rattle.shm_tree.specs.declared.stop.Stop.TheVariants as stop
 use Rattle.shm_tree.proofs.Answering.{alive_died, alive_map, cause_died, refused_died, refused_map}
 use Rattle.shm_tree.proofs.Building.{built_cut, went_on}
-use Rattle.shm_tree.proofs.Forests.{block_low, block_none, forest_over, named_cut, named_same, named_still, planted_rooted, registers_named, registers_over, registers_then, root_still, stopped_after, stopped_here, stopped_on, told, untold, version_kept, versions_over}
+use Rattle.shm_tree.proofs.Forests.{block_low, block_none, forest_over, named_cut, named_same, named_still, planted_rooted, registers_named, registers_over, registers_then, root_still, stopped_after, stopped_by, stopped_here, stopped_on, told, untold, version_kept, versions_over}
 use Rattle.shm_tree.proofs.{Insertions.inserts_well, Removals.removes_well}
+use Rattle.std.proofs.Common.{◌≡◌, ◌≢◌, ◌==◌, ℕ, ◌*◌, ◌<◌, ◌≤◌, Bool, true, false, List, length, lit≤, refl, sym, ap, ◌∙◌, subst, arith, Result, Ok, Err, inl, inr, ◌⊎◌, true≢false}
+use Rattle.std.proofs.lemmas.{Bool.{cases_eq, cases_lt, eq-eqb, eqb-true}, Grind.get_or-set_at}
+use Rattle.std.proofs.lemmas.List.{get_or-set_other, length-set}
+use Rattle.std.specs.{Prelude.{slice_index, slice_set, Option, None, Some, IfErr, IfOk}, List.IsAnyAnswer}
+use Rattle.std.specs.{Option.is_some, Result.IsErrAnd}
+use Rattle.shm_plain.specs.Pools.{Pool, memo_of}
+use Rattle.shm_count.specs.declared.answer.Made.{Made}
 
 -- ---- parts of lines
 
-pub moves_from : {T : Type 0} {f g : Registers} {x y : ℕ} {e : Stop} (o : Result T Stop) → IsErrAnd o (λ v. v ≡ e) → Moves {T = T} (Err e) f g x y → Moves {T = T} o f g x y
+pub moves_from : {hints : Hints} {T : Type 0} {f g : Registers} {x y : ℕ} {e : Stop} (o : Result T Stop) → IsErrAnd o (λ v. v ≡ e) → Moves {T = T} hints (Err e) f g x y → Moves {T = T} hints o f g x y
 moves_from (Ok a) h m = absurd h
-moves_from {T = T} {f = f} {g = g} {x = x} {y = y} (Err v) h m = subst (λ (w : Stop). Moves {T = T} (Err w) f g x y) (sym h) m
+moves_from {hints = hints} {T = T} {f = f} {g = g} {x = x} {y = y} (Err v) h m = subst (λ (w : Stop). Moves {T = T} hints (Err w) f g x y) (sym h) m
 
 -- a stop of another part is one of the whole
-pub moves_to : (S : Type 0) {T : Type 0} {f g : Registers} {x y : ℕ} (e : Stop) → Moves {T = S} (Err e) f g x y → Moves {T = T} (Err e) f g x y
+pub moves_to : {hints : Hints} (S : Type 0) {T : Type 0} {f g : Registers} {x y : ℕ} (e : Stop) → Moves {T = S} hints (Err e) f g x y → Moves {T = T} hints (Err e) f g x y
 moves_to S {T = T} {f = f} {g = g} e m = record { went = m.went; forest = alive_map S T (IsForest g) (IsForest g) e (λ v. v) m.forest; kept = refused_map S T (KeepsRegisters f g) (KeepsRegisters f g) e (λ v. v) m.kept; cause = m.cause; died = m.died }
 
 -- a part that was done
-pub moves_done : {T : Type 0} {f g : Registers} {x y : ℕ} (a : T) → Went f.pool g.pool x y → IsForest g → Moves {T = T} (Ok a) f g x y
+pub moves_done : {hints : Hints} {T : Type 0} {f g : Registers} {x y : ℕ} (a : T) → Went f.pool g.pool x y → IsForest g → Moves {T = T} hints (Ok a) f g x y
 moves_done a w x = record { went = w; forest = x; kept = tt; cause = tt; died = tt }
 
 -- a call on the pool stopped
-pub moves_stop : (S : Type 0) {T : Type 0} (f : Registers) (q : Pool) (b : Bool) {x y : ℕ} (e : Stop) → IsForest f → (b ≡ true → IsTidy (record { pool = q; roots = f.roots; tidy = b })) → CallLeaves {T = S} (KeepsRoots f.roots) (Err e) f.pool q x y → Moves {T = T} (Err e) f (record { pool = q; roots = f.roots; tidy = b }) x y
+pub moves_stop : {hints : Hints} (S : Type 0) {T : Type 0} (f : Registers) (q : Pool) (b : Bool) {x y : ℕ} (e : Stop) → IsForest f → (b ≡ true → IsTidy (record { pool = q; roots = f.roots; tidy = b })) → CallLeaves {T = S} hints (KeepsRoots f.roots) (Err e) f.pool q x y → Moves {T = T} hints (Err e) f (record { pool = q; roots = f.roots; tidy = b }) x y
 moves_stop S f q b stop.Died x t c = record { went = c.went; forest = tt; kept = tt; cause = c.cause; died = c.died }
 moves_stop S f q b (stop.Full i j) x t c = record { went = c.went; forest = forest_over f q b x c.working (c.latch ∙ x.latch) c.kept t; kept = registers_over f q b c.kept; cause = c.cause; died = c.died }
 moves_stop S f q b (stop.CountFull i j) x t c = record { went = c.went; forest = forest_over f q b x c.working (c.latch ∙ x.latch) c.kept t; kept = registers_over f q b c.kept; cause = c.cause; died = c.died }
 moves_stop S f q b (stop.EraSpent i) x t c = record { went = c.went; forest = forest_over f q b x c.working (c.latch ∙ x.latch) c.kept t; kept = registers_over f q b c.kept; cause = c.cause; died = c.died }
 
 -- nothing was done, or no word step was left
-pub moves_still : (S : Type 0) {T : Type 0} {K : Pool → Pool → Type 0} (f : Registers) (q : Pool) {x y : ℕ} (e : Stop) → IsForest f → CallLeaves {T = S} K (Err e) f.pool q x y → IfRefused {T = S} (Err e) (IsStill f.pool q) → Moves {T = T} (Err e) f (record { pool = q; roots = f.roots; tidy = f.tidy }) x y
+pub moves_still : {hints : Hints} (S : Type 0) {T : Type 0} {K : Pool → Pool → Type 0} (f : Registers) (q : Pool) {x y : ℕ} (e : Stop) → IsForest f → CallLeaves {T = S} hints K (Err e) f.pool q x y → IfRefused {T = S} (Err e) (IsStill f.pool q) → Moves {T = T} hints (Err e) f (record { pool = q; roots = f.roots; tidy = f.tidy }) x y
 moves_still S f q stop.Died x c still = record { went = c.went; forest = tt; kept = tt; cause = c.cause; died = c.died }
 moves_still S f q (stop.Full i j) x c still = moves_stop S f q f.tidy (stop.Full i j) x (λ t k lt free. still.roots k ∙ x.tidy t k lt free) (record { went = c.went; working = c.working; latch = c.latch; kept = λ r lt. root_still (root_at f r) still; cause = c.cause; died = c.died })
 moves_still S f q (stop.CountFull i j) x c still = moves_stop S f q f.tidy (stop.CountFull i j) x (λ t k lt free. still.roots k ∙ x.tidy t k lt free) (record { went = c.went; working = c.working; latch = c.latch; kept = λ r lt. root_still (root_at f r) still; cause = c.cause; died = c.died })
 moves_still S f q (stop.EraSpent i) x c still = moves_stop S f q f.tidy (stop.EraSpent i) x (λ t k lt free. still.roots k ∙ x.tidy t k lt free) (record { went = c.went; working = c.working; latch = c.latch; kept = λ r lt. root_still (root_at f r) still; cause = c.cause; died = c.died })
 
+-- a part without hints, as one with any
+pub moves_by : {hints : Hints} {T : Type 0} {f g : Registers} {x y : ℕ} (o : Result T Stop) → Moves Off o f g x y → Moves hints o f g x y
+moves_by (Ok a) m = record { went = m.went; forest = m.forest; kept = m.kept; cause = tt; died = tt }
+moves_by (Err e) m = record { went = m.went; forest = m.forest; kept = m.kept; cause = stopped_by e m.cause; died = m.died }
+
 -- a part after one that was done
-pub moves_after : {T : Type 0} {f g h : Registers} {x y z : ℕ} (o : Result T Stop) → IsForest f → Went f.pool g.pool x y → KeepsRegisters f g → Moves o g h y z → Moves o f h x z
+pub moves_after : {hints : Hints} {T : Type 0} {f g h : Registers} {x y z : ℕ} (o : Result T Stop) → IsForest f → Went f.pool g.pool x y → KeepsRegisters f g → Moves hints o g h y z → Moves hints o f h x z
 moves_after (Ok a) w m k n = record { went = went_on w.working.run m n.went; forest = n.forest; kept = tt; cause = tt; died = tt }
 moves_after {T = T} {f = f} {g = g} {h = h} (Err e) w m k n =
     record {
@@ -182,7 +187,7 @@ nothing_tree p = record { stands = block_none p 16 (lit≤ tt); search = tt; bal
 
 -- ---- a tree that was made in a root of its own
 
-module _ {y z : ℕ} (g : Registers) (q : Pool) (m : Made) (x : IsForest g) (tidy : IsTidy g) (c : CallLeaves {T = Made} KeepsNamed (Ok m) g.pool q y z) (rooted : IsRooted m.root m.block g.pool q) (some : m.block ≢ 0) where
+module _ {hints : Hints} {y z : ℕ} (g : Registers) (q : Pool) (m : Made) (x : IsForest g) (tidy : IsTidy g) (c : CallLeaves {T = Made} hints KeepsNamed (Ok m) g.pool q y z) (rooted : IsRooted m.root m.block g.pool q) (some : m.block ≢ 0) where
   kept_each : KeepsRoots g.roots g.pool q
   kept_each = registers_named g x c.kept
 
@@ -221,10 +226,10 @@ taken_by ks k true long any e free = let l = any.1 in free any.0 (omega arith) (
 
 -- ---- a line that reads
 
-pub stopped_died : {p q : Pool} {x y : ℕ} (e : Stop) → Went p q x y → e ≡ stop.Died → CallStopped p q e
-stopped_died {p = p} {q = q} e w d = stopped_here e w.run w.start (cause_died p q e d)
+pub stopped_died : {hints : Hints} {p q : Pool} {x y : ℕ} (e : Stop) → Went p q x y → e ≡ stop.Died → CallStopped hints p q e
+stopped_died {hints = hints} {p = p} {q = q} e w d = stopped_here e w.run w.start (cause_died hints p q e d)
 
-pub read_moves : {T : Type 0} {x y : ℕ} (f : Registers) (q : Pool) (o : Result T Stop) → IsForest f → Went f.pool q x y → IfOk o (λ v. IsWorking q) → IfOk o (λ v. IsSameLatch f.pool q) → IfOk o (λ v. IsStill f.pool q) → IfErr o (λ e. (e ≡ stop.Died) × (y ≡ 0)) → Moves o f (record { pool = q; roots = f.roots; tidy = f.tidy }) x y
+pub read_moves : {hints : Hints} {T : Type 0} {x y : ℕ} (f : Registers) (q : Pool) (o : Result T Stop) → IsForest f → Went f.pool q x y → IfOk o (λ v. IsWorking q) → IfOk o (λ v. IsSameLatch f.pool q) → IfOk o (λ v. IsStill f.pool q) → IfErr o (λ e. (e ≡ stop.Died) × (y ≡ 0)) → Moves hints o f (record { pool = q; roots = f.roots; tidy = f.tidy }) x y
 read_moves f q (Ok v) x g w l s d = moves_done v g (forest_over f q f.tidy x w (l ∙ x.latch) (λ r lt. root_still (root_at f r) s) (λ t k lt free. s.roots k ∙ x.tidy t k lt free))
 read_moves {T = T} f q (Err e) x g w l s d =
     let after : Registers = record { pool = q; roots = f.roots; tidy = f.tidy } in
@@ -316,8 +321,8 @@ refused_when T (stop.CountFull b c) h = h (is_over_not (stop.CountFull b c) refl
 refused_when T (stop.EraSpent e) h = h (is_over_not (stop.EraSpent e) refl)
 
 -- a line was refused, and what it left is emptied, or that stopped
-pub undone_moves : {T : Type 0} {f g h : Registers} {x y z : ℕ} (e r : Stop) → IsForest f → e ≢ stop.Died → Moves {T = T} (Err e) f g x y → Went g.pool h.pool y z → (r ≢ stop.Died → IsForest h × KeepsRegisters g h) → (r ≡ e) ⊎ CallStopped g.pool h.pool r → IsOver r z → Moves {T = T} (Err r) f h x z
-undone_moves {T = T} {f = f} {g = g} {h = h} e r w ne m went kept why end =
+pub undone_moves : {hints : Hints} {T : Type 0} {f g h : Registers} {x y z : ℕ} (e r : Stop) → IsForest f → e ≢ stop.Died → Moves {T = T} hints (Err e) f g x y → Went g.pool h.pool y z → (r ≢ stop.Died → IsForest h × KeepsRegisters g h) → (r ≡ e) ⊎ CallStopped Off g.pool h.pool r → IsOver r z → Moves {T = T} hints (Err r) f h x z
+undone_moves {hints = hints} {T = T} {f = f} {g = g} {h = h} e r w ne m went kept why end =
     let first : KeepsRegisters f g = refused_is T e ne m.kept in
     record {
       went = went_on w.working.run m.went went;
@@ -325,8 +330,8 @@ undone_moves {T = T} {f = f} {g = g} {h = h} e r w ne m went kept why end =
       kept = refused_when T r (λ a. registers_then first (kept a).1);
       cause =
           elim why [
-            | inl eq ↦ subst (λ (v : Stop). CallStopped f.pool h.pool v) (sym eq) (stopped_on e m.cause m.went.run m.went.start went.did)
-            | inr s ↦ stopped_after r w.working.run m.went s
+            | inl eq ↦ subst (λ (v : Stop). CallStopped hints f.pool h.pool v) (sym eq) (stopped_on e m.cause m.went.run m.went.start went.did)
+            | inr s ↦ stopped_after r w.working.run m.went (stopped_by r s)
           ];
       died = end;
     }
@@ -334,13 +339,13 @@ undone_moves {T = T} {f = f} {g = g} {h = h} e r w ne m went kept why end =
 -- ---- a key that is taken out
 
 -- no root changed, and all are as tidy as they were
-pub same_forest : {y z : ℕ} {T : Type 0} {a : T} (g : Registers) (q : Pool) → IsForest g → IsTidy g → CallLeaves {T = T} KeepsNamed (Ok a) g.pool q y z → AreSameRoots g.pool q → IsForest (record { pool = q; roots = g.roots; tidy = true })
+pub same_forest : {hints : Hints} {y z : ℕ} {T : Type 0} {a : T} (g : Registers) (q : Pool) → IsForest g → IsTidy g → CallLeaves {T = T} hints KeepsNamed (Ok a) g.pool q y z → AreSameRoots g.pool q → IsForest (record { pool = q; roots = g.roots; tidy = true })
 same_forest g q x tidy c same = forest_over g q true x c.working (c.latch ∙ x.latch) (registers_named g x c.kept) (λ e k lt free. same k ∙ tidy k lt free)
 
-pub same_versions : {y z : ℕ} {T : Type 0} {a : T} (g : Registers) (q : Pool) → IsForest g → CallLeaves {T = T} KeepsNamed (Ok a) g.pool q y z → KeepsVersions g (record { pool = q; roots = g.roots; tidy = true })
+pub same_versions : {hints : Hints} {y z : ℕ} {T : Type 0} {a : T} (g : Registers) (q : Pool) → IsForest g → CallLeaves {T = T} hints KeepsNamed (Ok a) g.pool q y z → KeepsVersions g (record { pool = q; roots = g.roots; tidy = true })
 same_versions g q x c = versions_over g q true (registers_named g x c.kept)
 
-pub same_kept : {y z : ℕ} {T : Type 0} {a : T} (g : Registers) (q : Pool) → IsForest g → CallLeaves {T = T} KeepsNamed (Ok a) g.pool q y z → KeepsRegisters g (record { pool = q; roots = g.roots; tidy = true })
+pub same_kept : {hints : Hints} {y z : ℕ} {T : Type 0} {a : T} (g : Registers) (q : Pool) → IsForest g → CallLeaves {T = T} hints KeepsNamed (Ok a) g.pool q y z → KeepsRegisters g (record { pool = q; roots = g.roots; tidy = true })
 same_kept g q x c = registers_over g q true (registers_named g x c.kept)
 
 -- nothing is left of a tree
@@ -348,7 +353,7 @@ pub cleared_tree : (p : Pool) (t : Tree) → t ≡ Empty → IsTree p (block_in 
 cleared_tree p t e = subst (IsTree p (block_in p 16)) (sym e) (nothing_tree p)
 
 -- what a call left that was done, whatever it answered
-pub calls_ok : {S T : Type 0} {K : Pool → Pool → Type 0} {p q : Pool} {x y : ℕ} {a : T} (b : S) → CallLeaves {T = T} K (Ok a) p q x y → CallLeaves {T = S} K (Ok b) p q x y
+pub calls_ok : {hints : Hints} {S T : Type 0} {K : Pool → Pool → Type 0} {p q : Pool} {x y : ℕ} {a : T} (b : S) → CallLeaves {T = T} hints K (Ok a) p q x y → CallLeaves {T = S} hints K (Ok b) p q x y
 calls_ok b c = record { went = c.went; working = c.working; latch = c.latch; kept = c.kept; cause = tt; died = tt }
 
 -- a removal after which nothing is left of the tree

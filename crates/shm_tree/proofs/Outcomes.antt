@@ -1,12 +1,7 @@
 -- What came of a line, by what its calls answered.
-use Rattle.std.proofs.Common.{◌≡◌, ◌≢◌, ℕ, ◌+◌, ◌<◌, ◌≤◌, Bool, true, false, List, [], refl, arith, sym, ap, ◌∙◌, subst, Result, Ok, Err, true≢false}
-use Rattle.std.specs.Prelude.{IfErr, IfOk, is_ok}
-use Rattle.shm_words.specs.Layout.{GeometryFits}
-use Rattle.shm_graph.specs.declared.run.Start.{Start}
-use Rattle.shm_plain.specs.Pools.{Pool}
-use Rattle.shm_tree.specs.declared.line.{TreeAnswer.TreeAnswer, TreeLine.TreeLine, TreeTurn.TreeTurn}
-use Rattle.shm_tree.specs.{declared.{registers.Registers.Registers, stop.Stop.Stop}, CutShort.{IsCutShort, IsWordless}}
-use Rattle.shm_tree.specs.{Falling.AreFalling, ForestCalls.RanLine}
+use Rattle.shm_tree.specs.declared.{hints.Hints.Hints, line.{TreeAnswer.TreeAnswer, TreeLine.TreeLine}}
+use Rattle.shm_tree.specs.declared.{line.TreeTurn.TreeTurn, registers.Registers.Registers, stop.Stop.Stop}
+use Rattle.shm_tree.specs.{CutShort.{IsCutShort, IsWordless}, Falling.AreFalling, ForestCalls.RanLine}
 use Rattle.shm_tree.specs.Forests.{DoesLine, DoesTurn, HasVersions, IsCaused, IsForest, IsInRange, IsLost, IsOwn, IsReading, IsSwept, IsUnspent, KeepsRegisters, Moves, CallStopped, is_died, turn_by, turn_of}
 use Rattle.shm_tree.specs.{Keeping.AreSameLives, Living.{AreFewNew, AreLivesTrees}, Trees.Tree}
 use Rattle.shm_tree.specs.Costing.{Costs, CostsLine, EndsLine, FewLine, FewSet, IfEnded, IfStopped, SpendsLine, call_steps, line_steps, made_most, new_most, sweep_steps}
@@ -19,6 +14,11 @@ use Rattle.shm_tree.proofs.{Bounding.line_most, Eras.spent_stays, Forests.regist
 use Rattle.shm_tree.proofs.Fresh.{made_few}
 use Rattle.shm_tree.proofs.Refusals.{alive_two, all_of, none_least, refused_three, spends_more, spends_of}
 use Rattle.shm_tree.proofs.Settled.{settled_same, settled_trees}
+use Rattle.std.proofs.Common.{◌≡◌, ◌≢◌, ℕ, ◌+◌, ◌<◌, ◌≤◌, Bool, true, false, List, [], refl, arith, sym, ap, ◌∙◌, subst, Result, Ok, Err, true≢false}
+use Rattle.std.specs.Prelude.{IfErr, IfOk, is_ok}
+use Rattle.shm_words.specs.Layout.{GeometryFits}
+use Rattle.shm_graph.specs.declared.run.Start.{Start}
+use Rattle.shm_plain.specs.Pools.{Pool}
 
 pub outcome_does : (line : TreeLine) (f g : Registers) (o : Result TreeAnswer Stop) → IfOk o (λ a. DoesLine line f g a) → IfErr o (λ e. IsReading line → e ≡ stop.Died) → IfRefused o (KeepsRegisters f g) → DoesTurn line f g (turn_by o)
 outcome_does line f g (Ok a) d r k = d
@@ -27,20 +27,20 @@ outcome_does line f g (Err (stop.Full s b)) d r k = λ ts v. ((λ rd. is_over_no
 outcome_does line f g (Err (stop.CountFull b c)) d r k = λ ts v. ((λ rd. is_over_not (stop.CountFull b c) refl (r rd)), registers_versions k ts v)
 outcome_does line f g (Err (stop.EraSpent e)) d r k = λ ts v. ((λ rd. is_over_not (stop.EraSpent e) refl (r rd)), registers_versions k ts v)
 
-own_caused : (p q : Pool) (a : TreeAnswer) → IsOwn a → IsCaused p q (turns.Done a)
-own_caused p q answers.Ok h = tt
-own_caused p q (answers.Value n) h = tt
-own_caused p q answers.Missing h = tt
-own_caused p q (answers.Full s b) h = absurd h
-own_caused p q (answers.CountFull b c) h = absurd h
-own_caused p q (answers.EraSpent e) h = absurd h
+own_caused : (hints : Hints) (p q : Pool) (a : TreeAnswer) → IsOwn a → IsCaused hints p q (turns.Done a)
+own_caused hints p q answers.Ok h = tt
+own_caused hints p q (answers.Value n) h = tt
+own_caused hints p q answers.Missing h = tt
+own_caused hints p q (answers.Full s b) h = absurd h
+own_caused hints p q (answers.CountFull b c) h = absurd h
+own_caused hints p q (answers.EraSpent e) h = absurd h
 
-pub outcome_caused : (p q : Pool) (o : Result TreeAnswer Stop) → IfOk o IsOwn → IfErr o (λ e. CallStopped p q e) → IsCaused p q (turn_by o)
-outcome_caused p q (Ok a) h s = own_caused p q a h
-outcome_caused p q (Err stop.Died) h s = tt
-outcome_caused p q (Err (stop.Full i j)) h s = s
-outcome_caused p q (Err (stop.CountFull i j)) h s = s
-outcome_caused p q (Err (stop.EraSpent i)) h s = s
+pub outcome_caused : (hints : Hints) (p q : Pool) (o : Result TreeAnswer Stop) → IfOk o IsOwn → IfErr o (λ e. CallStopped hints p q e) → IsCaused hints p q (turn_by o)
+outcome_caused hints p q (Ok a) h s = own_caused hints p q a h
+outcome_caused hints p q (Err stop.Died) h s = tt
+outcome_caused hints p q (Err (stop.Full i j)) h s = s
+outcome_caused hints p q (Err (stop.CountFull i j)) h s = s
+outcome_caused hints p q (Err (stop.EraSpent i)) h s = s
 
 turn_over : (t : TreeTurn) → t ≡ turns.Died → is_died t ≡ true
 turn_over t e = ap is_died e
@@ -116,7 +116,7 @@ few_line (lines.Clear at) f g xf w c few calm trees = λ ts v. few_made f g xf w
 few_same : (line : TreeLine) (f g : Registers) → AreSameLives f.pool g.pool → FewLine line f g
 few_same line f g same = λ ts v. ([], none_least (new_most line ts), λ b live dead. absurd (true≢false (sym live ∙ (same b ∙ dead))))
 
-module _ {x y : ℕ} (line : TreeLine) (f g : Registers) (o : Result TreeAnswer Stop) (xf : IsForest f) (sf : IsSwept f) (ff : AreFalling f.pool) (fg : AreFalling g.pool) (m : Moves o f g x y) (swept : IfAlive o (IsSwept f → IsSwept g)) where
+module _ {hints : Hints} {x y : ℕ} (line : TreeLine) (f g : Registers) (o : Result TreeAnswer Stop) (xf : IsForest f) (sf : IsSwept f) (ff : AreFalling f.pool) (fg : AreFalling g.pool) (m : Moves hints o f g x y) (swept : IfAlive o (IsSwept f → IsSwept g)) where
   -- an own era that isn't spent wasn't so before
   calm_before : IsForest g → IsUnspent g → IsUnspent f
   calm_before xg calm e = calm (spent_stays f.pool g.pool xf.working xg.working m.went e)
@@ -150,9 +150,9 @@ module _ {x y : ℕ} (line : TreeLine) (f g : Registers) (o : Result TreeAnswer 
       by (Err (stop.EraSpent e)) xg w s c d = λ calm. few_same line f g (s calm)
 
 -- all of it, where the client lived
-pub outcome_ran : {x y : ℕ} (line : TreeLine) (f g : Registers) (a b : Bool) (o : Result TreeAnswer Stop) (t : TreeTurn) → IsForest f → IsSwept f → AreFalling f.pool → AreFalling g.pool → IsInRange line → t ≡ turn_by o → b ≡ is_died t → Moves o f g x y → IfAlive o (IsSwept f → IsSwept g) → IfOk o (λ a. DoesLine line f g a) → IfErr o (λ e. IsReading line → e ≡ stop.Died) → IfOk o (λ a. CostsLine line f g x y) → IfOk o (λ a. FewSet line f g) → IfRefused o (EndsLine line f g x y) → IfOk o IsOwn → IfErr o (λ e. e ≡ stop.Died → f.tidy ≡ true → 0 < x → IsUnspent g → IsCutShort line f g) → (f.tidy ≡ true → (ts : List Tree) → HasVersions f ts → IsWordless line ts → is_ok o ≡ true)
-    → RanLine line (record { registers = f; died = a }) (record { registers = g; died = b }) x y t
-outcome_ran {x = x} {y = y} line f g a b o t xf sf ff fg lt is died m swept does reading costs few ended own off idle =
+pub outcome_ran : {hints : Hints} {x y : ℕ} (line : TreeLine) (f g : Registers) (a b : Bool) (o : Result TreeAnswer Stop) (t : TreeTurn) → IsForest f → IsSwept f → AreFalling f.pool → AreFalling g.pool → IsInRange line → t ≡ turn_by o → b ≡ is_died t → Moves hints o f g x y → IfAlive o (IsSwept f → IsSwept g) → IfOk o (λ a. DoesLine line f g a) → IfErr o (λ e. IsReading line → e ≡ stop.Died) → IfOk o (λ a. CostsLine line f g x y) → IfOk o (λ a. FewSet line f g) → IfRefused o (EndsLine line f g x y) → IfOk o IsOwn → IfErr o (λ e. e ≡ stop.Died → f.tidy ≡ true → 0 < x → IsUnspent g → IsCutShort hints line f g) → (f.tidy ≡ true → (ts : List Tree) → HasVersions f ts → IsWordless line ts → is_ok o ≡ true)
+    → RanLine line (record { registers = f; hints = hints; died = a }) (record { registers = g; hints = hints; died = b }) x y t
+outcome_ran {hints = hints} {x = x} {y = y} line f g a b o t xf sf ff fg lt is died m swept does reading costs few ended own off idle =
     record {
       went = m.went;
       does = subst (DoesTurn line f g) (sym is) (outcome_does line f g o does reading m.kept);
@@ -160,10 +160,11 @@ outcome_ran {x = x} {y = y} line f g a b o t xf sf ff fg lt is died m swept does
       lives = subst (λ (u : TreeTurn). IfEnded u (IsUnspent g → AreLivesTrees g.pool)) (sym is) (outcome_lives line f g o xf sf ff fg m swept);
       few = subst (λ (u : TreeTurn). IfEnded u (IsUnspent g → FewLine line f g)) (sym is) (outcome_few line f g o xf sf ff fg m swept costs few);
       same = subst (λ (u : TreeTurn). IfStopped u (IsUnspent g → AreSameLives f.pool g.pool)) (sym is) (outcome_same line f g o xf sf ff fg m swept own);
-      cause = subst (IsCaused f.pool g.pool) (sym is) (outcome_caused f.pool g.pool o own m.cause);
+      cause = subst (IsCaused hints f.pool g.pool) (sym is) (outcome_caused hints f.pool g.pool o own m.cause);
       over = λ e. outcome_over (y ≡ 0) o m.died (sym is ∙ e);
       wordless = λ calm ts v none e. outcome_done o (idle (sf calm) ts v none) (sym is ∙ e);
-      short = λ e calm after some. outcome_over (f.tidy ≡ true → 0 < x → IsUnspent g → IsCutShort line f g) o off (sym is ∙ e) (sf calm) some after;
+      short = λ e calm after some. outcome_over (f.tidy ≡ true → 0 < x → IsUnspent g → IsCutShort hints line f g) o off (sym is ∙ e) (sf calm) some after;
+      hinted = refl;
       died = died;
     }
 

@@ -1,18 +1,19 @@
 -- What calls leave behind which the latch is given back.
-use Rattle.std.proofs.Common.{◌≡◌, ◌≢◌, ℕ, ◌+◌, ◌<◌, ◌≤◌, refl, sym, ◌∙◌, subst, arith, inl, inr, Result, Ok, Err}
-use Rattle.std.specs.{Prelude.{IfErr, IfOk, None, Some}, Result.IsErrAnd}
-use Rattle.shm_words.specs.declared.geometry.Geometry.{Geometry}
-use Rattle.shm_plain.specs.Pools.{Pool, memo_of}
-use Rattle.shm_tree.specs.{declared.stop.Stop.Stop, Building.{Builds, IsCut}, Costing.{Costs, Spends}}
-use Rattle.shm_tree.specs.{Forests.{CallLeaves, KeepsNamed, block_in}, Keeping.HasMade, Living.KeepsLives}
-use Rattle.shm_tree.specs.{Releasing.{IsGivenBack, IsHeldBack, Releases}, Spending.HasSpent, Standing.TreeStands}
-use Rattle.shm_tree.specs.{Trees.Tree, Working.{DiedIn, IfAlive, IfRefused, IsSameLatch, IsUnderWay, IsWorking, Went}}
+use Rattle.shm_tree.specs.{declared.{hints.Hints.Hints, stop.Stop.Stop}, Building.{Builds, IsCut}}
+use Rattle.shm_tree.specs.{Costing.{Costs, Spends}, Forests.{CallLeaves, KeepsNamed, block_in}, Keeping.HasMade}
+use Rattle.shm_tree.specs.{Living.KeepsLives, Releasing.{IsGivenBack, IsHeldBack, Releases}, Spending.HasSpent}
+use Rattle.shm_tree.specs.{Standing.TreeStands, Trees.Tree}
+use Rattle.shm_tree.specs.Working.{DiedIn, IfAlive, IfRefused, IsSameLatch, IsUnderWay, IsWorking, Went}
 use Rattle.shm_tree.specs.declared.stop.Stop.TheVariants as stop
 use Rattle.shm_tree.proofs.{Answering.alive_died, Building.{Looked, alive_any, alive_kept, alive_refused, went_on}}
 use Rattle.shm_tree.proofs.CutShort.{cut_under}
 use Rattle.shm_tree.proofs.Forests.{Quiet, calls_died, cut_still, named_still, named_then, quiet, quiet_then, root_still, stopped_after, stopped_here, stopped_on}
 use Rattle.shm_tree.proofs.Moving.{alive_is, is_over_not, refused_is, refused_when}
 use Rattle.shm_tree.proofs.{Refusals.{spends_more, spends_still, spends_then}, Resting.{rests_still, rests_then}}
+use Rattle.std.proofs.Common.{◌≡◌, ◌≢◌, ℕ, ◌+◌, ◌<◌, ◌≤◌, refl, sym, ◌∙◌, subst, arith, inl, inr, Result, Ok, Err}
+use Rattle.std.specs.{Prelude.{IfErr, IfOk, None, Some}, Result.IsErrAnd}
+use Rattle.shm_words.specs.declared.geometry.Geometry.{Geometry}
+use Rattle.shm_plain.specs.Pools.{Pool, memo_of}
 
 -- ---- how it is taken
 
@@ -37,7 +38,7 @@ releases_held (Ok v) is d h = absurd is
 releases_held {T = T} (Err v) is d h = record { given = alive_died T _ v (is ∙ d); died = λ z. inl h }
 
 -- the latch is held still behind a call that ended
-pub held_on : {T : Type 0} {n i : ℕ} {q r : Pool} {y z : ℕ} (a : Result T Stop) → (memo_of q 0).latch ≡ Some 0 → Builds n i a q r y z → IfAlive a ((memo_of r 0).latch ≡ Some 0)
+pub held_on : {hints : Hints} {T : Type 0} {n i : ℕ} {q r : Pool} {y z : ℕ} (a : Result T Stop) → (memo_of q 0).latch ≡ Some 0 → Builds hints n i a q r y z → IfAlive a ((memo_of r 0).latch ≡ Some 0)
 held_on {q = q} {r = r} a held b = alive_kept {P = IsSameLatch q r} {Q = (memo_of r 0).latch ≡ Some 0} a (λ same. same ∙ held) b.latch
 
 -- ---- by what was answered
@@ -52,7 +53,7 @@ released_refused {T = T} F (Err e) rel f k = refused_when T e (λ alive. let g =
 
 -- ---- a tree was to be built under the latch, between calls that read
 
-module _ {T : Type 0} {n i k d : ℕ} {p q r s : Pool} {x y z w : ℕ} (a : Result T Stop) (wp : IsWorking p) (l : Entered k d p q x y) (b : Builds n i a q r y z) where
+module _ {hints : Hints} {T : Type 0} {n i k d : ℕ} {p q r s : Pool} {x y z w : ℕ} (a : Result T Stop) (wp : IsWorking p) (l : Entered k d p q x y) (b : Builds hints n i a q r y z) where
   -- no word step was left, for that or to give the latch back
   over : (e : Stop) → Releases a (Err e) r s z w → e ≡ stop.Died → Went p s x w × (w ≡ 0) × IsUnderWay s
   over e rel d =
@@ -70,10 +71,10 @@ module _ {T : Type 0} {n i k d : ℕ} {p q r s : Pool} {x y z w : ℕ} (a : Resu
 
   module _ (lp : (memo_of p 0).latch ≡ None) (kept : IfOk a (λ v. KeepsNamed q r)) where
     -- the call was refused, and the latch is given back
-    stopped : (e : Stop) → e ≢ stop.Died → IsGivenBack r s z w × (Err e ≡ a) → CallLeaves {T = T} KeepsNamed (Err e) p s x w
+    stopped : (e : Stop) → e ≢ stop.Died → IsGivenBack r s z w × (Err e ≡ a) → CallLeaves {T = T} hints KeepsNamed (Err e) p s x w
     stopped e alive g =
         let c = g.0 in
-        let h : Builds {T = T} n i (Err e) q r y z = subst (λ (u : Result T Stop). Builds n i u q r y z) (sym g.1) b in
+        let h : Builds {T = T} hints n i (Err e) q r y z = subst (λ (u : Result T Stop). Builds hints n i u q r y z) (sym g.1) b in
         let went = went_on wp.run l.quiet.went b.went in
         record {
           went = went_on wp.run went c.went;
@@ -84,7 +85,7 @@ module _ {T : Type 0} {n i k d : ℕ} {p q r s : Pool} {x y z w : ℕ} (a : Resu
           died = λ d. absurd (alive d);
         }
 
-    pub released_calls : (o : Result T Stop) → Releases a o r s z w → CallLeaves KeepsNamed o p s x w
+    pub released_calls : (o : Result T Stop) → Releases a o r s z w → CallLeaves hints KeepsNamed o p s x w
     released_calls (Ok v) rel =
         let c = rel.given.0 in
         record {
@@ -111,10 +112,10 @@ module _ {n k d : ℕ} {p q r s : Pool} {x y z w : ℕ} (b : Geometry → ℕ) (
       let all : Spends ((0 + n) + 0) ((3 + b p.start.geometry) + 3) p s x w = spends_then (λ (g : Geometry). 3) wp (went_on wp.run l.quiet.went v) c.went first (spends_still 3 c.went c.still (omega (arith, last))) in
       spends_more n (b p.start.geometry + 6) (omega arith) (omega arith) all
 
-  pub released_spends : {T : Type 0} (e : Stop) → e ≢ stop.Died → Builds {T = T} n (b q.start.geometry) (Err e) q r y z → Spends n (b p.start.geometry + 6) p s x w
+  pub released_spends : {hints : Hints} {T : Type 0} (e : Stop) → e ≢ stop.Died → Builds {T = T} hints n (b q.start.geometry) (Err e) q r y z → Spends n (b p.start.geometry + 6) p s x w
   released_spends {T = T} e alive h = spends h.went (refused_is T e alive h.refused).made (alive_is T e alive h.spent)
 
-  pub released_costs : {T : Type 0} {v : T} → Builds {T = T} n (b q.start.geometry) (Ok v) q r y z → HasMade n q r → KeepsLives q r → Costs n (b p.start.geometry + 6) p s x w
+  pub released_costs : {hints : Hints} {T : Type 0} {v : T} → Builds {T = T} hints n (b q.start.geometry) (Ok v) q r y z → HasMade n q r → KeepsLives q r → Costs n (b p.start.geometry + 6) p s x w
   released_costs h made rests =
       let all = spends h.went made h.spent in
       record { made = all.made; spent = all.spent; rests = rests_then p r s h.working c.working c.went (rests_then p q r l.quiet.working h.working h.went (rests_still l.quiet.still) rests) (rests_still c.still) }

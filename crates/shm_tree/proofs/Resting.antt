@@ -1,16 +1,16 @@
 -- Calls after which a tree stands at each live block.
+use Rattle.shm_tree.specs.declared.{hints.Hints.Hints, node.{Content.Content, Pair.Pair, Side.Side}, stop.Stop.Stop}
+use Rattle.shm_tree.specs.{Building.Builds, Living.KeepsLives, Changing.Changes}
+use Rattle.shm_tree.specs.Keeping.{HasTree, IsDropped, IsLinked, IsStill, is_live, node_by}
+use Rattle.shm_tree.specs.{Standing.{TreeStands, word_of}, Trees.{Tree, Empty, Node}}
+use Rattle.shm_tree.specs.Working.{IsSpent, IsWorking, Went}
+use Rattle.shm_tree.proofs.{Eras.spent_stays, Nodes.{body_names, names, working_calm}, Weights.node_left}
 use Rattle.std.proofs.Common.{◌≡◌, ℕ, true, [], sym, ◌∙◌, subst, arith, inl, inr, true≢false, Result, Ok, Err}
 use Rattle.std.proofs.lemmas.Bool.{cases_Bool, cases_eq}
 use Rattle.std.specs.{Prelude.IfOk, List.Contains}
 use Rattle.shm_graph.specs.declared.spot.Spot.{Spot, TheVariants.Body}
 use Rattle.shm_plain.specs.Pools.{Pool, memo_of}
 use Rattle.shm_count.specs.declared.answer.Made.{Made}
-use Rattle.shm_tree.specs.{declared.{node.{Content.Content, Pair.Pair, Side.Side}, stop.Stop.Stop}, Building.Builds}
-use Rattle.shm_tree.specs.{Living.KeepsLives, Changing.Changes}
-use Rattle.shm_tree.specs.Keeping.{HasTree, IsDropped, IsLinked, IsStill, is_live, node_by}
-use Rattle.shm_tree.specs.{Standing.{TreeStands, word_of}, Trees.{Tree, Empty, Node}}
-use Rattle.shm_tree.specs.Working.{IsSpent, IsWorking, Went}
-use Rattle.shm_tree.proofs.{Eras.spent_stays, Nodes.{body_names, names, working_calm}, Weights.node_left}
 
 pub rests_then : (p q r : Pool) {x y : ℕ} → IsWorking q → IsWorking r → Went q r x y → KeepsLives p q → KeepsLives q r → KeepsLives p r
 rests_then p q r wq wr went a b calm d live before =
@@ -73,11 +73,11 @@ module _ (k : ℕ) (p q : Pool) (work : IsWorking q) (d : IsDropped k p q) where
 
 -- ---- after calls that read
 
-pub rests_after : {T : Type 0} {n c x y : ℕ} (o : Result T Stop) (p q r : Pool) → IsWorking q → IsStill p q → Builds n c o q r x y → IfOk o (λ m. KeepsLives q r) → IfOk o (λ m. KeepsLives p r)
+pub rests_after : {hints : Hints} {T : Type 0} {n c x y : ℕ} (o : Result T Stop) (p q r : Pool) → IsWorking q → IsStill p q → Builds hints n c o q r x y → IfOk o (λ m. KeepsLives q r) → IfOk o (λ m. KeepsLives p r)
 rests_after (Ok m) p q r wq s b h = rests_then p q r wq b.working b.went (rests_still s) h
 rests_after (Err e) p q r wq s b h = tt
 
 -- a node that was linked, or not
-pub rests_link : {k x y : ℕ} {L : Pool → Pool → Type 0} (c : Content) (s : Side) (trees : Pair) (o : Result Made Stop) (p q r : Pool) → IsWorking q → IsStill p q → Changes k L o q r x y → IfOk o (λ m. IsLinked c s trees m q r) → HasTree q trees.near → HasTree q trees.far → IfOk o (λ m. KeepsLives p r)
+pub rests_link : {hints : Hints} {k x y : ℕ} {L : Pool → Pool → Type 0} (c : Content) (s : Side) (trees : Pair) (o : Result Made Stop) (p q r : Pool) → IsWorking q → IsStill p q → Changes hints k L o q r x y → IfOk o (λ m. IsLinked c s trees m q r) → HasTree q trees.near → HasTree q trees.far → IfOk o (λ m. KeepsLives p r)
 rests_link c s trees (Ok m) p q r wq st h l near far = rests_then p q r wq h.working h.went (rests_still st) (rests_linked l near far)
 rests_link c s trees (Err e) p q r wq st h l near far = tt

@@ -1,4 +1,7 @@
 -- Where the client of a pool has made few word steps its own era leaves room, and no call was refused since it doesn't.
+use Rattle.shm_tree.specs.{declared.hints.Hints.Hints, Causes.{StopCause, Within}, Forests.CallStopped, Working.IsSpent}
+use Rattle.shm_tree.specs.declared.stop.Stop.TheVariants as stop
+use Rattle.shm_tree.proofs.{Asking.asked_near, Turns.did_leads}
 use Rattle.std.proofs.Common.{◌≡◌, ℕ, zero, suc, ◌+◌, ◌-◌, ◌^◌, ◌<◌, ◌≤◌, ◌⊎◌, List, [], ◌++◌, length, refl, sym, ap, ◌∙◌, subst, arith, inl, inr, Err}
 use Rattle.shm_words.specs.declared.geometry.Geometry.{Geometry}
 use Rattle.shm_graph.specs.declared.{ask.Me.Me, memo.Memo.Memo, run.Start.Start, spot.Spot.Spot}
@@ -13,9 +16,6 @@ use Rattle.shm_count.specs.declared.answer.ShareFault.TheVariants as share
 use Rattle.shm_ref.specs.{DropRoot.{Control.dropping, DropLeaves}, SetRef.Control.setting}
 use Rattle.shm_ref.specs.SetRef.{SetLeaves, SetSpent, aim_of, taken_events, SetSpent.{AtStep, AtTear}}
 use Rattle.shm_ref.specs.declared.answer.SetFault.TheVariants as set
-use Rattle.shm_tree.specs.{Causes.{StopCause, Within}, Forests.CallStopped, Working.IsSpent}
-use Rattle.shm_tree.specs.declared.stop.Stop.TheVariants as stop
-use Rattle.shm_tree.proofs.Turns.{did_leads}
 
 -- the own era
 abbrev era_of : Memo → ℕ
@@ -107,8 +107,8 @@ within_never L p q run who start low says w =
     ]
 
 -- a line of a client that has made few word steps wasn't refused since the own era is spent
-pub few_never : (p q : Pool) (e : ℕ) → IsRun q → q.start ≡ p.start → IsOfOne p.start → steps_made (memo_of q 0) ≤ 2 ^ 46 → CallStopped p q (stop.EraSpent e) → ⊥
-few_never p q e run start one few s = by s.cause
+pub few_never : {hints : Hints} (p q : Pool) (e : ℕ) → IsRun q → q.start ≡ p.start → IsOfOne p.start → steps_made (memo_of q 0) ≤ 2 ^ 46 → CallStopped hints p q (stop.EraSpent e) → ⊥
+few_never {hints = hints} p q e run start one few s = by s.cause
   where
     who : 0 < s.at.start.geometry.clients
     who = subst (λ (z : Start). 0 < z.geometry.clients) (sym s.start) one.who
@@ -122,8 +122,8 @@ few_never p q e run start one few s = by s.cause
     never : (L : Memo → Memo → Trail → List Event → Type 0) → Says L → Within p s.at L → ⊥
     never L = within_never L p s.at s.run one.who s.start low
 
-    by : StopCause p s.at (stop.EraSpent e) → ⊥
-    by (inl (m, xs, long, asked, w)) = never (λ r0 r tr es. AllocGives m r0 r tr (Err (alloc.EraSpent e))) (alloc_says p.start.geometry m e asked.me) w
+    by : StopCause hints p s.at (stop.EraSpent e) → ⊥
+    by (inl (m, xs, long, asked, w)) = never (λ r0 r tr es. AllocGives m r0 r tr (Err (alloc.EraSpent e))) (alloc_says p.start.geometry m e (asked_near hints p.start.geometry xs m asked).me) w
     by (inr (inl (b, i, c, w))) = never (λ r0 r tr es. SetLeaves (setting (member p.start.geometry 0) b i c) r0 r tr es (Err (set.EraSpent e)) × (es ≡ [])) (set_says p.start.geometry b i c e) w
     by (inr (inr (inl (b, w)))) = never (λ r0 r tr es. UpRootLeaves (member p.start.geometry 0) b r0 r tr es (Err (share.EraSpent e))) (share_says p.start.geometry b e) w
     by (inr (inr (inr (k, w)))) = never (λ r0 r tr es. DropLeaves (dropping (member p.start.geometry 0) k) r0 r tr es (Err (record { era = e }))) (drop_says p.start.geometry k (record { era = e })) w

@@ -4,8 +4,8 @@ use Rattle.shm_graph.specs.References.{one_if, sum_below}
 use Rattle.shm_plain.specs.Pools.{Pool, memo_of}
 use Rattle.shm_count.specs.{declared.answer.Made.Made, Roots.root_word}
 use Rattle.shm_tree.specs.declared.{balance.Plan.Plan, node.{Content.Content, Pair.Pair, Side.Side}}
-use Rattle.shm_tree.specs.{declared.{node.Side.TheVariants.{Left, Right}, stop.Stop.Stop}, Causes.StopCause}
-use Rattle.shm_tree.specs.{Keeping.{HasMade, HasTree, node_by, other_side}, Spending.HasSpent}
+use Rattle.shm_tree.specs.declared.{node.Side.TheVariants.{Left, Right}, hints.Hints.Hints, stop.Stop.Stop}
+use Rattle.shm_tree.specs.{Causes.StopCause, Keeping.{HasMade, HasTree, node_by, other_side}, Spending.HasSpent}
 use Rattle.shm_tree.specs.{Standing.{TreeStands, weight}, Trees.{Tree, AreNear, from_left, from_right, height, joined}}
 use Rattle.shm_tree.specs.Working.{DiedIn, IfAlive, IfRefused, IsReached, IsRooted, IsSameLatch, IsWorking, Went}
 
@@ -33,13 +33,13 @@ pub record IsCut (n : ℕ) (p q : Pool) : Type 0 where
   pub made : HasMade n p q
 
 -- A call that builds, in which n blocks are made at most, and c word steps go beside those for blocks that are torn down: what it leaves of the pool p and x word steps is the pool q and y
-pub record Builds {T : Type 0} (n c : ℕ) (r : Result T Stop) (p q : Pool) (x y : ℕ) : Type 0 where
+pub record Builds {T : Type 0} (hints : Hints) (n c : ℕ) (r : Result T Stop) (p q : Pool) (x y : ℕ) : Type 0 where
   pub went : Went p q x y
   pub working : IfAlive r (IsWorking q)
   pub latch : IfAlive r (IsSameLatch p q)
   pub refused : IfRefused r (IsCut n p q)
   pub spent : IfAlive r (HasSpent c p q x y)
-  pub cause : IfErr r (λ e. StopCause p q e)
+  pub cause : IfErr r (λ e. StopCause hints p q e)
   pub died : IfErr r (λ e. DiedIn e p q y)
 
 -- a tree was built: a root that was empty names it, and no other root changed, nor the trees that they name, nor the blocks of those

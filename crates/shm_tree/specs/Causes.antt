@@ -10,8 +10,7 @@ use Rattle.shm_count.specs.declared.answer.ShareFault.TheVariants as share
 use Rattle.shm_ref.specs.{declared.answer.SetFault.SetFault, DropRoot.{Control.dropping, DropLeaves}}
 use Rattle.shm_ref.specs.SetRef.{Control.setting, SetLeaves}
 use Rattle.shm_ref.specs.declared.answer.SetFault.TheVariants as set
-use Rattle.shm_client.specs.Allocating.{IsAsked}
-use Rattle.shm_tree.specs.declared.stop.Stop.{Stop}
+use Rattle.shm_tree.specs.{declared.{hints.Hints.Hints, stop.Stop.Stop}, Asking.IsAskedBy}
 use Rattle.shm_tree.specs.declared.stop.Stop.TheVariants as stop
 
 -- a call between two moments of a line, to both of which turns led, left this
@@ -26,9 +25,9 @@ pub record Within (p q : Pool) (L : Memo → Memo → Trail → List Event → T
   pub leaves : L (memo_of before 0) (memo_of after 0) (memo_of after 0).call told
   pub on : (es : List Event) × Did 0 after q es
 
--- an allocation of a node was refused
-abbrev pub AllocRefused : Pool → Pool → AllocFault → Type 0
-AllocRefused p q x = (m : AllocState) × (xs : List ℕ) × (length xs ≡ 3) × IsAsked p.start.geometry 0 2 xs m × Within p q (λ r0 r tr es. AllocGives m r0 r tr (Err x))
+-- an allocation of a node was refused, whose search began so
+abbrev pub AllocRefused : Hints → Pool → Pool → AllocFault → Type 0
+AllocRefused hints p q x = (m : AllocState) × (xs : List ℕ) × (length xs ≡ 3) × IsAskedBy hints p.start.geometry xs m × Within p q (λ r0 r tr es. AllocGives m r0 r tr (Err x))
 
 -- the setting of a reference was refused, and nothing was done
 abbrev pub SetRefused : Pool → Pool → SetFault → Type 0
@@ -43,8 +42,8 @@ abbrev pub DropRefused : Pool → Pool → EraSpent → Type 0
 DropRefused p q x = (k : ℕ) × Within p q (λ r0 r tr es. DropLeaves (dropping (member p.start.geometry 0) k) r0 r tr es (Err x))
 
 -- the cause of a stop, but for want of word steps
-abbrev pub StopCause : Pool → Pool → Stop → Type 0
-StopCause p q stop.Died = Unit {0}
-StopCause p q (stop.Full s b) = AllocRefused p q (alloc.Full s b)
-StopCause p q (stop.CountFull b c) = SetRefused p q (set.CountFull b c) ⊎ ShareRefused p q (share.CountFull b c)
-StopCause p q (stop.EraSpent e) = AllocRefused p q (alloc.EraSpent e) ⊎ (SetRefused p q (set.EraSpent e) ⊎ (ShareRefused p q (share.EraSpent e) ⊎ DropRefused p q (record { era = e })))
+abbrev pub StopCause : Hints → Pool → Pool → Stop → Type 0
+StopCause hints p q stop.Died = Unit {0}
+StopCause hints p q (stop.Full s b) = AllocRefused hints p q (alloc.Full s b)
+StopCause hints p q (stop.CountFull b c) = SetRefused p q (set.CountFull b c) ⊎ ShareRefused p q (share.CountFull b c)
+StopCause hints p q (stop.EraSpent e) = AllocRefused hints p q (alloc.EraSpent e) ⊎ (SetRefused p q (set.EraSpent e) ⊎ (ShareRefused p q (share.EraSpent e) ⊎ DropRefused p q (record { era = e })))

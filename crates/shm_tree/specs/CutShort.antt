@@ -1,7 +1,7 @@
 -- A line that isn't finished for want of word steps: what shows that one more was to be made.
 use Rattle.std.specs.Prelude.{◌≡◌, ◌≢◌, ℕ, ◌<◌, ◌⊎◌, true, List, Result, IfErr}
-use Rattle.shm_tree.specs.declared.{line.TreeLine.TreeLine, registers.Registers.Registers, stop.Stop.Stop}
-use Rattle.shm_tree.specs.Building.{root_block}
+use Rattle.shm_tree.specs.declared.{hints.Hints.Hints, line.TreeLine.TreeLine, registers.Registers.Registers}
+use Rattle.shm_tree.specs.{declared.stop.Stop.Stop, Building.root_block}
 use Rattle.shm_tree.specs.Forests.{HasVersions, IsFree, IsUnspent, MayBeDone, CallStopped, version}
 use Rattle.shm_tree.specs.{Trees.{Tree, Empty}, Working.{AreSameRoots, IsUnderWay}}
 use Rattle.shm_tree.specs.declared.line.TreeLine.TheVariants as lines
@@ -25,14 +25,14 @@ abbrev pub IsHalfDone : TreeLine → Registers → Registers → Type 0
 IsHalfDone line f g = IsUnderWay g.pool ⊎ (HasSpare g ⊎ IsYetToDo line f g)
 
 -- a call of it was refused
-pub record WasRefused (f g : Registers) : Type 0 where
+pub record WasRefused (hints : Hints) (f g : Registers) : Type 0 where
   pub why : Stop
   pub other : why ≢ stop.Died
-  pub stopped : CallStopped f.pool g.pool why
+  pub stopped : CallStopped hints f.pool g.pool why
 
 -- it isn't done; or it was refused, and roots beside those of registers are being emptied
-abbrev pub IsCutShort : TreeLine → Registers → Registers → Type 0
-IsCutShort line f g = IsHalfDone line f g ⊎ WasRefused f g
+abbrev pub IsCutShort : Hints → TreeLine → Registers → Registers → Type 0
+IsCutShort hints line f g = IsHalfDone line f g ⊎ WasRefused hints f g
 
 -- a part of a line that stopped for want of a word step, of which there were some: where the registers were tidy and the own era isn't spent it is half done
 abbrev pub DiesHalfDone : {T : Type 0} → TreeLine → Result T Stop → Registers → Registers → ℕ → Type 0

@@ -6,8 +6,8 @@ use Rattle.shm_graph.specs.{Agents.acts, Events.Event}
 use Rattle.shm_plain.specs.{Calls.Did, Pools.{IsRun, Pool, memo_of}}
 use Rattle.shm_count.specs.declared.answer.Made.{Made}
 use Rattle.shm_tree.specs.declared.line.{TreeAnswer.TreeAnswer, TreeLine.TreeLine, TreeTurn.TreeTurn}
-use Rattle.shm_tree.specs.declared.{registers.Registers.Registers, remove.Removed.Removed, stop.Stop.Stop}
-use Rattle.shm_tree.specs.{Building.root_block, Causes.StopCause, Falling.AreFalling}
+use Rattle.shm_tree.specs.declared.{hints.Hints.Hints, registers.Registers.Registers, remove.Removed.Removed}
+use Rattle.shm_tree.specs.{declared.stop.Stop.Stop, Building.root_block, Causes.StopCause, Falling.AreFalling}
 use Rattle.shm_tree.specs.{Standing.{IsTree, TreeStands, weight}, Trees.{Tree, Empty, found, inserted, removed}}
 use Rattle.shm_tree.specs.Working.{AreSameRoots, IfAlive, IfRefused, IsOver, IsRooted, IsSameLatch, IsSpent, IsWorking, Went}
 use Rattle.shm_tree.specs.declared.line.TreeAnswer.TheVariants as answers
@@ -99,28 +99,28 @@ pub record KeepsRegisters (f g : Registers) : Type 0 where
   pub roots : KeepsRoots f.roots f.pool g.pool
 
 -- a call between two moments was refused so, and the client came by itself from the first to the second
-pub record CallStopped (p q : Pool) (e : Stop) : Type 0 where
+pub record CallStopped (hints : Hints) (p q : Pool) (e : Stop) : Type 0 where
   pub at : Pool
   pub run : IsRun at
   pub start : at.start ≡ p.start
-  pub cause : StopCause p at e
+  pub cause : StopCause hints p at e
   pub on : (es : List Event) × Did 0 at q es
 
 -- a call on a pool: what it leaves of the pool p and x word steps is the pool q and y. Where word steps were left for it, refused or not, K is kept
-pub record CallLeaves {T : Type 0} (K : Pool → Pool → Type 0) (r : Result T Stop) (p q : Pool) (x y : ℕ) : Type 0 where
+pub record CallLeaves {T : Type 0} (hints : Hints) (K : Pool → Pool → Type 0) (r : Result T Stop) (p q : Pool) (x y : ℕ) : Type 0 where
   pub went : Went p q x y
   pub working : IfAlive r (IsWorking q)
   pub latch : IfAlive r (IsSameLatch p q)
   pub kept : IfAlive r (K p q)
-  pub cause : IfErr r (λ e. CallStopped p q e)
+  pub cause : IfErr r (λ e. CallStopped hints p q e)
   pub died : IfErr r (λ e. IsOver e y)
 
 -- a part of a line: what it leaves of the registers f and x word steps is the registers g and y. Where it was refused each register has its version still, of the same blocks
-pub record Moves {T : Type 0} (r : Result T Stop) (f g : Registers) (x y : ℕ) : Type 0 where
+pub record Moves {T : Type 0} (hints : Hints) (r : Result T Stop) (f g : Registers) (x y : ℕ) : Type 0 where
   pub went : Went f.pool g.pool x y
   pub forest : IfAlive r (IsForest g)
   pub kept : IfRefused r (KeepsRegisters f g)
-  pub cause : IfErr r (λ e. CallStopped f.pool g.pool e)
+  pub cause : IfErr r (λ e. CallStopped hints f.pool g.pool e)
   pub died : IfErr r (λ e. IsOver e y)
 
 -- a root that no register has names a tree, or it is none
@@ -233,6 +233,7 @@ DoesLine line f g answer = (ts : List Tree) → HasVersions f ts → IsAnswered 
 -- a forest without where it lies in memory
 pub record Forested : Type 0 where
   pub registers : Registers
+  pub hints : Hints
   pub died : Bool
 
 -- its pool after a death: turns led there, and the client acted
@@ -279,8 +280,8 @@ DoesTurn line f g turns.Died = Unit {0}
 DoesTurn line f g (turns.Done answer) = DoesLine line f g answer
 
 -- it was refused, if it was, since a call was refused so
-abbrev pub IsCaused : Pool → Pool → TreeTurn → Type 0
-IsCaused p q (turns.Done (answers.Full s b)) = CallStopped p q (stop.Full s b)
-IsCaused p q (turns.Done (answers.CountFull b c)) = CallStopped p q (stop.CountFull b c)
-IsCaused p q (turns.Done (answers.EraSpent e)) = CallStopped p q (stop.EraSpent e)
-IsCaused p q turn = Unit {0}
+abbrev pub IsCaused : Hints → Pool → Pool → TreeTurn → Type 0
+IsCaused hints p q (turns.Done (answers.Full s b)) = CallStopped hints p q (stop.Full s b)
+IsCaused hints p q (turns.Done (answers.CountFull b c)) = CallStopped hints p q (stop.CountFull b c)
+IsCaused hints p q (turns.Done (answers.EraSpent e)) = CallStopped hints p q (stop.EraSpent e)
+IsCaused hints p q turn = Unit {0}

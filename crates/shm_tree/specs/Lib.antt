@@ -9,6 +9,7 @@ pub mod Looking
 pub mod Bounds
 pub mod Tearing
 pub mod Spending
+pub mod Asking
 pub mod Causes
 pub mod Changing
 pub mod Releasing

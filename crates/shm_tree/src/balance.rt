@@ -10,11 +10,12 @@ ghost use Rattle.shm_tree.specs.Sharing.{IsOver, IsFresh, WeighsCrowned, WeighsF
 ghost use Rattle.shm_tree.specs.Working.{IfAlive, IsReached, IsWorking};
 
 use crate::calls::{child, drop_root, height};
+use crate::ground::Ground;
+use crate::hints::Hints;
 use crate::node::{Content, Pair, Side, children, content_of, link};
 use crate::stop::Stop;
 use shm_count::Made;
 use shm_graph::Life;
-use shm_plain::PlainPool;
 
 /// A node that is to be made: what it holds, and the trees on its sides.
 #[derive(Clone, Copy, Debug, Drop)]
@@ -25,7 +26,8 @@ struct Plan {
 
 /// Makes a node with the tree `far`, and with a node on this side that is made below it.
 fn raised(
-    pool: &mut PlainPool,
+    pool: &mut Ground,
+    hints: Hints,
     top: Content,
     side: Side,
     below: Plan,
@@ -38,26 +40,27 @@ fn raised(
     requires near { IsAtHand pool.old below.trees.near }
     requires middle { IsAtHand pool.old below.trees.far }
     requires far { IsAtHand pool.old far }
-    ensures builds { Builds 2 (raised_steps pool.old.start.geometry) result pool.old pool.new life.old.left life.new.left }
+    ensures builds { Builds hints 2 (raised_steps pool.old.start.geometry) result pool.old pool.new life.old.left life.new.left }
     ensures built { IfOk result (λ m. IsBuilt 2 m pool.old pool.new) }
     ensures stands { IfOk result (λ m. StandsRaised top side below far m.block pool.old pool.new) }
     ensures fresh { IfOk result (IsFresh pool.old) }
     ensures rests { IfOk result (λ m. KeepsLives pool.old pool.new) }
     ensures weighs { IfOk result (λ m. WeighsRaised top side below far m.block pool.old pool.new) }
 {
-    let lower = link(pool, below.content, side, below.trees, life)?;
+    let lower = link(pool, hints, below.content, side, below.trees, life)?;
     let trees = Pair {
         near: lower.block,
         far,
     };
-    let made = link(pool, top, side, trees, life)?;
+    let made = link(pool, hints, top, side, trees, life)?;
     drop_root(pool, lower.root, life)?;
     Ok(made)
 }
 
 /// Makes a node with a node on each side, which are made below it; the trees of the one on the other side are told as seen from there.
 fn crowned(
-    pool: &mut PlainPool,
+    pool: &mut Ground,
+    hints: Hints,
     top: Content,
     side: Side,
     near: Plan,
@@ -71,22 +74,23 @@ fn crowned(
     requires near_far { IsAtHand pool.old near.trees.far }
     requires far_near { IsAtHand pool.old far.trees.near }
     requires far_far { IsAtHand pool.old far.trees.far }
-    ensures builds { Builds 3 (crowned_steps pool.old.start.geometry) result pool.old pool.new life.old.left life.new.left }
+    ensures builds { Builds hints 3 (crowned_steps pool.old.start.geometry) result pool.old pool.new life.old.left life.new.left }
     ensures built { IfOk result (λ m. IsBuilt 3 m pool.old pool.new) }
     ensures stands { IfOk result (λ m. StandsCrowned top side near far m.block pool.old pool.new) }
     ensures fresh { IfOk result (IsFresh pool.old) }
     ensures rests { IfOk result (λ m. KeepsLives pool.old pool.new) }
     ensures weighs { IfOk result (λ m. WeighsCrowned top side near far m.block pool.old pool.new) }
 {
-    let lower = link(pool, near.content, side, near.trees, life)?;
-    let made = raised(pool, top, side.other(), far, lower.block, life)?;
+    let lower = link(pool, hints, near.content, side, near.trees, life)?;
+    let made = raised(pool, hints, top, side.other(), far, lower.block, life)?;
     drop_root(pool, lower.root, life)?;
     Ok(made)
 }
 
 /// The tree on the far side is too high: its tree on the far side moves up. `grand` are its trees.
 fn single(
-    pool: &mut PlainPool,
+    pool: &mut Ground,
+    hints: Hints,
     middle: Content,
     side: Side,
     trees: Pair,
@@ -103,7 +107,7 @@ fn single(
     requires grand_far { IsAtHand pool.old grand.far }
     requires near_is { grand.near ≡ child_of pool.old trees.far side }
     requires far_is { grand.far ≡ child_of pool.old trees.far (other_side side) }
-    ensures builds { Builds 2 (turned_steps pool.old.start.geometry) result pool.old pool.new life.old.left life.new.left }
+    ensures builds { Builds hints 2 (turned_steps pool.old.start.geometry) result pool.old pool.new life.old.left life.new.left }
     ensures built { IfOk result (λ m. IsBuilt 2 m pool.old pool.new) }
     ensures stands { IfOk result (λ m. StandsTurned middle side trees m.block pool.old pool.new) }
     ensures fresh { IfOk result (IsFresh pool.old) }
@@ -118,12 +122,13 @@ fn single(
             far: grand.near,
         },
     };
-    raised(pool, top, side, below, grand.far, life)
+    raised(pool, hints, top, side, below, grand.far, life)
 }
 
 /// The tree on the far side is too high, and in it its tree on this side: the node of that one moves up by two.
 fn double(
-    pool: &mut PlainPool,
+    pool: &mut Ground,
+    hints: Hints,
     middle: Content,
     side: Side,
     trees: Pair,
@@ -141,7 +146,7 @@ fn double(
     requires grand_far { IsAtHand pool.old grand.far }
     requires near_is { grand.near ≡ child_of pool.old trees.far side }
     requires far_is { grand.far ≡ child_of pool.old trees.far (other_side side) }
-    ensures builds { Builds 3 (turned_steps pool.old.start.geometry) result pool.old pool.new life.old.left life.new.left }
+    ensures builds { Builds hints 3 (turned_steps pool.old.start.geometry) result pool.old pool.new life.old.left life.new.left }
     ensures built { IfOk result (λ m. IsBuilt 3 m pool.old pool.new) }
     ensures stands { IfOk result (λ m. StandsTurnedTwice middle side trees m.block pool.old pool.new) }
     ensures fresh { IfOk result (IsFresh pool.old) }
@@ -165,12 +170,13 @@ fn double(
             far: parts.far,
         },
     };
-    crowned(pool, top, side, near, far, life)
+    crowned(pool, hints, top, side, near, far, life)
 }
 
 /// The tree on the far side is higher by 2.
 fn rotated(
-    pool: &mut PlainPool,
+    pool: &mut Ground,
+    hints: Hints,
     middle: Content,
     side: Side,
     trees: Pair,
@@ -182,7 +188,7 @@ fn rotated(
     requires near { IsAtHand pool.old trees.near }
     requires far { IsAtHand pool.old trees.far }
     requires some { trees.far ≢ 0 }
-    ensures builds { Builds 3 (rotated_steps pool.old.start.geometry) result pool.old pool.new life.old.left life.new.left }
+    ensures builds { Builds hints 3 (rotated_steps pool.old.start.geometry) result pool.old pool.new life.old.left life.new.left }
     ensures built { IfOk result (λ m. IsBuilt 3 m pool.old pool.new) }
     ensures stands { IfOk result (λ m. StandsOf (from_far side middle) trees m.block pool.old pool.new) }
     ensures fresh { IfOk result (IsFresh pool.old) }
@@ -193,15 +199,16 @@ fn rotated(
     let near = height(pool, grand.near, life)?;
     let far = height(pool, grand.far, life)?;
     if near > far {
-        double(pool, middle, side, trees, grand, life)
+        double(pool, hints, middle, side, trees, grand, life)
     } else {
-        single(pool, middle, side, trees, grand, life)
+        single(pool, hints, middle, side, trees, grand, life)
     }
 }
 
 /// Makes a tree of a key, its number and two trees, `near` on this side, whose heights may differ by 2.
 fn balanced(
-    pool: &mut PlainPool,
+    pool: &mut Ground,
+    hints: Hints,
     middle: Content,
     side: Side,
     trees: Pair,
@@ -212,7 +219,7 @@ fn balanced(
     requires room { 3 ≤ rooms pool.old }
     requires near { IsAtHand pool.old trees.near }
     requires far { IsAtHand pool.old trees.far }
-    ensures builds { Builds 3 (balanced_steps pool.old.start.geometry) result pool.old pool.new life.old.left life.new.left }
+    ensures builds { Builds hints 3 (balanced_steps pool.old.start.geometry) result pool.old pool.new life.old.left life.new.left }
     ensures built { IfOk result (λ m. IsBuilt 3 m pool.old pool.new) }
     ensures stands { IfOk result (λ m. StandsOf (joined_by side middle) trees m.block pool.old pool.new) }
     ensures cheap { IfAlive result (IsCheap trees pool.old pool.new) }
@@ -224,15 +231,15 @@ fn balanced(
     let near = height(pool, trees.near, life)?;
     let far = height(pool, trees.far, life)?;
     if far.saturating_sub(near) > 1 {
-        rotated(pool, middle, side, trees, life)
+        rotated(pool, hints, middle, side, trees, life)
     } else if near.saturating_sub(far) > 1 {
         let turned = Pair {
             near: trees.far,
             far: trees.near,
         };
-        rotated(pool, middle, side.other(), turned, life)
+        rotated(pool, hints, middle, side.other(), turned, life)
     } else {
-        link(pool, middle, side, trees, life)
+        link(pool, hints, middle, side, trees, life)
     }
 }
 
@@ -248,7 +255,8 @@ fn block_of(tree: Option<Made>) -> u32
 
 /// Makes a tree as that of a node, with another key and number, and with another tree on this side, whose root is dropped.
 fn renewed(
-    pool: &mut PlainPool,
+    pool: &mut Ground,
+    hints: Hints,
     node: u32,
     middle: Content,
     side: Side,
@@ -262,7 +270,7 @@ fn renewed(
     requires far { HasTree pool.old (child_of pool.old node (other_side side)) }
     requires reached { IsReached pool.old node }
     requires tree { IfSome tree (IsHeld pool.old) }
-    ensures builds { Builds 3 (renewed_steps pool.old.start.geometry) result pool.old pool.new life.old.left life.new.left }
+    ensures builds { Builds hints 3 (renewed_steps pool.old.start.geometry) result pool.old pool.new life.old.left life.new.left }
     ensures rebuilt { IfOk result (λ m. IsRebuilt 3 tree m pool.old pool.new) }
     ensures stands { IfOk result (λ m. StandsOf (joined_by side middle) (record { near = block_of tree; far = child_of pool.old node (other_side side) }) m.block pool.old pool.new) }
     ensures cheap { IfAlive result (IsCheap (record { near = block_of tree; far = child_of pool.old node (other_side side) }) pool.old pool.new) }
@@ -276,7 +284,7 @@ fn renewed(
         near: block_of(tree),
         far,
     };
-    let made = balanced(pool, middle, side, trees, life)?;
+    let made = balanced(pool, hints, middle, side, trees, life)?;
     match tree {
         None => Ok(made),
         Some(tree) => {
@@ -302,7 +310,8 @@ fn content_or(told: Option<Content>, own: Content) -> Content
 ///
 /// As a call was refused: what roots named they name still, and it stands. A node that was made then may be in a root that was empty.
 pub fn raise(
-    pool: &mut PlainPool,
+    pool: &mut Ground,
+    hints: Hints,
     node: u32,
     wanted: u32,
     told: Option<Content>,
@@ -315,7 +324,7 @@ pub fn raise(
     requires node { IsAtHand pool.old node }
     requires some { node ≢ 0 }
     requires below { IfSome below (IsHeld pool.old) }
-    ensures builds { Builds 3 (raise_steps pool.old.start.geometry) result pool.old pool.new life.old.left life.new.left }
+    ensures builds { Builds hints 3 (raise_steps pool.old.start.geometry) result pool.old pool.new life.old.left life.new.left }
     ensures rebuilt { IfOk result (λ m. IsRebuilt 3 below m pool.old pool.new) }
     ensures stands { IfOk result (λ m. StandsAgain wanted told node (block_of below) m.block pool.old pool.new) }
     ensures cheap { IfAlive result (IsCheapAt wanted node (block_of below) pool.old pool.new) }
@@ -326,5 +335,5 @@ pub fn raise(
 {
     let own = content_of(pool, node, life)?;
     let side = Side::of(wanted, own.key);
-    renewed(pool, node, content_or(told, own), side, below, life)
+    renewed(pool, hints, node, content_or(told, own), side, below, life)
 }

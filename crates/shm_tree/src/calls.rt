@@ -10,19 +10,20 @@ ghost use Rattle.shm_tree.specs.Keeping.{HasNode, HasTree, IsDropped, IsMade, Is
 ghost use Rattle.shm_tree.specs.{Looking.Looks, Standing.{TreeStands, word_of}, Tearing.HasTorn};
 ghost use Rattle.shm_tree.specs.Trees.{Tree as ATree, height as height_of};
 ghost use Rattle.shm_tree.specs.Working.{AreSameRoots, DiedBegun, DiedIn, HasRoom, IfAlive, IfRefused, IsCutOff, IsEmptied, IsInCall, IsReached, IsSameLatch, IsSpent, IsWorking, Reaches, Went};
+ghost use Rattle.shm_tree.specs.declared.hints.Hints.TheVariants.{Off};
 ghost use Rattle.shm_tree.specs.declared.stop.Stop.TheVariants as stop;
 
+use crate::ground::{Ground, allocate};
+use crate::hints::Hints;
 use crate::node::{Content, Side};
 use crate::stop::Stop;
 use shm_alloc::AllocFault;
-use shm_client::allocate;
 use shm_count::Made;
 use shm_graph::Life;
-use shm_plain::PlainPool;
 use shm_ref::{DropRoot, Hold, Look, Read, Release, RootOf, SetFault, SetRef, Share, ShareFault};
 
 /// Takes the own latch, under which the words of nodes are looked at and set.
-pub fn hold(pool: &mut PlainPool, life: &mut Life) -> Result<(), Stop>
+pub fn hold(pool: &mut Ground, life: &mut Life) -> Result<(), Stop>
     requires working { IsWorking pool.old }
     requires latch { (memo_of pool.old 0).latch ≡ None }
     ensures went { Went pool.old pool.new life.old.left life.new.left }
@@ -42,7 +43,7 @@ pub fn hold(pool: &mut PlainPool, life: &mut Life) -> Result<(), Stop>
 }
 
 /// Gives the own latch back. Of what was in reach only what roots name is so still.
-pub fn release(pool: &mut PlainPool, life: &mut Life) -> Result<(), Stop>
+pub fn release(pool: &mut Ground, life: &mut Life) -> Result<(), Stop>
     requires working { IsWorking pool.old }
     requires latch { (memo_of pool.old 0).latch ≡ Some 0 }
     ensures went { Went pool.old pool.new life.old.left life.new.left }
@@ -60,7 +61,7 @@ pub fn release(pool: &mut PlainPool, life: &mut Life) -> Result<(), Stop>
 }
 
 /// What a root names, or 0.
-pub fn root_of(pool: &mut PlainPool, root: u8, life: &mut Life) -> Result<u32, Stop>
+pub fn root_of(pool: &mut Ground, root: u8, life: &mut Life) -> Result<u32, Stop>
     requires working { IsWorking pool.old }
     requires root { root < 16 }
     ensures looks { Looks result pool.old pool.new life.old.left life.new.left }
@@ -78,7 +79,7 @@ pub fn root_of(pool: &mut PlainPool, root: u8, life: &mut Life) -> Result<u32, S
 }
 
 /// The child of a node on a side, or 0.
-pub fn child(pool: &mut PlainPool, node: u32, side: Side, life: &mut Life) -> Result<u32, Stop>
+pub fn child(pool: &mut Ground, node: u32, side: Side, life: &mut Life) -> Result<u32, Stop>
     requires working { IsWorking pool.old }
     requires latch { (memo_of pool.old 0).latch ≡ Some 0 }
     requires node { HasNode pool.old node }
@@ -97,7 +98,7 @@ pub fn child(pool: &mut PlainPool, node: u32, side: Side, life: &mut Life) -> Re
 }
 
 /// Plain word `index` of a node, which has three.
-fn plain(pool: &mut PlainPool, node: u32, index: u8, life: &mut Life) -> Result<u64, Stop>
+fn plain(pool: &mut Ground, node: u32, index: u8, life: &mut Life) -> Result<u64, Stop>
     requires working { IsWorking pool.old }
     requires node { HasNode pool.old node }
     requires reached { IsReached pool.old node }
@@ -115,7 +116,7 @@ fn plain(pool: &mut PlainPool, node: u32, index: u8, life: &mut Life) -> Result<
 }
 
 /// The key of a node.
-pub fn key(pool: &mut PlainPool, node: u32, life: &mut Life) -> Result<u64, Stop>
+pub fn key(pool: &mut Ground, node: u32, life: &mut Life) -> Result<u64, Stop>
     requires working { IsWorking pool.old }
     requires node { HasNode pool.old node }
     requires reached { IsReached pool.old node }
@@ -127,7 +128,7 @@ pub fn key(pool: &mut PlainPool, node: u32, life: &mut Life) -> Result<u64, Stop
 }
 
 /// The number of a node.
-pub fn number(pool: &mut PlainPool, node: u32, life: &mut Life) -> Result<u64, Stop>
+pub fn number(pool: &mut Ground, node: u32, life: &mut Life) -> Result<u64, Stop>
     requires working { IsWorking pool.old }
     requires node { HasNode pool.old node }
     requires reached { IsReached pool.old node }
@@ -139,7 +140,7 @@ pub fn number(pool: &mut PlainPool, node: u32, life: &mut Life) -> Result<u64, S
 }
 
 /// The height of a tree, of which 0 is the empty one.
-pub fn height(pool: &mut PlainPool, tree: u32, life: &mut Life) -> Result<u64, Stop>
+pub fn height(pool: &mut Ground, tree: u32, life: &mut Life) -> Result<u64, Stop>
     requires working { IsWorking pool.old }
     requires tree { HasTree pool.old tree }
     requires reached { IsReached pool.old tree }
@@ -160,18 +161,19 @@ pub fn height(pool: &mut PlainPool, tree: u32, life: &mut Life) -> Result<u64, S
 ///
 /// `Full` or `EraSpent` as the allocation was refused; nothing was done then.
 pub fn make(
-    pool: &mut PlainPool,
+    pool: &mut Ground,
+    hints: Hints,
     content: Content,
     height: u64,
     life: &mut Life,
 ) -> Result<Made, Stop>
     requires working { IsWorking pool.old }
     requires room { HasRoom pool.old }
-    ensures changes { Changes (make_steps pool.old.start.geometry) IsStill result pool.old pool.new life.old.left life.new.left }
+    ensures changes { Changes hints (make_steps pool.old.start.geometry) IsStill result pool.old pool.new life.old.left life.new.left }
     ensures made { IfOk result (λ m. IsMade content height m pool.old pool.new) }
     ensures unnamed { IfOk result (λ m. IsUnnamed pool.new m.block) }
 {
-    match allocate(pool, 0, 2, &[content.key, content.number, height], life) {
+    match allocate(pool, hints, &[content.key, content.number, height], life) {
         Ok(None) => Err(Stop::Died),
         Ok(Some(Ok(made))) => Ok(made),
         Ok(Some(Err(AllocFault::Full { segments, blocks }))) => {
@@ -189,7 +191,7 @@ pub fn make(
 ///
 /// `CountFull` or `EraSpent` as the count step was refused; nothing was done then.
 pub fn refer(
-    pool: &mut PlainPool,
+    pool: &mut Ground,
     node: u32,
     side: Side,
     child: u32,
@@ -203,7 +205,7 @@ pub fn refer(
     requires unnamed { IsUnnamed pool.old node }
     requires reached { IsReached pool.old child }
     requires other { child ≢ node }
-    ensures changes { Changes (refer_steps pool.old.start.geometry) IsStill result pool.old pool.new life.old.left life.new.left }
+    ensures changes { Changes Off (refer_steps pool.old.start.geometry) IsStill result pool.old pool.new life.old.left life.new.left }
     ensures refers { IfOk result (λ u. IsReferring node side child pool.old pool.new) }
     ensures unnamed { IfOk result (λ u. IsUnnamed pool.new node) }
 {
@@ -224,12 +226,12 @@ pub fn refer(
 /// # Errors
 ///
 /// `CountFull` or `EraSpent` as the count step was refused; nothing was done then.
-pub fn share(pool: &mut PlainPool, tree: u32, life: &mut Life) -> Result<Made, Stop>
+pub fn share(pool: &mut Ground, tree: u32, life: &mut Life) -> Result<Made, Stop>
     requires working { IsWorking pool.old }
     requires room { HasRoom pool.old }
     requires some { tree ≢ 0 }
     requires reached { IsReached pool.old tree }
-    ensures changes { Changes (share_steps pool.old.start.geometry) IsStill result pool.old pool.new life.old.left life.new.left }
+    ensures changes { Changes Off (share_steps pool.old.start.geometry) IsStill result pool.old pool.new life.old.left life.new.left }
     ensures block { IfOk result (λ m. m.block ≡ tree) }
     ensures shared { IfOk result (λ m. IsShared m.root tree pool.old pool.new) }
     ensures begun { IfErr result (λ e. e ≡ stop.Died → IsInCall pool.new ⊎ AreSameRoots pool.old pool.new) }
@@ -250,7 +252,7 @@ pub fn share(pool: &mut PlainPool, tree: u32, life: &mut Life) -> Result<Made, S
 ///
 /// `EraSpent` where the own era is spent and the root names its tree still; nothing was done then. Where it is spent in what follows the drop
 /// is done, and nodes that could not be freed are left.
-pub fn drop_root(pool: &mut PlainPool, root: u8, life: &mut Life) -> Result<(), Stop>
+pub fn drop_root(pool: &mut Ground, root: u8, life: &mut Life) -> Result<(), Stop>
     requires working { IsWorking pool.old }
     requires root { root < 16 }
     ensures went { Went pool.old pool.new life.old.left life.new.left }
@@ -263,7 +265,7 @@ pub fn drop_root(pool: &mut PlainPool, root: u8, life: &mut Life) -> Result<(), 
     ensures steps { IfOk result (λ u. (n : ℕ) × HasTorn root n pool.old pool.new × (life.old.left ≤ life.new.left + drop_steps pool.old.start.geometry n)) }
     ensures refused_steps { IfRefused result (life.old.left ≤ life.new.left + drop_steps pool.old.start.geometry 0) }
     ensures spent { IfRefused result (IsSpent (memo_of pool.new 0)) }
-    ensures cause { IfErr result (λ e. StopCause pool.old pool.new e) }
+    ensures cause { IfErr result (λ e. StopCause Off pool.old pool.new e) }
     ensures died { IfErr result (λ e. DiedIn e pool.old pool.new life.new.left) }
     ensures begun { IfErr result (λ e. DiedBegun e pool.old pool.new life.old.left) }
 {

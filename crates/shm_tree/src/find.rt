@@ -7,10 +7,10 @@ ghost use Rattle.shm_tree.specs.Trees.{Tree as ATree, IsSearch, found, height};
 ghost use Rattle.shm_tree.specs.{Ways.{IsDeep, IsEnd, IsLast, IsPlace, down}, Working.{IsReached, IsWorking}};
 
 use crate::calls::{child, key, number};
+use crate::ground::Ground;
 use crate::node::Side;
 use crate::stop::Stop;
 use shm_graph::Life;
-use shm_plain::PlainPool;
 
 /// A place in a tree: a node, or 0 where there is none, and how many nodes stand above it.
 #[derive(Clone, Copy, Debug, Drop)]
@@ -20,7 +20,7 @@ pub struct Place {
 }
 
 /// The place of a key in a tree: its node, or where it would stand.
-pub fn find(pool: &mut PlainPool, tree: u32, wanted: u32, life: &mut Life) -> Result<Place, Stop>
+pub fn find(pool: &mut Ground, tree: u32, wanted: u32, life: &mut Life) -> Result<Place, Stop>
     requires working { IsWorking pool.old }
     requires latch { (memo_of pool.old 0).latch ≡ Some 0 }
     requires tree { IsAtHand pool.old tree }
@@ -46,7 +46,7 @@ pub fn find(pool: &mut PlainPool, tree: u32, wanted: u32, life: &mut Life) -> Re
 
 /// The block so many nodes down on the way to a key, or 0.
 pub fn above(
-    pool: &mut PlainPool,
+    pool: &mut Ground,
     tree: u32,
     wanted: u32,
     depth: u32,
@@ -72,7 +72,7 @@ pub fn above(
 
 /// The lowest node on the way to the key of a node, which goes on to the greater keys there: that of the next greater key, or the node itself where
 /// nothing is on its right.
-pub fn last(pool: &mut PlainPool, place: Place, life: &mut Life) -> Result<Place, Stop>
+pub fn last(pool: &mut Ground, place: Place, life: &mut Life) -> Result<Place, Stop>
     requires working { IsWorking pool.old }
     requires latch { (memo_of pool.old 0).latch ≡ Some 0 }
     requires some { place.node ≢ 0 }
@@ -99,7 +99,7 @@ pub fn last(pool: &mut PlainPool, place: Place, life: &mut Life) -> Result<Place
 
 /// The number at a key of a tree, where it has the key.
 pub fn number_at(
-    pool: &mut PlainPool,
+    pool: &mut Ground,
     tree: u32,
     wanted: u32,
     life: &mut Life,

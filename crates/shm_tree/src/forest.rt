@@ -3,13 +3,15 @@
 ghost use Rattle.std.specs.Prelude.{◌≡◌, ◌<◌, ◌≤◌, ◌^◌, true, false, List, Err, IfErr, IfOk, is_ok};
 ghost use Rattle.shm_graph.specs.{Agents.steps_made, References.live_count, Spots.see};
 ghost use Rattle.shm_plain.specs.Pools.{Pool as APool, memo_of};
-ghost use Rattle.shm_tree.specs.{Ending.HasEnded, ForestCalls.{IsClosedForest, IsFirstForest, RanLine}};
+ghost use Rattle.shm_tree.specs.{Ending.HasEnded, ForestCalls.{IsBegunForest, IsClosedForest, IsFirstForest, RanLine}};
 ghost use Rattle.shm_tree.specs.Forests.{HasVersions, IsInRange, is_died, turn_by, version};
-ghost use Rattle.shm_tree.specs.Trees.{Tree as ATree, size};
+ghost use Rattle.shm_tree.specs.{Trees.{Tree as ATree, size}, declared.hints.Hints.TheVariants.On};
 ghost use Rattle.shm_tree.specs.declared.line.TreeTurn.TheVariants as turns;
 
 use crate::closing::finish;
 use crate::counting::{block_in, live_blocks, size_of};
+use crate::ground::Ground;
+use crate::hints::Hints;
 use crate::line::{TreeAnswer, TreeLine, TreeTurn};
 use crate::registers::{NONE, Registers};
 use crate::stop::Stop;
@@ -25,6 +27,7 @@ use std::marker::Model;
 #[derive(Drop)]
 pub struct Forest {
     registers: Registers,
+    hints: Hints,
     /// Whether a run was answered by Died.
     died: bool,
 }
@@ -34,9 +37,9 @@ impl Model for Forest {
 
     ghost Value = { Forested };
 
-    ghost view = { λ f. record { registers = f.registers; died = f.died } };
+    ghost view = { λ f. record { registers = f.registers; hints = f.hints; died = f.died } };
 
-    ghost invariant = { λ f. IsSound (record { registers = f.registers; died = f.died }) };
+    ghost invariant = { λ f. IsSound (record { registers = f.registers; hints = f.hints; died = f.died }) };
 }
 
 /// What came of a line.
@@ -62,19 +65,41 @@ impl Forest {
         requires segments { (1 ≤ segments) × (segments ≤ 256) }
         ensures { IfOk result (IsFirstForest segments) }
     {
+        Forest::begin(alloc, segments, Hints::Off)
+    }
+
+    /// The same, with a hint for the next node: the search for its block begins behind the node that was made last, and now and then at the pool's
+    /// first block again. That trades room for word steps: sets and removals take far fewer, and pages and segments that are free are taken before
+    /// blocks that were freed. A set is refused as full where it would be without: each block was looked at.
+    pub fn make_near(alloc: Global, segments: u16) -> Result<Forest, AllocError>
+        requires segments { (1 ≤ segments) × (segments ≤ 256) }
+        ensures { IfOk result (IsBegunForest On segments) }
+    {
+        Forest::begin(alloc, segments, Hints::On)
+    }
+
+    /// A pool of one client, with or without hints.
+    fn begin(alloc: Global, segments: u16, hints: Hints) -> Result<Forest, AllocError>
+        requires segments { (1 ≤ segments) × (segments ≤ 256) }
+        ensures { IfOk result (IsBegunForest hints segments) }
+    {
         let Ok(geometry) = Geometry::new(1, segments) else {
             unreachable!()
         };
         let mut life = Life::of(1);
         match joined(alloc, geometry, 1, false, &mut life, 0)? {
-            Some(pool) => Ok(Forest {
-                registers: Registers {
-                    pool,
-                    roots: [NONE; 12],
-                    tidy: true,
-                },
-                died: false,
-            }),
+            Some(pool) => {
+                let ground = Ground::new(pool);
+                Ok(Forest {
+                    registers: Registers {
+                        pool: ground,
+                        roots: [NONE; 12],
+                        tidy: true,
+                    },
+                    hints,
+                    died: false,
+                })
+            }
             None => unreachable!(),
         }
     }
@@ -89,7 +114,7 @@ impl Forest {
         if self.died {
             return TreeTurn::Died;
         }
-        let turn = turn_by(self.registers.run(line, life));
+        let turn = turn_by(self.registers.run(self.hints, line, life));
         self.died = is_died(turn);
         turn
     }
@@ -100,7 +125,7 @@ impl Forest {
         requires at { at < 12 }
         ensures { (ts : List ATree) → HasVersions self.now.registers ts → result ≡ size (version ts at) }
     {
-        let pool = &self.registers.pool;
+        let pool = self.registers.pool.pool();
         let root = self.registers.roots[at as usize];
         size_of(pool, block_in(pool, root))
     }
@@ -109,7 +134,7 @@ impl Forest {
     pub fn nodes(&self) -> u32
         ensures { result ≡ live_count self.now.registers.pool.start.geometry (see self.now.registers.pool.start.geometry self.now.registers.pool.words) }
     {
-        live_blocks(&self.registers.pool)
+        live_blocks(self.registers.pool.pool())
     }
 
     /// Recovers the client where it died or its own era is spent, otherwise has it leave, and closes the pool.
@@ -122,6 +147,6 @@ impl Forest {
         ensures spent { IfErr result (λ e. (q : APool) × HasEnded self.died self.registers.pool q (Err e)) }
         ensures roomy { steps_made (memo_of self.registers.pool 0) ≤ 2 ^ 46 → is_ok result ≡ true }
     {
-        finish(self.registers.pool, self.died)
+        finish(self.registers.pool.into_pool(), self.died)
     }
 }

@@ -11,14 +11,15 @@ ghost use Rattle.shm_tree.specs.Working.{IsReached, IsSpent, IsWorking};
 
 use crate::balance::raise;
 use crate::find::{above, find};
+use crate::ground::Ground;
+use crate::hints::Hints;
 use crate::node::{Content, Pair, Side, children, link};
 use crate::stop::Stop;
 use shm_count::Made;
 use shm_graph::Life;
-use shm_plain::PlainPool;
 
 /// The trees of a node, the left one first; none where there is no node.
-fn trees_of(pool: &mut PlainPool, node: u32, life: &mut Life) -> Result<Pair, Stop>
+fn trees_of(pool: &mut Ground, node: u32, life: &mut Life) -> Result<Pair, Stop>
     requires working { IsWorking pool.old }
     requires latch { (memo_of pool.old 0).latch ≡ Some 0 }
     requires node { IsAtHand pool.old node }
@@ -38,12 +39,18 @@ fn trees_of(pool: &mut PlainPool, node: u32, life: &mut Life) -> Result<Pair, St
 }
 
 /// Makes the node of a key at its place, with the trees of the node that stands there.
-fn lowest(pool: &mut PlainPool, node: u32, content: Content, life: &mut Life) -> Result<Made, Stop>
+fn lowest(
+    pool: &mut Ground,
+    hints: Hints,
+    node: u32,
+    content: Content,
+    life: &mut Life,
+) -> Result<Made, Stop>
     requires working { IsWorking pool.old }
     requires latch { (memo_of pool.old 0).latch ≡ Some 0 }
     requires room { 1 ≤ rooms pool.old }
     requires node { IsAtHand pool.old node }
-    ensures builds { Builds 1 (lowest_steps pool.old.start.geometry) result pool.old pool.new life.old.left life.new.left }
+    ensures builds { Builds hints 1 (lowest_steps pool.old.start.geometry) result pool.old pool.new life.old.left life.new.left }
     ensures built { IfOk result (λ m. IsBuilt 1 m pool.old pool.new) }
     ensures stands { IfOk result (λ m. StandsLowest content.key content.number node m.block pool.old pool.new) }
     ensures fresh { IfOk result (IsFresh pool.old) }
@@ -51,7 +58,7 @@ fn lowest(pool: &mut PlainPool, node: u32, content: Content, life: &mut Life) ->
     ensures weighs { IfOk result (λ m. WeighsLowest content.key content.number node m.block pool.old pool.new) }
 {
     let trees = trees_of(pool, node, life)?;
-    link(pool, content, Side::Left, trees, life)
+    link(pool, hints, content, Side::Left, trees, life)
 }
 
 /// Makes a tree as this one, with the number at the key.
@@ -60,7 +67,8 @@ fn lowest(pool: &mut PlainPool, node: u32, content: Content, life: &mut Life) ->
 ///
 /// As a call was refused: what roots named they name still, and it stands. Nodes that were made then may be in roots that were empty.
 pub fn insert(
-    pool: &mut PlainPool,
+    pool: &mut Ground,
+    hints: Hints,
     tree: u32,
     wanted: u32,
     number: u64,
@@ -70,7 +78,7 @@ pub fn insert(
     requires latch { (memo_of pool.old 0).latch ≡ Some 0 }
     requires room { 4 ≤ rooms pool.old }
     requires tree { IsRegistered pool.old tree }
-    ensures builds { (t : ATree) → TreeStands pool.old tree t → Builds (height t + 3) (insert_steps (height t) pool.old.start.geometry) result pool.old pool.new life.old.left life.new.left }
+    ensures builds { (t : ATree) → TreeStands pool.old tree t → Builds hints (height t + 3) (insert_steps (height t) pool.old.start.geometry) result pool.old pool.new life.old.left life.new.left }
     ensures built { IfOk result (λ m. (t : ATree) → TreeStands pool.old tree t → IsBuilt (height t + 3) m pool.old pool.new) }
     ensures steps { IfOk result (λ m. (t : ATree) → TreeStands pool.old tree t → (IsSpent (memo_of pool.new 0) → ⊥) → AreLivesTrees pool.old → life.old.left ≤ life.new.left + insert_steps (height t) pool.old.start.geometry + tear_steps pool.old.start.geometry.wide (height t + 3)) }
     ensures stands { IfOk result (λ m. (t : ATree) → TreeStands pool.old tree t → TreeStands pool.new m.block (inserted wanted number t)) }
@@ -83,12 +91,12 @@ pub fn insert(
         key: u64::from(wanted),
         number,
     };
-    let mut made = lowest(pool, place.node, content, life)?;
+    let mut made = lowest(pool, hints, place.node, content, life)?;
     let mut depth = place.depth;
     'levels: while depth > 0 {
         depth -= 1;
         let node = above(pool, tree, wanted, depth, life)?;
-        made = raise(pool, node, wanted, None, Some(made), life)?;
+        made = raise(pool, hints, node, wanted, None, Some(made), life)?;
     }
     Ok(made)
 }

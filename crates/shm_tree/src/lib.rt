@@ -10,6 +10,8 @@ mod closing;
 mod counting;
 mod find;
 mod forest;
+mod ground;
+mod hints;
 mod insert;
 mod judge;
 mod laws;

@@ -8,10 +8,11 @@ ghost use Rattle.shm_tree.specs.Keeping.{HasGrown, HasNode, HasTree, IsLinked, c
 ghost use Rattle.shm_tree.specs.{Looking.Looks, Standing.word_of, Working.{HasRoom, IsReached, IsWorking}};
 
 use crate::calls::{child, height, key, make, number, refer};
+use crate::ground::Ground;
+use crate::hints::Hints;
 use crate::stop::Stop;
 use shm_count::Made;
 use shm_graph::Life;
-use shm_plain::PlainPool;
 
 /// A side of a node.
 #[derive(Clone, Copy, Debug, PartialEq, Eq, Drop)]
@@ -68,7 +69,7 @@ pub struct Pair {
 }
 
 /// The key and the number of a node.
-pub fn content_of(pool: &mut PlainPool, node: u32, life: &mut Life) -> Result<Content, Stop>
+pub fn content_of(pool: &mut Ground, node: u32, life: &mut Life) -> Result<Content, Stop>
     requires working { IsWorking pool.old }
     requires node { HasNode pool.old node }
     requires reached { IsReached pool.old node }
@@ -83,7 +84,7 @@ pub fn content_of(pool: &mut PlainPool, node: u32, life: &mut Life) -> Result<Co
 }
 
 /// The children of a node, the one on this side first.
-pub fn children(pool: &mut PlainPool, node: u32, side: Side, life: &mut Life) -> Result<Pair, Stop>
+pub fn children(pool: &mut Ground, node: u32, side: Side, life: &mut Life) -> Result<Pair, Stop>
     requires working { IsWorking pool.old }
     requires latch { (memo_of pool.old 0).latch ≡ Some 0 }
     requires node { HasNode pool.old node }
@@ -106,7 +107,8 @@ pub fn children(pool: &mut PlainPool, node: u32, side: Side, life: &mut Life) ->
 ///
 /// `Full`, `CountFull` or `EraSpent` as a call was refused. A node that was made then is in a root that was empty.
 pub fn link(
-    pool: &mut PlainPool,
+    pool: &mut Ground,
+    hints: Hints,
     content: Content,
     side: Side,
     trees: Pair,
@@ -119,13 +121,13 @@ pub fn link(
     requires near_reached { IsReached pool.old trees.near }
     requires far { HasTree pool.old trees.far }
     requires far_reached { IsReached pool.old trees.far }
-    ensures changes { Changes (link_steps pool.old.start.geometry) (HasGrown 1) result pool.old pool.new life.old.left life.new.left }
+    ensures changes { Changes hints (link_steps pool.old.start.geometry) (HasGrown 1) result pool.old pool.new life.old.left life.new.left }
     ensures linked { IfOk result (λ m. IsLinked content side trees m pool.old pool.new) }
 {
     let near = height(pool, trees.near, life)?;
     let far = height(pool, trees.far, life)?;
     let high = 1 + near.max(far);
-    let made = make(pool, content, high, life)?;
+    let made = make(pool, hints, content, high, life)?;
     refer(pool, made.block, side, trees.near, life)?;
     refer(pool, made.block, side.other(), trees.far, life)?;
     Ok(made)

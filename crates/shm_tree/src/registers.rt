@@ -10,11 +10,14 @@ ghost use Rattle.shm_tree.specs.Forests.{CallLeaves, DoesLine, HasVersions, IsFo
 ghost use Rattle.shm_tree.specs.{Keeping.IsStill, Looking.Looks, Releasing.Releases, Standing.{IsTree, TreeStands}};
 ghost use Rattle.shm_tree.specs.Trees.{Empty, Tree as ATree, found, height, inserted, removed};
 ghost use Rattle.shm_tree.specs.Working.{AreSameRoots, DiedBegun, IfAlive, IfRefused, IsInCall, IsOver, IsReached, IsRooted, IsSameLatch, IsSpent, IsUnderWay, IsWorking, Went};
+ghost use Rattle.shm_tree.specs.declared.hints.Hints.TheVariants.{Off};
 ghost use Rattle.shm_tree.specs.declared.line.TreeLine.TheVariants as lines;
 ghost use Rattle.shm_tree.specs.declared.stop.Stop.TheVariants as stop;
 
 use crate::calls::{hold, release, root_of, share};
 use crate::find::number_at;
+use crate::ground::Ground;
+use crate::hints::Hints;
 use crate::insert::insert;
 use crate::line::{TreeAnswer, TreeLine};
 use crate::remove::{Removed, remove};
@@ -22,7 +25,6 @@ use crate::stop::Stop;
 use crate::sweeping::{emptied, swept};
 use shm_count::Made;
 use shm_graph::Life;
-use shm_plain::PlainPool;
 
 /// The root of an empty register.
 pub const NONE: u8 = 16;
@@ -30,7 +32,7 @@ pub const NONE: u8 = 16;
 /// Twelve registers, each with a tree of its own in a root, or empty.
 #[derive(Drop)]
 pub struct Registers {
-    pub pool: PlainPool,
+    pub pool: Ground,
     /// The root of each register's tree, and 16 where it is empty.
     pub roots: [u8; 12],
     /// Whether all roots beside those of registers are empty.
@@ -38,7 +40,7 @@ pub struct Registers {
 }
 
 /// The block that a root names, or 0; there is none where it is 16.
-fn tree_in(pool: &mut PlainPool, root: u8, life: &mut Life) -> Result<u32, Stop>
+fn tree_in(pool: &mut Ground, root: u8, life: &mut Life) -> Result<u32, Stop>
     requires working { IsWorking pool.old }
     requires root { root ≤ 16 }
     ensures looks { Looks result pool.old pool.new life.old.left life.new.left }
@@ -54,7 +56,7 @@ fn tree_in(pool: &mut PlainPool, root: u8, life: &mut Life) -> Result<u32, Stop>
 }
 
 /// The number at a key of the tree in a root, where it has the key.
-fn read(pool: &mut PlainPool, root: u8, key: u32, life: &mut Life) -> Result<Option<u64>, Stop>
+fn read(pool: &mut Ground, root: u8, key: u32, life: &mut Life) -> Result<Option<u64>, Stop>
     requires working { IsWorking pool.old }
     requires latch { (memo_of pool.old 0).latch ≡ None }
     requires root { root ≤ 16 }
@@ -76,11 +78,7 @@ fn read(pool: &mut PlainPool, root: u8, key: u32, life: &mut Life) -> Result<Opt
 
 /// Gives the latch back behind a call that ended, done or refused, and answers as it. Where that stopped for want of a word step there is none for
 /// this either.
-fn released<T: Drop>(
-    pool: &mut PlainPool,
-    answer: Result<T, Stop>,
-    life: &mut Life,
-) -> Result<T, Stop>
+fn released<T: Drop>(pool: &mut Ground, answer: Result<T, Stop>, life: &mut Life) -> Result<T, Stop>
     requires working { IfAlive answer (IsWorking pool.old) }
     requires latch { IfAlive answer ((memo_of pool.old 0).latch ≡ Some 0) }
     ensures { Releases answer result pool.old pool.new life.old.left life.new.left }
@@ -102,7 +100,8 @@ fn released<T: Drop>(
 
 /// Makes a tree as that of a root, with the number at the key.
 fn planted(
-    pool: &mut PlainPool,
+    pool: &mut Ground,
+    hints: Hints,
     root: u8,
     key: u32,
     number: u64,
@@ -114,7 +113,7 @@ fn planted(
     requires root { root ≤ 16 }
     requires tree { (t : ATree) × IsTree pool.old (block_in pool.old root) t }
     ensures off { IfErr result (λ e. e ≡ stop.Died → 0 < life.old.left → IsUnderWay pool.new) }
-    ensures calls { CallLeaves KeepsNamed result pool.old pool.new life.old.left life.new.left }
+    ensures calls { CallLeaves hints KeepsNamed result pool.old pool.new life.old.left life.new.left }
     ensures rooted { IfOk result (λ m. IsRooted m.root m.block pool.old pool.new) }
     ensures some { IfOk result (λ m. m.block ≢ 0) }
     ensures is { IfOk result (λ m. (t : ATree) → IsTree pool.old (block_in pool.old root) t → IsTree pool.new m.block (inserted key number t)) }
@@ -124,18 +123,18 @@ fn planted(
 {
     hold(pool, life)?;
     let tree = tree_in(pool, root, life)?;
-    let made = insert(pool, tree, key, number, life);
+    let made = insert(pool, hints, tree, key, number, life);
     released(pool, made, life)
 }
 
 /// A further root for the tree of a root.
-fn copied(pool: &mut PlainPool, root: u8, life: &mut Life) -> Result<Made, Stop>
+fn copied(pool: &mut Ground, root: u8, life: &mut Life) -> Result<Made, Stop>
     requires working { IsWorking pool.old }
     requires room { 4 ≤ rooms pool.old }
     requires root { root < 16 }
     requires some { root_block pool.old root ≢ 0 }
     ensures off { IfErr result (λ e. e ≡ stop.Died → IsInCall pool.new ⊎ AreSameRoots pool.old pool.new) }
-    ensures calls { CallLeaves KeepsNamed result pool.old pool.new life.old.left life.new.left }
+    ensures calls { CallLeaves Off KeepsNamed result pool.old pool.new life.old.left life.new.left }
     ensures rooted { IfOk result (λ m. IsRooted m.root m.block pool.old pool.new) }
     ensures some { IfOk result (λ m. m.block ≢ 0) }
     ensures is { IfOk result (λ m. (t : ATree) → TreeStands pool.old (root_block pool.old root) t → TreeStands pool.new m.block t) }
@@ -148,7 +147,8 @@ fn copied(pool: &mut PlainPool, root: u8, life: &mut Life) -> Result<Made, Stop>
 
 /// Makes a tree as that of a root, without the key; none where it has no such key.
 fn pruned(
-    pool: &mut PlainPool,
+    pool: &mut Ground,
+    hints: Hints,
     root: u8,
     key: u32,
     life: &mut Life,
@@ -159,14 +159,14 @@ fn pruned(
     requires root { root ≤ 16 }
     requires tree { (t : ATree) × IsTree pool.old (block_in pool.old root) t }
     ensures off { IfErr result (λ e. e ≡ stop.Died → 0 < life.old.left → IsUnderWay pool.new) }
-    ensures calls { CallLeaves KeepsNamed result pool.old pool.new life.old.left life.new.left }
+    ensures calls { CallLeaves hints KeepsNamed result pool.old pool.new life.old.left life.new.left }
     ensures pruned { IfOk result (λ o. IsPruned key root o pool.old pool.new) }
     ensures costs { IfOk result (λ o. (t : ATree) → IsTree pool.old (block_in pool.old root) t → Costs (3 * height t) (pruned_steps (height t) pool.old.start.geometry) pool.old pool.new life.old.left life.new.left) }
     ensures refused { IfRefused result ((t : ATree) → IsTree pool.old (block_in pool.old root) t → Spends (3 * height t) (pruned_steps (height t) pool.old.start.geometry) pool.old pool.new life.old.left life.new.left) }
 {
     hold(pool, life)?;
     let tree = tree_in(pool, root, life)?;
-    let removed = remove(pool, tree, key, life);
+    let removed = remove(pool, hints, tree, key, life);
     released(pool, removed, life)
 }
 
@@ -179,7 +179,7 @@ impl Registers {
     pub fn sweep(&mut self, life: &mut Life) -> Result<(), Stop>
         requires forest { IsForest self.old }
         ensures idle { self.old.tidy ≡ true → (is_ok result ≡ true) × (self.new ≡ self.old) × (life.new.left ≡ life.old.left) }
-        ensures moves { Moves result self.old self.new life.old.left life.new.left }
+        ensures moves { Moves Off result self.old self.new life.old.left life.new.left }
         ensures same { IfOk result (λ u. KeepsRegisters self.old self.new) }
         ensures roots { self.new.roots ≡ self.old.roots }
         ensures tidy { IfOk result (λ u. IsTidy self.new) }
@@ -209,7 +209,7 @@ impl Registers {
         ensures begun { IfErr result (λ e. DiedBegun e self.old.pool self.new.pool life.old.left) }
         ensures kept { IfErr result (λ e. self.new.roots ≡ self.old.roots) }
         ensures idle { root_at self.old at ≡ 16 → is_ok result ≡ true }
-        ensures moves { Moves result self.old self.new life.old.left life.new.left }
+        ensures moves { Moves Off result self.old self.new life.old.left life.new.left }
         ensures put { IfOk result (λ u. IsPut at root self.old self.new) }
         ensures costs { IfOk result (λ u. Costs 0 (drop_steps self.old.pool.start.geometry 0) self.old.pool self.new.pool life.old.left life.new.left) }
         ensures left { IfOk result (λ u. (k : ℕ) → k < 16 → IsFree self.new.roots k → (k ≢ root) × IsLeft self.old self.new k) }
@@ -235,7 +235,7 @@ impl Registers {
         requires alone { (k : ℕ) → k < 16 → k ≢ root → IsFree self.old.roots k → root_block self.old.pool k ≡ 0 }
         ensures begun { IfErr result (λ e. DiedBegun e self.old.pool self.new.pool life.old.left) }
         ensures kept { IfErr result (λ e. self.new.roots ≡ self.old.roots) }
-        ensures moves { Moves result self.old self.new life.old.left life.new.left }
+        ensures moves { Moves Off result self.old self.new life.old.left life.new.left }
         ensures put { IfOk result (λ u. IsPut at root self.old self.new) }
         ensures costs { IfOk result (λ u. Costs 0 (drop_steps self.old.pool.start.geometry 0) self.old.pool self.new.pool life.old.left life.new.left) }
         ensures told { IfOk result (λ u. self.new.tidy ≡ true) }
@@ -251,7 +251,7 @@ impl Registers {
         requires forest { IsForest self.old }
         requires at { at < 12 }
         ensures off { DiesHalfDone (lines.Get at key) result self.old self.new life.old.left }
-        ensures moves { Moves result self.old self.new life.old.left life.new.left }
+        ensures moves { Moves Off result self.old self.new life.old.left life.new.left }
         ensures died { IfErr result (λ e. e ≡ stop.Died) }
         ensures is { IfOk result (λ o. (ts : List ATree) → HasVersions self.old ts → (o ≡ found key (version ts at)) × HasVersions self.new ts) }
         ensures costs { IfOk result (λ o. (ts : List ATree) → HasVersions self.old ts → Costs 0 (read_steps (height (version ts at))) self.old.pool self.new.pool life.old.left life.new.left) }
@@ -263,6 +263,7 @@ impl Registers {
     /// A register gets the version of another one with the number at the key.
     pub fn set(
         &mut self,
+        hints: Hints,
         to: u8,
         from: u8,
         key: u32,
@@ -273,7 +274,7 @@ impl Registers {
         requires to { to < 12 }
         requires from { from < 12 }
         ensures off { DiesHalfDone (lines.Set to from key number) result self.old self.new life.old.left }
-        ensures moves { Moves result self.old self.new life.old.left life.new.left }
+        ensures moves { Moves hints result self.old self.new life.old.left life.new.left }
         ensures done { IfOk result (λ u. (ts : List ATree) → HasVersions self.old ts → HasVersions self.new (slice_set ts to (inserted key number (version ts from)))) }
         ensures costs { IfOk result (λ u. (ts : List ATree) → HasVersions self.old ts → Costs (height (version ts from) + 3) (set_steps (height (version ts from)) self.old.pool.start.geometry) self.old.pool self.new.pool life.old.left life.new.left) }
         ensures few { IfOk result (λ u. (ts : List ATree) → HasVersions self.old ts → MakesFew (height (version ts from) + 1) self.old.pool self.new.pool) }
@@ -282,7 +283,14 @@ impl Registers {
     {
         self.sweep(life)?;
         self.tidy = false;
-        let made = planted(&mut self.pool, self.roots[from as usize], key, number, life)?;
+        let made = planted(
+            &mut self.pool,
+            hints,
+            self.roots[from as usize],
+            key,
+            number,
+            life,
+        )?;
         self.put(to, made.root, life)
     }
 
@@ -293,7 +301,7 @@ impl Registers {
         requires from { from < 12 }
         ensures off { DiesHalfDone (lines.Copy to from) result self.old self.new life.old.left }
         ensures idle { self.old.tidy ≡ true → root_at self.old to ≡ 16 → root_at self.old from ≡ 16 → is_ok result ≡ true }
-        ensures moves { Moves result self.old self.new life.old.left life.new.left }
+        ensures moves { Moves Off result self.old self.new life.old.left life.new.left }
         ensures done { IfOk result (λ u. (ts : List ATree) → HasVersions self.old ts → HasVersions self.new (slice_set ts to (version ts from))) }
         ensures costs { IfOk result (λ u. Costs 0 (copy_steps self.old.pool.start.geometry) self.old.pool self.new.pool life.old.left life.new.left) }
         ensures told { IfOk result (λ u. self.new.tidy ≡ true) }
@@ -315,7 +323,7 @@ impl Registers {
         requires at { at < 12 }
         ensures off { DiesHalfDone (lines.Clear at) result self.old self.new life.old.left }
         ensures idle { root_at self.old at ≡ 16 → is_ok result ≡ true }
-        ensures moves { Moves result self.old self.new life.old.left life.new.left }
+        ensures moves { Moves Off result self.old self.new life.old.left life.new.left }
         ensures done { IfOk result (λ u. (ts : List ATree) → HasVersions self.old ts → HasVersions self.new (slice_set ts at Empty)) }
         ensures costs { IfOk result (λ u. Costs 0 (drop_steps self.old.pool.start.geometry 0) self.old.pool self.new.pool life.old.left life.new.left) }
         ensures told { self.new.tidy ≡ self.old.tidy }
@@ -325,12 +333,19 @@ impl Registers {
     }
 
     /// A register gets the version of another one without the key; false where that one has no such key.
-    pub fn del(&mut self, to: u8, from: u8, key: u32, life: &mut Life) -> Result<bool, Stop>
+    pub fn del(
+        &mut self,
+        hints: Hints,
+        to: u8,
+        from: u8,
+        key: u32,
+        life: &mut Life,
+    ) -> Result<bool, Stop>
         requires forest { IsForest self.old }
         requires to { to < 12 }
         requires from { from < 12 }
         ensures off { DiesHalfDone (lines.Del to from key) result self.old self.new life.old.left }
-        ensures moves { Moves result self.old self.new life.old.left life.new.left }
+        ensures moves { Moves hints result self.old self.new life.old.left life.new.left }
         ensures missing { result ≡ Ok false → (ts : List ATree) → HasVersions self.old ts → (found key (version ts from) ≡ None) × HasVersions self.new ts }
         ensures done { result ≡ Ok true → (ts : List ATree) → HasVersions self.old ts → (is_some (found key (version ts from)) ≡ true) × HasVersions self.new (slice_set ts to (removed key (version ts from))) }
         ensures costs { IfOk result (λ b. (ts : List ATree) → HasVersions self.old ts → Costs (3 * height (version ts from)) (del_steps (height (version ts from)) self.old.pool.start.geometry) self.old.pool self.new.pool life.old.left life.new.left) }
@@ -339,7 +354,7 @@ impl Registers {
     {
         self.sweep(life)?;
         self.tidy = false;
-        match pruned(&mut self.pool, self.roots[from as usize], key, life)? {
+        match pruned(&mut self.pool, hints, self.roots[from as usize], key, life)? {
             None => {
                 self.tidy = true;
                 Ok(false)
@@ -357,12 +372,17 @@ impl Registers {
     }
 
     /// Runs a line.
-    pub fn answer(&mut self, line: &TreeLine, life: &mut Life) -> Result<TreeAnswer, Stop>
+    pub fn answer(
+        &mut self,
+        hints: Hints,
+        line: &TreeLine,
+        life: &mut Life,
+    ) -> Result<TreeAnswer, Stop>
         requires forest { IsForest self.old }
         requires line { IsInRange line.now }
         ensures off { DiesHalfDone line.now result self.old self.new life.old.left }
         ensures idle { self.old.tidy ≡ true → (ts : List ATree) → HasVersions self.old ts → IsWordless line.now ts → is_ok result ≡ true }
-        ensures moves { Moves result self.old self.new life.old.left life.new.left }
+        ensures moves { Moves hints result self.old self.new life.old.left life.new.left }
         ensures does { IfOk result (λ a. DoesLine line.now self.old self.new a) }
         ensures costs { IfOk result (λ a. CostsLine line.now self.old self.new life.old.left life.new.left) }
         ensures few { IfOk result (λ a. FewSet line.now self.old self.new) }
@@ -378,11 +398,11 @@ impl Registers {
                 key,
                 number,
             } => {
-                self.set(to, from, key, number, life)?;
+                self.set(hints, to, from, key, number, life)?;
                 Ok(TreeAnswer::Ok)
             }
             TreeLine::Del { to, from, key } => {
-                let was = self.del(to, from, key, life)?;
+                let was = self.del(hints, to, from, key, life)?;
                 if was {
                     Ok(TreeAnswer::Ok)
                 } else {
@@ -413,7 +433,7 @@ impl Registers {
         requires alive { why ≢ stop.Died }
         ensures went { Went self.old.pool self.new.pool life.old.left life.new.left }
         ensures kept { result ≢ stop.Died → IsForest self.new × KeepsRegisters self.old self.new }
-        ensures why { (result ≡ why) ⊎ CallStopped self.old.pool self.new.pool result }
+        ensures why { (result ≡ why) ⊎ CallStopped Off self.old.pool self.new.pool result }
         ensures died { IsOver result life.new.left }
         ensures spends { result ≢ stop.Died → Spends 0 (sweep_steps self.old.pool.start.geometry) self.old.pool self.new.pool life.old.left life.new.left }
         ensures swept { result ≢ stop.Died → IsSwept self.new }
@@ -425,12 +445,17 @@ impl Registers {
     }
 
     /// Runs a line. Where it is refused all roots beside those of registers are empty again, unless that is refused too.
-    pub fn run(&mut self, line: &TreeLine, life: &mut Life) -> Result<TreeAnswer, Stop>
+    pub fn run(
+        &mut self,
+        hints: Hints,
+        line: &TreeLine,
+        life: &mut Life,
+    ) -> Result<TreeAnswer, Stop>
         requires forest { IsForest self.old }
         requires line { IsInRange line.now }
-        ensures off { IfErr result (λ e. e ≡ stop.Died → self.old.tidy ≡ true → 0 < life.old.left → IsUnspent self.new → IsCutShort line.now self.old self.new) }
+        ensures off { IfErr result (λ e. e ≡ stop.Died → self.old.tidy ≡ true → 0 < life.old.left → IsUnspent self.new → IsCutShort hints line.now self.old self.new) }
         ensures idle { self.old.tidy ≡ true → (ts : List ATree) → HasVersions self.old ts → IsWordless line.now ts → is_ok result ≡ true }
-        ensures moves { Moves result self.old self.new life.old.left life.new.left }
+        ensures moves { Moves hints result self.old self.new life.old.left life.new.left }
         ensures does { IfOk result (λ a. DoesLine line.now self.old self.new a) }
         ensures costs { IfOk result (λ a. CostsLine line.now self.old self.new life.old.left life.new.left) }
         ensures few { IfOk result (λ a. FewSet line.now self.old self.new) }
@@ -439,7 +464,7 @@ impl Registers {
         ensures swept { IfAlive result (IsSwept self.old → IsSwept self.new) }
         ensures refused { IfRefused result (EndsLine line.now self.old self.new life.old.left life.new.left) }
     {
-        match self.answer(line, life) {
+        match self.answer(hints, line, life) {
             Ok(answer) => Ok(answer),
             Err(why) => {
                 if why.is_over() {

@@ -4,7 +4,7 @@ ghost use Rattle.std.specs.Prelude.{◌≡◌, ◌≢◌, ◌+◌, ◌*◌, ◌�
 ghost use Rattle.shm_graph.specs.Bounds.{tear_steps};
 ghost use Rattle.shm_plain.specs.Pools.{memo_of};
 ghost use Rattle.shm_tree.specs.Bounds.{remnant_steps, remove_steps, share_steps};
-ghost use Rattle.shm_tree.specs.declared.node.Side.TheVariants.{Left, Right};
+ghost use Rattle.shm_tree.specs.declared.{node.Side.TheVariants.{Left, Right}, hints.Hints.TheVariants.Off};
 ghost use Rattle.shm_tree.specs.{Building.{Builds, IsAtHand, block_of, rooms}, Inserting.IsRegistered};
 ghost use Rattle.shm_tree.specs.{Keeping.child_of, Looking.Looks, Living.{AreFewNew, AreLivesTrees, KeepsLives}};
 ghost use Rattle.shm_tree.specs.{Removing.{IsKept, IsRemoved, StandsMoved, content_in}, Standing.TreeStands};
@@ -13,11 +13,12 @@ ghost use Rattle.shm_tree.specs.{Trees.{Tree as ATree, height}, Working.{IsSpent
 use crate::balance::raise;
 use crate::calls::{child, share};
 use crate::find::{Place, above, find, last};
+use crate::ground::Ground;
+use crate::hints::Hints;
 use crate::node::{Content, Side, content_of};
 use crate::stop::Stop;
 use shm_count::Made;
 use shm_graph::Life;
-use shm_plain::PlainPool;
 
 /// What a removal made of a tree.
 #[derive(Clone, Copy, Debug, Drop)]
@@ -27,11 +28,11 @@ pub struct Removed {
 }
 
 /// A further root for a tree; none for the empty one.
-fn shared(pool: &mut PlainPool, tree: u32, life: &mut Life) -> Result<Option<Made>, Stop>
+fn shared(pool: &mut Ground, tree: u32, life: &mut Life) -> Result<Option<Made>, Stop>
     requires working { IsWorking pool.old }
     requires room { 1 ≤ rooms pool.old }
     requires tree { IsAtHand pool.old tree }
-    ensures builds { Builds 0 (share_steps pool.old.start.geometry) result pool.old pool.new life.old.left life.new.left }
+    ensures builds { Builds Off 0 (share_steps pool.old.start.geometry) result pool.old pool.new life.old.left life.new.left }
     ensures kept { IfOk result (λ o. IsKept 0 o pool.old pool.new) }
     ensures stands { IfOk result (λ o. StandsMoved tree (block_of o) pool.old pool.new) }
     ensures rests { IfOk result (λ o. KeepsLives pool.old pool.new) }
@@ -44,18 +45,13 @@ fn shared(pool: &mut PlainPool, tree: u32, life: &mut Life) -> Result<Option<Mad
 }
 
 /// A further root for the tree on a side of a node.
-fn remnant(
-    pool: &mut PlainPool,
-    node: u32,
-    side: Side,
-    life: &mut Life,
-) -> Result<Option<Made>, Stop>
+fn remnant(pool: &mut Ground, node: u32, side: Side, life: &mut Life) -> Result<Option<Made>, Stop>
     requires working { IsWorking pool.old }
     requires latch { (memo_of pool.old 0).latch ≡ Some 0 }
     requires room { 1 ≤ rooms pool.old }
     requires node { IsAtHand pool.old node }
     requires some { node ≢ 0 }
-    ensures builds { Builds 0 (remnant_steps pool.old.start.geometry) result pool.old pool.new life.old.left life.new.left }
+    ensures builds { Builds Off 0 (remnant_steps pool.old.start.geometry) result pool.old pool.new life.old.left life.new.left }
     ensures kept { IfOk result (λ o. IsKept 0 o pool.old pool.new) }
     ensures stands { IfOk result (λ o. StandsMoved (child_of pool.old node side) (block_of o) pool.old pool.new) }
     ensures rests { IfOk result (λ o. KeepsLives pool.old pool.new) }
@@ -78,7 +74,7 @@ fn staying(place: Place, lowest: Place) -> Side
 
 /// The next greater key and its number; none where nothing is on the right of the key's node.
 fn next_of(
-    pool: &mut PlainPool,
+    pool: &mut Ground,
     place: Place,
     lowest: Place,
     life: &mut Life,
@@ -111,7 +107,8 @@ fn lifted(depth: u32, place: Place, next: Option<Content>) -> Option<Content>
 ///
 /// As a call was refused: what roots named they name still, and it stands. Nodes that were made then may be in roots that were empty.
 pub fn remove(
-    pool: &mut PlainPool,
+    pool: &mut Ground,
+    hints: Hints,
     tree: u32,
     wanted: u32,
     life: &mut Life,
@@ -120,7 +117,7 @@ pub fn remove(
     requires latch { (memo_of pool.old 0).latch ≡ Some 0 }
     requires room { 4 ≤ rooms pool.old }
     requires tree { IsRegistered pool.old tree }
-    ensures builds { (t : ATree) → TreeStands pool.old tree t → Builds (3 * height t) (remove_steps (height t) pool.old.start.geometry) result pool.old pool.new life.old.left life.new.left }
+    ensures builds { (t : ATree) → TreeStands pool.old tree t → Builds hints (3 * height t) (remove_steps (height t) pool.old.start.geometry) result pool.old pool.new life.old.left life.new.left }
     ensures removed { IfOk result (λ o. (t : ATree) → TreeStands pool.old tree t → IsRemoved wanted t o pool.old pool.new) }
     ensures steps { IfOk result (λ o. (t : ATree) → TreeStands pool.old tree t → (IsSpent (memo_of pool.new 0) → ⊥) → AreLivesTrees pool.old → life.old.left ≤ life.new.left + remove_steps (height t) pool.old.start.geometry + tear_steps pool.old.start.geometry.wide (3 * height t)) }
     ensures rests { IfOk result (λ o. KeepsLives pool.old pool.new) }
@@ -138,7 +135,7 @@ pub fn remove(
         depth -= 1;
         let node = above(pool, tree, wanted, depth, life)?;
         let told = lifted(depth, place, next);
-        let over = raise(pool, node, wanted, told, made, life)?;
+        let over = raise(pool, hints, node, wanted, told, made, life)?;
         made = Some(over);
     }
     Ok(Some(Removed { tree: made }))

@@ -5,19 +5,20 @@ ghost use Rattle.shm_plain.specs.Pools.{memo_of};
 ghost use Rattle.shm_tree.specs.{Bounds.drop_steps, Building.root_block, Costing.{Costs, Spends, sweep_steps}};
 ghost use Rattle.shm_tree.specs.{Forests.{CallLeaves, IsFree, KeepsOthers, KeepsRoots}, Keeping.IsStill};
 ghost use Rattle.shm_tree.specs.Working.{DiedBegun, IfRefused, IsSpent, IsWorking};
+ghost use Rattle.shm_tree.specs.declared.hints.Hints.TheVariants.{Off};
 
 use crate::calls::drop_root;
+use crate::ground::Ground;
 use crate::registers::NONE;
 use crate::stop::Stop;
 use shm_graph::Life;
-use shm_plain::PlainPool;
 
 /// Empties a root, unless it is one of these.
-fn drop_other(pool: &mut PlainPool, roots: [u8; 12], root: u8, life: &mut Life) -> Result<(), Stop>
+fn drop_other(pool: &mut Ground, roots: [u8; 12], root: u8, life: &mut Life) -> Result<(), Stop>
     requires working { IsWorking pool.old }
     requires long { length roots ≡ 12 }
     requires root { root < 16 }
-    ensures calls { CallLeaves (KeepsRoots roots) result pool.old pool.new life.old.left life.new.left }
+    ensures calls { CallLeaves Off (KeepsRoots roots) result pool.old pool.new life.old.left life.new.left }
     ensures others { IfOk result (λ u. (k : ℕ) → k ≢ root → root_block pool.new k ≡ root_block pool.old k) }
     ensures empty { IfOk result (λ u. IsFree roots root → root_block pool.new root ≡ 0) }
     ensures costs { IfOk result (λ u. Costs 0 (drop_steps pool.old.start.geometry 0) pool.old pool.new life.old.left life.new.left) }
@@ -36,10 +37,10 @@ fn drop_other(pool: &mut PlainPool, roots: [u8; 12], root: u8, life: &mut Life) 
 /// # Errors
 ///
 /// As a drop was refused: what is in these roots stands still.
-pub fn swept(pool: &mut PlainPool, roots: [u8; 12], life: &mut Life) -> Result<(), Stop>
+pub fn swept(pool: &mut Ground, roots: [u8; 12], life: &mut Life) -> Result<(), Stop>
     requires working { IsWorking pool.old }
     requires long { length roots ≡ 12 }
-    ensures calls { CallLeaves (KeepsRoots roots) result pool.old pool.new life.old.left life.new.left }
+    ensures calls { CallLeaves Off (KeepsRoots roots) result pool.old pool.new life.old.left life.new.left }
     ensures empty { IfOk result (λ u. (k : ℕ) → k < 16 → IsFree roots k → root_block pool.new k ≡ 0) }
     ensures costs { IfOk result (λ u. Costs 0 (sweep_steps pool.old.start.geometry) pool.old pool.new life.old.left life.new.left) }
     ensures refused { IfRefused result (Spends 0 (sweep_steps pool.old.start.geometry) pool.old pool.new life.old.left life.new.left) }
@@ -56,12 +57,12 @@ pub fn swept(pool: &mut PlainPool, roots: [u8; 12], life: &mut Life) -> Result<(
 /// # Errors
 ///
 /// As the drop was refused; nothing was done then.
-pub fn emptied(pool: &mut PlainPool, root: u8, life: &mut Life) -> Result<(), Stop>
+pub fn emptied(pool: &mut Ground, root: u8, life: &mut Life) -> Result<(), Stop>
     requires working { IsWorking pool.old }
     requires root { root ≤ 16 }
     ensures begun { IfErr result (λ e. DiedBegun e pool.old pool.new life.old.left) }
     ensures idle { root ≡ 16 → is_ok result ≡ true }
-    ensures calls { CallLeaves (KeepsOthers root) result pool.old pool.new life.old.left life.new.left }
+    ensures calls { CallLeaves Off (KeepsOthers root) result pool.old pool.new life.old.left life.new.left }
     ensures others { IfOk result (λ u. (k : ℕ) → k ≢ root → root_block pool.new k ≡ root_block pool.old k) }
     ensures empty { IfOk result (λ u. root < 16 → root_block pool.new root ≡ 0) }
     ensures still { IfRefused result (IsStill pool.old pool.new) }

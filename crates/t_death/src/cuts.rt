@@ -122,23 +122,23 @@ pub struct Left {
 
 /// Whether a put showed its answer when its client was cut, and whether it had answered.
 #[derive(Drop)]
-struct Cut {
+struct Shown {
     shown: bool,
     answered: bool,
 }
 
 /// A client that puts a number at the key 5 is cut after so many word steps.
-fn cut_put(pool: &mut Pool, me: Me, number: u64, death: u32) -> Option<Cut>
+fn cut_put(pool: &mut Pool, me: Me, number: u64, death: u32) -> Option<Shown>
     requires geometry { GeometryFits me.geometry }
     requires who { me.who < me.geometry.clients }
 {
     let mut put = Command::new(me, &Line::Put { key: 5, number });
     let worked = work(pool, me, &mut put, death);
-    let cut = Cut {
+    let shown = Shown {
         shown: put.effect().is_some(),
         answered: put.finished(),
     };
-    if worked.is_some() { Some(cut) } else { None }
+    if worked.is_some() { Some(shown) } else { None }
 }
 
 /// A client of a pool of one identity that puts a number is cut after so many word steps and recovered, where recoverers of these lives
@@ -155,7 +155,7 @@ pub fn cut_alone(
     };
     let me = Me::new(geometry, 0);
     let mut pool = Pool::new(alloc, geometry)?;
-    let Some(Cut { shown, answered }) = cut_put(&mut pool, me, number, death) else {
+    let Some(Shown { shown, answered }) = cut_put(&mut pool, me, number, death) else {
         return Ok(None);
     };
     let Some(died) = recover(&mut pool, me, lives) else {

@@ -1,181 +1,66 @@
-//! Deaths after every word step of an operation, and the recoveries after them.
+//! Deaths after every word step of an operation, and the recoveries after them, by the rows of standard input.
 //!
-//! For each operation, from a prepared pool of one to three identities, a line tells how many word steps it makes, how many recoveries there
-//! were, and one number that is made of all of them: of the word steps of the operation up to the death, of what another identity did then,
-//! of those of the recoverers, and of all words that they left. After each death there is one recovery at once, and others where the first
-//! recoverer dies after 1, 2, 5, 17 or 40 word steps. What the lines must be (the file stdout) was computed by an independent
-//! implementation. Where a recovery leaves what it mustn't (rules.rt) the program stops with status 1. All of it is done in pools of format 1,
-//! and then in pools of format 2.
+//! A line `# ..` names what follows, and is told again. An operation is cut by these lines:
 //!
-//! Then the rows of standard input are told: deaths within one put, with more deaths of recoverers (rows.rt).
+//! - `pool CLIENTS SEGMENTS`: a pool of these sizes that all identities joined.
+//! - `before WHO OP, OP ..`: what an identity makes there before, such as `alloc 0 77, send 1 121`; blocks and slots have the addresses of
+//!   format 1. `run COMMAND` is a command of a table, such as `run put 5 77`.
+//! - `between WHO COMMAND`: what another identity runs between the death and the recovery.
+//! - `cut WHO OP`: the operation.
 //!
-//! `rt run t_death -- each` has a line for each death of an operation instead, with deaths of the first recoverer after each of its word
-//! steps, and reads no rows.
+//! Two lines tell of it, for a pool of format 1 and for one of format 2: how many word steps it makes, how many recoveries there were, and one
+//! number that is made of all of them: of the word steps of the operation up to the death, of what another identity did then, of those of the
+//! recoverers, and of all words that they left. After each death there is one recovery at once, and others where the first recoverer dies after
+//! 1, 2, 5, 17 or 40 word steps. `rt run t_death -- each` has a line for each death instead, with deaths of the first recoverer after each of
+//! its word steps.
+//!
+//! The other rows are of deaths within one put, with more deaths of recoverers (rows.rt). What must be told (the file stdout) was computed by
+//! independent implementations. Where a recovery leaves what it mustn't (rules.rt) the program stops with status 1.
 #![tactic(auto)]
 
-ghost use Rattle.std.specs.Prelude.{◌<◌};
-ghost use Rattle.shm_words.specs.Layout.{GeometryFits};
-
-mod cases;
+mod case;
 mod cuts;
 mod mends;
 mod op;
 mod pool;
+mod reading;
 mod references;
 mod rows;
 mod rules;
 mod trial;
+mod trials;
 
-use cases::GROUPS;
-use pool::Pool;
-use rows::tell_rows;
-use shm_graph::Me;
-use shm_words::Geometry;
-use std::alloc::{AllocError, Global};
+use case::Case;
+use rows::tell_row;
 use std::process::ExitCode;
 use std::{env, io};
-use t_runs::{Sum, geometry};
-use trial::{Case, Group, attempt, length, prepare};
+use trials::tell_cut;
 
-/// After how many word steps a first recoverer dies; 0 is one that doesn't.
-const SECOND: [u32; 6] = [0, 1, 2, 5, 17, 40];
-
-/// How many trials there were, and one number for all of them.
-#[derive(Drop)]
-struct Trials {
-    count: u64,
-    sum: Sum,
-}
-
-impl Trials {
-    /// Before the first one.
-    fn new() -> Trials {
-        let sum = Sum::new();
-        Trials { count: 0, sum }
-    }
-
-    /// One more; how many word steps its first recoverer made, none where a rule is broken.
-    fn add(
-        &mut self,
-        alloc: Global,
-        prepared: &Pool,
-        me: Me,
-        case: &Case,
-        death: u32,
-        second: u32,
-    ) -> Result<Option<u32>, AllocError>
-        requires geometry { GeometryFits me.geometry }
-        requires who { me.who < me.geometry.clients }
-    {
-        let Some(trial) = attempt(alloc, prepared, me, case, death, second)? else {
-            return Ok(None);
-        };
-        self.count = self.count.wrapping_add(1);
-        self.sum.add(trial.number);
-        Ok(Some(trial.first))
-    }
-
-    /// All trials after a death; false where a rule is broken.
-    fn add_death(
-        &mut self,
-        alloc: Global,
-        prepared: &Pool,
-        me: Me,
-        case: &Case,
-        death: u32,
-        each: bool,
-    ) -> Result<bool, AllocError>
-        requires geometry { GeometryFits me.geometry }
-        requires who { me.who < me.geometry.clients }
-    {
-        if !each {
-            for second in SECOND {
-                if self
-                    .add(alloc, prepared, me, case, death, second)?
-                    .is_none()
-                {
-                    return Ok(false);
-                }
-            }
-            return Ok(true);
+/// Takes or tells of one line; false where it is no row, or a rule is broken.
+fn tell_line(rt: &HostRuntime, case: &mut Case, line: &str, each: bool) -> io::Result<bool> {
+    let (word, rest) = line.split_once(' ').unwrap_or((line, ""));
+    match word {
+        "#" => println!(rt; "{line}").map(|()| true),
+        "pool" => {
+            case.begin(rest);
+            Ok(true)
         }
-        let Some(whole) = self.add(alloc, prepared, me, case, death, 0)? else {
-            return Ok(false);
-        };
-        for second in 1..whole {
-            if self
-                .add(alloc, prepared, me, case, death, second)?
-                .is_none()
-            {
-                return Ok(false);
-            }
-        }
-        Ok(true)
+        "before" => Ok(case.add_before(rest)?),
+        "between" => Ok(case.set_between(rest)),
+        "cut" => tell_cut(rt, case, rest, each),
+        _ => tell_row(rt, word, rest),
     }
 }
 
-/// Tells of one case; false where a rule is broken, or the case doesn't fit its pool.
-fn tell_case(rt: &HostRuntime, geometry: Geometry, case: &Case, each: bool) -> io::Result<bool>
-    requires { GeometryFits geometry }
-{
-    let alloc = rt.alloc();
-    if case.who >= geometry.clients() {
-        return Ok(false);
-    }
-    let me = Me::new(geometry, case.who);
-    let name = case.name;
-    let Some(prepared) = prepare(alloc, geometry, case)? else {
-        return Ok(false);
-    };
-    let Some(steps) = length(alloc, &prepared, me, case)? else {
-        return Ok(false);
-    };
-    let mut trials = Trials::new();
-    for before in 0..steps {
-        let death = before + 1;
-        if !trials.add_death(alloc, &prepared, me, case, death, each)? {
-            return Ok(false);
-        }
-        if each {
-            println!(rt; "{name} {death} {} {}", trials.count, trials.sum.sum)?;
-            trials = Trials::new();
-        }
-    }
-    if !each {
-        println!(rt; "{name} {steps} {} {}", trials.count, trials.sum.sum)?;
-    }
-    Ok(true)
-}
-
-/// Tells of the cases of a group in a format; false where one is told as false.
-fn tell_group(rt: &HostRuntime, wide: bool, group: &Group, each: bool) -> io::Result<bool> {
-    let (clients, segments) = (u64::from(group.clients), u64::from(group.segments));
-    let Some(geometry) = geometry(wide, clients, segments) else {
-        return Ok(false);
-    };
-    for case in group.cases {
-        if !tell_case(rt, geometry, case, each)? {
-            return Ok(false);
-        }
-    }
-    Ok(true)
-}
-
-/// Tells of all cases in a format, below its title; false where one is told as false.
-fn tell_all(rt: &HostRuntime, wide: bool, each: bool) -> io::Result<bool> {
-    let title = if wide { "# format 2" } else { "# format 1" };
-    println!(rt; "{title}")?;
-    for group in &GROUPS {
-        if !tell_group(rt, wide, group, each)? {
-            return Ok(false);
-        }
-    }
-    Ok(true)
-}
-
-/// Tells of all cases in both formats, and then of the rows of standard input, unless each death is told; false where one is told as false.
+/// Tells of all lines; false where one is told as false.
 fn tell(rt: &HostRuntime, each: bool) -> io::Result<bool> {
-    Ok(tell_all(rt, false, each)? && tell_all(rt, true, each)? && (each || tell_rows(rt)?))
+    let mut case = Case::new(rt.alloc());
+    for line in rt.lines(rt.alloc()) {
+        if !tell_line(rt, &mut case, line?.as_str(), each)? {
+            return Ok(false);
+        }
+    }
+    Ok(true)
 }
 
 /// Whether a word stands behind the program's name.

@@ -1,6 +1,6 @@
 //! The operations of the table, and how an identity begins and makes them.
 
-ghost use Rattle.std.specs.Prelude.{◌≡◌, ◌<◌, IfSome, true};
+ghost use Rattle.std.specs.Prelude.{◌<◌, IfSome};
 ghost use Rattle.shm_words.specs.Layout.{GeometryFits, address_limit};
 ghost use Rattle.shm_table.specs.Command.{LineMayStand};
 
@@ -14,6 +14,14 @@ use shm_ref::{DropRoot, Hold, HomeOf, Look, Read, Release, RootOf, SetHome, SetR
 use shm_script::Line;
 use shm_table::Command;
 use shm_words::ADDRESS_LIMIT;
+use t_runs::may_stand;
+
+/// The plain words of a block: so many of these, and at most three.
+#[derive(Clone, Copy, Drop)]
+pub struct Plain {
+    pub words: [u64; 3],
+    pub many: usize,
+}
 
 /// An operation. Blocks and slots are named by their addresses in format 1, identities and roots by their numbers.
 #[derive(Clone, Copy, Drop)]
@@ -25,7 +33,7 @@ pub enum Op {
     /// A command of a table.
     Run(Line),
     /// A block of so many reference words and of these plain words.
-    Alloc(u8, &'static [u64]),
+    Alloc(u8, Plain),
     DropRoot(u8),
     RootOf(u8),
     Share(u32),
@@ -54,19 +62,6 @@ pub enum Op {
     Change(u32, u32, u32),
     /// A block whose count is 0.
     TearDown(u32),
-}
-
-/// Whether the line may stand in the script of this identity.
-pub fn may_stand(me: Me, line: Line) -> bool
-    ensures { result ≡ true → LineMayStand me line }
-{
-    let clients = me.geometry.clients();
-    match line {
-        Line::Put { .. } | Line::Del { .. } => true,
-        Line::Get { author, .. } | Line::Copy { author, .. } => author < clients,
-        Line::Send { to, .. } => to < clients && me.who != to,
-        Line::Recv { from, .. } => from < clients && from != me.who,
-    }
 }
 
 /// The address in the pool of what is named by its address in format 1: in format 2 what stands behind the redo records stands further by one
@@ -113,11 +108,12 @@ fn perform_line(pool: &mut Pool, me: Me, line: &Line, most: u32) -> Option<u32>
 }
 
 /// The same of an allocation.
-fn perform_alloc(pool: &mut Pool, me: Me, refs: u8, plain: &[u64], most: u32) -> Option<u32>
+fn perform_alloc(pool: &mut Pool, me: Me, refs: u8, plain: Plain, most: u32) -> Option<u32>
     requires geometry { GeometryFits me.geometry }
     requires who { me.who < me.geometry.clients }
 {
-    match Alloc::new(me, refs, plain) {
+    let words = &plain.words[..plain.many.min(3)];
+    match Alloc::new(me, refs, words) {
         Ok(mut alloc) => pool.advance(&mut alloc, most),
         Err(_) => None,
     }

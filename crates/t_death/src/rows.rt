@@ -1,6 +1,5 @@
-//! Deaths that the lines of standard input tell.
+//! Rows of deaths within one put.
 //!
-//! - `# TITLE` names what follows, and is told again.
 //! - `alone FIRST END`: a client is cut after FIRST word steps or more, and less than END, and a recoverer dies after each of its word
 //!   steps (cuts.rt). A trial that leaves the same as the one before isn't told again.
 //! - `beside FIRST END`: the same with a copy by another client before the recovery, where a recoverer dies after up to 40 word steps.
@@ -156,11 +155,9 @@ fn tell_mend(rt: &HostRuntime, wide: bool, text: &str) -> io::Result<bool> {
     Ok(true)
 }
 
-/// Tells of one line; false where it is no row, or a rule is broken.
-fn tell_row(rt: &HostRuntime, line: &str) -> io::Result<bool> {
-    let (word, rest) = line.split_once(' ').unwrap_or((line, ""));
+/// Tells of a row of this word; false where there is none, or a rule is broken.
+pub fn tell_row(rt: &HostRuntime, word: &str, rest: &str) -> io::Result<bool> {
     match word {
-        "#" => println!(rt; "{line}").map(|()| true),
         "alone" => tell_alone(rt, false, rest),
         "alone2" => tell_alone(rt, true, rest),
         "beside" => tell_beside(rt, false, rest),
@@ -171,14 +168,4 @@ fn tell_row(rt: &HostRuntime, line: &str) -> io::Result<bool> {
         "mend2" => tell_mend(rt, true, rest),
         _ => Ok(false),
     }
-}
-
-/// Tells of all lines; false where one is told as false.
-pub fn tell_rows(rt: &HostRuntime) -> io::Result<bool> {
-    for line in rt.lines(rt.alloc()) {
-        if !tell_row(rt, line?.as_str())? {
-            return Ok(false);
-        }
-    }
-    Ok(true)
 }

@@ -3,7 +3,8 @@
 ghost use Rattle.std.specs.Prelude.{◌<◌};
 ghost use Rattle.shm_words.specs.Layout.{GeometryFits};
 
-use crate::op::{Op, may_stand, perform};
+use crate::case::Case;
+use crate::op::{Op, perform};
 use crate::pool::Pool;
 use crate::rules::{is_gone, is_recovered};
 use shm_graph::{Machine, Me};
@@ -11,6 +12,7 @@ use shm_script::Line;
 use shm_table::Command;
 use shm_words::Geometry;
 use std::alloc::{AllocError, Global};
+use t_runs::may_stand;
 
 /// More word steps than an operation makes here.
 const LIMIT: u32 = 100_000;
@@ -18,24 +20,13 @@ const LIMIT: u32 = 100_000;
 /// How many word steps the command beside makes before and after each recoverer, if it hasn't answered before; it may wait for a latch.
 const TURNS: u32 = 250;
 
-/// An operation that is cut, in a pool that all identities joined and where other operations were made before, one after the other.
+/// An operation of an identity that is cut.
 #[derive(Drop)]
-pub struct Case {
-    pub name: &'static str,
-    /// What was made before, each list of operations by one identity.
-    pub before: &'static [(u8, &'static [Op])],
-    pub who: u8,
+pub struct Cut {
+    pub me: Me,
     pub op: Op,
     /// What another identity runs between the death and the recovery.
-    pub beside: Option<(u8, Line)>,
-}
-
-/// Cases in pools of so many identities and segments.
-#[derive(Drop)]
-pub struct Group {
-    pub clients: u8,
-    pub segments: u16,
-    pub cases: &'static [Case],
+    pub between: Option<(u8, Line)>,
 }
 
 /// The pool of a case before its operation; none where something in the case doesn't fit.
@@ -46,38 +37,31 @@ pub fn prepare(alloc: Global, geometry: Geometry, case: &Case) -> Result<Option<
     for who in 0..geometry.clients() {
         perform(&mut pool, Me::new(geometry, who), Op::Join, LIMIT);
     }
-    for &(who, ops) in case.before {
+    for &(who, op) in case.before.as_slice() {
         if who >= geometry.clients() {
             return Ok(None);
         }
-        for &op in ops {
-            if perform(&mut pool, Me::new(geometry, who), op, LIMIT).is_none() {
-                return Ok(None);
-            }
+        if perform(&mut pool, Me::new(geometry, who), op, LIMIT).is_none() {
+            return Ok(None);
         }
     }
     Ok(Some(pool))
 }
 
-/// How many word steps the operation of a case makes; none where it doesn't fit the pool.
-pub fn length(
-    alloc: Global,
-    prepared: &Pool,
-    me: Me,
-    case: &Case,
-) -> Result<Option<u32>, AllocError>
-    requires geometry { GeometryFits me.geometry }
-    requires who { me.who < me.geometry.clients }
+/// How many word steps the operation makes; none where it doesn't fit the pool.
+pub fn length(alloc: Global, prepared: &Pool, cut: &Cut) -> Result<Option<u32>, AllocError>
+    requires geometry { GeometryFits cut.now.me.geometry }
+    requires who { cut.now.me.who < cut.now.me.geometry.clients }
 {
     let mut pool = prepared.copy(alloc)?;
-    Ok(perform(&mut pool, me, case.op, LIMIT))
+    Ok(perform(&mut pool, cut.me, cut.op, LIMIT))
 }
 
-/// The command that another identity runs, if the case has one.
-fn command_beside(case: &Case, geometry: Geometry) -> Option<Command>
+/// The command that another identity runs, if there is one.
+fn command_between(between: Option<(u8, Line)>, geometry: Geometry) -> Option<Command>
     requires { GeometryFits geometry }
 {
-    let (who, line) = case.beside?;
+    let (who, line) = between?;
     if who >= geometry.clients() {
         return None;
     }
@@ -127,13 +111,13 @@ fn recover_twice(pool: &mut Pool, me: Me, second: u32, beside: &mut Option<Comma
 
 /// The identity dies after `death` word steps of its operation, and is recovered, where a recoverer may die too. How many word steps the first
 /// recoverer made; none where the command beside didn't end.
-fn kill(pool: &mut Pool, me: Me, case: &Case, death: u32, second: u32) -> Option<u32>
-    requires geometry { GeometryFits me.geometry }
-    requires who { me.who < me.geometry.clients }
+fn kill(pool: &mut Pool, cut: &Cut, death: u32, second: u32) -> Option<u32>
+    requires geometry { GeometryFits cut.now.me.geometry }
+    requires who { cut.now.me.who < cut.now.me.geometry.clients }
 {
-    perform(pool, me, case.op, death)?;
-    let mut beside = command_beside(case, me.geometry);
-    let first = recover_twice(pool, me, second, &mut beside);
+    perform(pool, cut.me, cut.op, death)?;
+    let mut beside = command_between(cut.between, cut.me.geometry);
+    let first = recover_twice(pool, cut.me, second, &mut beside);
     match &beside {
         Some(command) if !command.finished() => None,
         _ => first,
@@ -151,19 +135,18 @@ pub struct Trial {
 pub fn attempt(
     alloc: Global,
     prepared: &Pool,
-    me: Me,
-    case: &Case,
+    cut: &Cut,
     death: u32,
     second: u32,
 ) -> Result<Option<Trial>, AllocError>
-    requires geometry { GeometryFits me.geometry }
-    requires who { me.who < me.geometry.clients }
+    requires geometry { GeometryFits cut.now.me.geometry }
+    requires who { cut.now.me.who < cut.now.me.geometry.clients }
 {
     let mut pool = prepared.copy(alloc)?;
-    let Some(first) = kill(&mut pool, me, case, death, second) else {
+    let Some(first) = kill(&mut pool, cut, death, second) else {
         return Ok(None);
     };
-    if !is_recovered(alloc, &pool, me)? {
+    if !is_recovered(alloc, &pool, cut.me)? {
         return Ok(None);
     }
     let words = pool.number();

@@ -2,11 +2,11 @@
 
 ghost use Rattle.std.specs.Prelude.{◌<◌};
 
+use crate::meeting::Meetings;
 use crate::reading::number_at;
 use shm_io::{MemorySink, MemorySource};
 use shm_program::top::top;
 use shm_program::{Finished, Outcome};
-use shm_team::NoGate;
 use std::alloc::{AllocError, AllocGlobal, Global};
 use std::random::RandomSource;
 use std::sync::Wait;
@@ -85,12 +85,13 @@ impl Call {
         };
     }
 
-    /// Makes the call, whose threads are made by this handle.
+    /// Makes the call, whose threads are made by this handle, and whose clients pass this gate.
     pub fn make<R: Threads + Wait + Sync + RandomSource + AllocGlobal>(
         &self,
         threads: &R,
         alloc: Global,
         input: &[u8],
+        gate: &Meetings,
     ) -> Result<Made, AllocError> {
         let mut source = source_of(alloc, &self.streams, input)?;
         let mut sink = sink_of(alloc, &self.streams)?;
@@ -100,7 +101,7 @@ impl Call {
             self.words.as_slice(),
             &mut source,
             &mut sink,
-            &NoGate,
+            gate,
         );
         let written = sink.bytes().to_vec(alloc)?;
         Ok(Made { outcome, written })

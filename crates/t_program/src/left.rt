@@ -27,6 +27,17 @@ fn words_of(rt: &HostRuntime, words: &[u64]) -> io::Result<()> {
     Ok(())
 }
 
+/// How many logs there are.
+pub fn count_logs(finished: &Finished) -> usize {
+    match finished {
+        Finished::Neither | Finished::Treed(_) => 0,
+        Finished::Replayed(run) => run.logs.len(),
+        Finished::Ran(run) => run.logs.len(),
+        Finished::Rescued(run) => run.logs.len(),
+        Finished::Polled(run) => run.logs.len(),
+    }
+}
+
 /// The answers of each client.
 pub fn answers(rt: &HostRuntime, finished: &Finished) -> io::Result<()> {
     match finished {

@@ -1,6 +1,7 @@
 //! Calls for a client that dies after each number of word steps, and for a recoverer of it that dies too.
 
 use crate::call::{Call, Made};
+use crate::meeting::Meetings;
 use crate::telling;
 use shm_script::{push_number, push_text};
 use std::alloc::{AllocError, AllocGlobal, Global};
@@ -62,7 +63,7 @@ fn make<R: Threads + Wait + Sync + RandomSource + AllocGlobal>(
     second: Option<u64>,
 ) -> Result<Made, AllocError> {
     let input = fill(alloc, form, life, second)?;
-    call.make(threads, alloc, input.as_slice())
+    call.make(threads, alloc, input.as_slice(), &Meetings::none())
 }
 
 /// The form, with the life for each `N`, and for each `M` a space and the second life, or nothing where there is none.

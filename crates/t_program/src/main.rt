@@ -13,6 +13,8 @@
 //! | `again` | takes as input what the last call wrote |
 //! | `go` | makes a call, and tells its status and what it wrote, and then a point |
 //! | `sum` | makes a call, and tells its status, and how many bytes it wrote and their 64-bit FNV-1a sum |
+//! | `meet` | makes a call with a gate at which four clients meet before their first command, and clients 0 and 1 before their hundredth again; tells its status, how many came to each meeting, whether one of them waited in vain, and how many logs there are |
+//! | `clean` | has the program audit what the last call wrote, and tells the status and whether that is a clean image, but not how much is live in it, which threads may leave otherwise each time |
 //! | `lives A B` | makes calls in whose input 1 to A stands for `N`: without anything for `M`, and with a space and 1 to B. Tells for each of the A what the first call came to, where that is new, and with how many of the B the others came to the same |
 //! | `want CALL` | makes a call of a library: `parse`, `replay`, `run`, `report` or `migrate` with the input, or `plain N G`, `shared N G` or `close N G` with a pool of N clients and G segments; and tells whether there was memory for it |
 //! | `words` | tells how many words the pool has that the last call handed out, and those that aren't 0, behind their addresses |
@@ -28,6 +30,7 @@ mod call;
 mod input;
 mod left;
 mod lives;
+mod meeting;
 mod process;
 mod reading;
 mod telling;
@@ -35,6 +38,7 @@ mod wanting;
 
 use call::{Call, Made};
 use input::Input;
+use meeting::Meetings;
 use std::alloc::{AllocError, AllocGlobal, Global};
 use std::io;
 use std::process::ExitCode;
@@ -60,13 +64,15 @@ impl Rows {
         }
     }
 
-    /// Makes the call.
+    /// Makes the call, whose clients pass this gate.
     fn make<R: Threads + Wait + Sync + RandomSource + AllocGlobal>(
         &mut self,
         threads: &R,
         alloc: Global,
+        gate: &Meetings,
     ) -> Result<(), AllocError> {
-        self.last = self.call.make(threads, alloc, self.input.bytes())?;
+        let input = self.input.bytes();
+        self.last = self.call.make(threads, alloc, input, gate)?;
         Ok(())
     }
 }
@@ -82,6 +88,37 @@ fn prepare(alloc: Global, rows: &mut Rows, word: &str, rest: &str) -> Result<boo
     Ok(true)
 }
 
+/// The audit of what a call wrote.
+fn audited<R: Threads + Wait + Sync + RandomSource + AllocGlobal>(
+    threads: &R,
+    alloc: Global,
+    last: &Made,
+) -> Result<Made, AllocError> {
+    let call = Call::new(reading::words(alloc, "audit")?);
+    call.make(threads, alloc, last.written.as_slice(), &Meetings::none())
+}
+
+/// A row that makes a call; false where it is another one.
+fn go<R: Threads + Wait + Sync + RandomSource + AllocGlobal>(
+    rt: &HostRuntime,
+    threads: &R,
+    rows: &mut Rows,
+    word: &str,
+) -> io::Result<bool> {
+    let gate = match word {
+        "go" | "sum" => Meetings::none(),
+        "meet" => Meetings::held(),
+        _ => return Ok(false),
+    };
+    rows.make(threads, rt.alloc(), &gate)?;
+    match word {
+        "sum" => telling::sum(rt, &rows.last)?,
+        "meet" => meeting::tell(rt, &rows.last, &gate)?,
+        _ => telling::text(rt, &rows.last)?,
+    }
+    Ok(true)
+}
+
 /// A row that tells something.
 fn tell<R: Threads + Wait + Sync + RandomSource + AllocGlobal>(
     rt: &HostRuntime,
@@ -92,14 +129,6 @@ fn tell<R: Threads + Wait + Sync + RandomSource + AllocGlobal>(
 ) -> io::Result<()> {
     match word {
         "#" => println!(rt; "# {rest}"),
-        "go" => {
-            rows.make(threads, rt.alloc())?;
-            telling::text(rt, &rows.last)
-        }
-        "sum" => {
-            rows.make(threads, rt.alloc())?;
-            telling::sum(rt, &rows.last)
-        }
         "lives" => lives::tell(
             rt,
             threads,
@@ -107,6 +136,7 @@ fn tell<R: Threads + Wait + Sync + RandomSource + AllocGlobal>(
             rows.input.bytes(),
             reading::pair(rest),
         ),
+        "clean" => telling::clean(rt, &audited(threads, rt.alloc(), &rows.last)?),
         "want" => wanting::tell(rt, threads, rest, rows.input.bytes()),
         "words" => left::words(rt, &rows.last.outcome.finished),
         "answers" => left::answers(rt, &rows.last.outcome.finished),
@@ -129,7 +159,7 @@ fn take<R: Threads + Wait + Sync + RandomSource + AllocGlobal>(
         return Ok(());
     }
     let (word, rest) = line.split_once(' ').unwrap_or((line, ""));
-    if prepare(rt.alloc(), rows, word, rest)? {
+    if prepare(rt.alloc(), rows, word, rest)? || go(rt, threads, rows, word)? {
         return Ok(());
     }
     tell(rt, threads, rows, word, rest)

@@ -19,6 +19,12 @@ pub fn sum(rt: &HostRuntime, made: &Made) -> io::Result<()> {
     )
 }
 
+/// The status of an audit, and whether it wrote that the image is clean.
+pub fn clean(rt: &HostRuntime, made: &Made) -> io::Result<()> {
+    let is_clean = made.written.as_slice().starts_with(b"clean live ");
+    println!(rt; "status {}, clean {is_clean}", made.outcome.status)
+}
+
 /// The 64-bit FNV-1a sum of bytes.
 fn sum_of(bytes: &[u8]) -> u64 {
     let mut sum = 0xcbf2_9ce4_8422_2325u64;

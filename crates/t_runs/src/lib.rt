@@ -1,14 +1,16 @@
 //! Runs of machines on the words of a pool, for programs whose rows are tests: the words before a run (`Case`), a machine that runs on them,
-//! told word step by word step (`go`), and the numbers of a row. Programs that make many runs make one number of them (`Sum`).
+//! told word step by word step (`go`), and the numbers and commands of a row. Programs that make many runs make one number of them (`Sum`).
 #![tactic(auto)]
 
 mod args;
 mod case;
+mod lines;
 mod sum;
 mod telling;
 
 pub use args::{address, below, byte, client, geometry, number, numbers, root};
 pub use case::Case;
+pub use lines::{key, line_of, may_stand};
 use shm_graph::Ask;
 pub use sum::Sum;
 pub use telling::{go, go_calls};

@@ -4,17 +4,21 @@
 //! tells what came of it: the lines that were finished with their answers, how it ended, how much the forest held then, and what is live in the
 //! closed pool. `audit` runs it and tells what an audit of the closed pool finds. `lives N` runs it N times, with 1 to N word steps, and tells of
 //! how many no block is live in the closed pool. What must be told (the file stdout) was computed by an independent implementation.
+//! `near KEYS MORE` does the same sets on a forest with hints and on one without, and tells how many are answered the same, and whether they take
+//! fewer word steps with hints; `brim KEYS` does so in one segment, which they fill, and tells the first refusal.
 //! `maps KEYS LINES` sets so many keys and does so many random lines on a forest and on ordered maps of std, and tells how many answers and sizes
 //! are the same.
 
 mod beside;
+mod near;
 
 ghost use Rattle.shm_tree.specs.ScriptTexts.{IsScript};
 
 use beside::compare;
+use near::{brim, sets};
 use shm_audit::{Verdict, audit, write_image};
 use shm_script::push_text;
-use shm_tree::{TreeScript, parse_tree, scripts_are_spelled};
+use shm_tree::{TreeAnswer, TreeScript, parse_tree, scripts_are_spelled};
 use shm_versions::{run_script, run_text};
 use std::alloc::{AllocError, Global};
 use std::io;
@@ -101,6 +105,44 @@ fn maps(rt: &HostRuntime, numbers: &str) -> io::Result<()> {
     println!(rt; "{} of {} are those of the maps", done.same, done.compared)
 }
 
+/// Tells what the same sets came to on a forest with hints and on one without: by how many keys are set and how many random sets follow.
+fn near_row(rt: &HostRuntime, numbers: &str) -> io::Result<()> {
+    let Some((keys, more)) = numbers.split_once(' ') else {
+        return println!(rt; "no numbers");
+    };
+    let (Ok(keys), Ok(more)) = (keys.parse::<u32>(), more.parse::<u32>()) else {
+        return println!(rt; "no numbers");
+    };
+    let done = sets(rt.alloc(), keys, more)?;
+    let fewer = if done.near < done.plain {
+        "fewer"
+    } else {
+        "no fewer"
+    };
+    println!(rt;
+        "{} of {} are answered the same with hints, in {fewer} word steps",
+        done.same, done.sets
+    )
+}
+
+/// Tells what the same sets came to in one segment, which they fill.
+fn brim_row(rt: &HostRuntime, number: &str) -> io::Result<()> {
+    let Ok(keys) = number.parse::<u32>() else {
+        return println!(rt; "no number");
+    };
+    let done = brim(rt.alloc(), keys)?;
+    println!(rt;
+        "{} of {} are answered the same with hints",
+        done.same, done.sets
+    )?;
+    match done.refusal {
+        Some(TreeAnswer::Full { segments, blocks }) => {
+            println!(rt; "full: {segments} segments, {blocks} blocks")
+        }
+        _ => println!(rt; "not full"),
+    }
+}
+
 /// Does what a line says.
 pub fn tell_line(rt: &HostRuntime, text: &mut Vec<u8>, line: &str) -> io::Result<()> {
     if let Some(title) = line.strip_prefix("# ") {
@@ -109,6 +151,12 @@ pub fn tell_line(rt: &HostRuntime, text: &mut Vec<u8>, line: &str) -> io::Result
     }
     if let Some(numbers) = line.strip_prefix("maps ") {
         return maps(rt, numbers);
+    }
+    if let Some(numbers) = line.strip_prefix("near ") {
+        return near_row(rt, numbers);
+    }
+    if let Some(number) = line.strip_prefix("brim ") {
+        return brim_row(rt, number);
     }
     match line.strip_prefix("+ ") {
         None => act(rt, text.as_slice(), line),

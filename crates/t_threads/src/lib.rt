@@ -1,5 +1,5 @@
-//! Tests of what runs on threads or is polled: clients of a pool that threads share, one that dies between two word steps, traces run by clients
-//! beside each other, clients as futures that are polled by hand, and corpses that go through a morgue.
+//! Tests of what runs on threads or is polled: clients of a pool that threads share, one that dies between two word steps, clients as futures that
+//! are polled by hand and by an executor, and corpses that go through a morgue.
 #![tactic(auto)]
 
 #[cfg(test)]
@@ -8,5 +8,3 @@ mod morgue;
 mod polls;
 #[cfg(test)]
 mod pools;
-#[cfg(test)]
-mod team;

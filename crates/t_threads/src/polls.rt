@@ -1,19 +1,25 @@
-//! A put, whose client is polled, and given up between two polls.
+//! A put, whose client is polled by hand and by an executor, and given up between two polls.
 
 ghost use Rattle.std.specs.Prelude.{◌≡◌, ◌≤◌, IfSome, true};
 ghost use Rattle.shm_script.specs.Ranges.{ScriptFits};
 ghost use Rattle.shm_pool.specs.Tokens.{token_first};
 
+mod watched;
+
+use futures::Future;
+use futures::executor::block_on;
+use futures::task::{Context, Poll};
 use shm_async::{Finish, IdentityFuture, Token, run_async, run_limited};
 use shm_audit::{Verdict, audit, write_image};
 use shm_pool::{SharedPool, Vacant};
 use shm_script::{End, Script, Trace, parse};
 use shm_words::Geometry;
-use std::alloc::{AllocError, AllocGlobal, Global};
+use std::alloc::{AllocError, AllocGlobal};
 use std::random::RandomSource;
 use std::sync::Wait;
 use std::test::Fail;
 use t_pool::team::pop_of;
+use watched::Watched;
 
 /// How a client was polled: how many polls it took, unless it was given up, and what it gave.
 #[derive(Drop)]
@@ -23,14 +29,56 @@ struct Polled {
     finish: Finish,
 }
 
-/// Polls the client of a script with `q` turns each, `limit` times at most, and gives it up then.
-fn poll_client(
-    alloc: Global,
+/// A client that counts its polls.
+#[derive(Drop)]
+struct Counting<'p> {
+    client: IdentityFuture<'p>,
+    polls: u32,
+}
+
+impl<'p> Future for Counting<'p> {
+    type Output = Polled;
+
+    fn poll(&mut self, cx: &mut Context<'_>) -> Poll<Polled> {
+        self.polls = self.polls.saturating_add(1);
+        match self.client.poll(cx) {
+            Poll::Ready(finish) => Poll::Ready(Polled {
+                ready: true,
+                polls: self.polls,
+                finish,
+            }),
+            Poll::Pending => Poll::Pending,
+        }
+    }
+}
+
+/// Polls a client `limit` times at most, and gives it up then.
+fn poll_by_hand(mut client: IdentityFuture<'_>, limit: u32) -> Option<Polled> {
+    for before in 0..limit {
+        if let Some(finish) = client.advance() {
+            return Some(Polled {
+                ready: true,
+                polls: before + 1,
+                finish,
+            });
+        }
+    }
+    let finish = client.cancel()?;
+    Some(Polled {
+        ready: false,
+        polls: limit,
+        finish,
+    })
+}
+
+/// Has an executor poll the client of a script with `q` turns each, where there is no limit, and else polls it so many times at most.
+fn poll_client<R: Wait + RandomSource + AllocGlobal>(
+    rt: &R,
     pool: &SharedPool,
     token: Vacant,
     script: &Script,
     q: u32,
-    limit: u32,
+    limit: Option<u32>,
 ) -> Option<Polled>
     requires turns { 1 ≤ q }
     requires token { token ≡ token_first pool.now token.account.who }
@@ -39,40 +87,29 @@ fn poll_client(
     requires client { script.now.client ≡ token.account.who }
     requires script { ScriptFits pool.now.start.geometry.clients script.now }
 {
-    let mut future = match IdentityFuture::new(alloc, pool, token, script, q) {
-        Ok(future) => future,
+    let client = match IdentityFuture::new(rt.alloc(), pool, token, script, q) {
+        Ok(client) => client,
         Err(_) => return None,
     };
-    for polls in 0..limit {
-        if let Some(finish) = future.advance() {
-            return Some(Polled {
-                ready: true,
-                polls,
-                finish,
-            });
-        }
+    match limit {
+        Some(limit) => poll_by_hand(client, limit),
+        None => block_on(rt, Counting { client, polls: 0 }).ok(),
     }
-    let finish = future.cancel()?;
-    Some(Polled {
-        ready: false,
-        polls: limit,
-        finish,
-    })
 }
 
 /// The same of the first script of a trace, whose client is the last one of the pool.
-fn poll_trace(
-    alloc: Global,
+fn poll_trace<R: Wait + RandomSource + AllocGlobal>(
+    rt: &R,
     trace: &Trace,
     q: u32,
-    limit: u32,
+    limit: Option<u32>,
 ) -> Result<Option<Polled>, AllocError>
     requires { 1 ≤ q }
 {
     let Ok(geometry) = Geometry::new(trace.clients, trace.segments) else {
         return Ok(None);
     };
-    let (pool, mut all) = SharedPool::make(alloc, geometry, 1, true)?;
+    let (pool, mut all) = SharedPool::make(rt.alloc(), geometry, 1, true)?;
     let (Some(token), Some(script)) = (pop_of(&pool, &mut all), trace.scripts.first()) else {
         return Ok(None);
     };
@@ -81,24 +118,25 @@ fn poll_trace(
     if script.client != token.client() {
         return Ok(None);
     }
-    Ok(poll_client(alloc, &pool, token, script, q, limit))
+    Ok(poll_client(rt, &pool, token, script, q, limit))
 }
 
-/// Whether a put with these lives, polled with `q` turns each and given up after `limit` polls, took so many polls, and ended so; and whether a corpse was left.
-fn is_polled(
-    alloc: Global,
+/// Whether a put with these lives, polled with so many turns each and given up after so many polls, or polled by an executor where there is no such
+/// number, took so many polls, and ended so; and whether a corpse was left.
+fn is_polled<R: Wait + RandomSource + AllocGlobal>(
+    rt: &R,
     text: &[u8],
-    turns: (u32, u32),
+    turns: (u32, Option<u32>),
     ready: Option<u32>,
     end: End,
     corpse: bool,
 ) -> Result<bool, AllocError>
     requires { 1 ≤ turns.0 }
 {
-    let Ok(trace) = parse(alloc, text) else {
+    let Ok(trace) = parse(rt.alloc(), text) else {
         return Ok(false);
     };
-    let Some(polled) = poll_trace(alloc, &trace, turns.0, turns.1)? else {
+    let Some(polled) = poll_trace(rt, &trace, turns.0, turns.1)? else {
         return Ok(false);
     };
     let in_time = match ready {
@@ -126,23 +164,25 @@ const DONE: End = End::Died {
 // a join takes one word step, the put of a first key 105, whose 87th decides it, and the leaving 19: 125 turns in all
 #[test]
 fn a_put_is_ready_at_the_18th_poll_of_seven(rt: HostRuntime) -> Result<(), Fail> {
-    assert!(rt; is_polled(rt.alloc(), PUT, (7, 100), Some(17), End::Ended, false)?);
-    assert!(rt; is_polled(rt.alloc(), PUT, (125, 1), Some(0), End::Ended, false)?);
+    assert!(rt; is_polled(&rt, PUT, (7, Some(100)), Some(18), End::Ended, false)?);
+    assert!(rt; is_polled(&rt, PUT, (125, Some(1)), Some(1), End::Ended, false)?);
+    assert!(rt; is_polled(&rt, PUT, (7, None), Some(18), End::Ended, false)?);
     Ok(())
 }
 
 // 88 word steps and a death, twice 5 and a death, and a recovery: 210 turns, as an independent implementation counts them
 #[test]
 fn a_client_that_dies_is_recovered_in_its_polls(rt: HostRuntime) -> Result<(), Fail> {
-    assert!(rt; is_polled(rt.alloc(), DIES, (1, 1_000), Some(209), DONE, false)?);
+    assert!(rt; is_polled(&rt, DIES, (1, Some(1_000)), Some(210), DONE, false)?);
+    assert!(rt; is_polled(&rt, DIES, (1, None), Some(210), DONE, false)?);
     Ok(())
 }
 
 #[test]
 fn a_client_is_given_up(rt: HostRuntime) -> Result<(), Fail> {
-    assert!(rt; is_polled(rt.alloc(), PUT, (8, 11), None, DONE, true)?);
-    assert!(rt; is_polled(rt.alloc(), PUT, (87, 1), None, UNDONE, true)?);
-    assert!(rt; is_polled(rt.alloc(), PUT, (7, 0), None, UNDONE, false)?);
+    assert!(rt; is_polled(&rt, PUT, (8, Some(11)), None, DONE, true)?);
+    assert!(rt; is_polled(&rt, PUT, (87, Some(1)), None, UNDONE, true)?);
+    assert!(rt; is_polled(&rt, PUT, (7, Some(0)), None, UNDONE, false)?);
     Ok(())
 }
 
@@ -191,6 +231,26 @@ fn an_executor_polls_a_trace(rt: HostRuntime) -> Result<(), Fail> {
         Some((End::Ended, 3, 3))
     );
     assert_eq!(rt; poll_run(&rt, DIES, 1, None)?, Some((DONE, 3, 3)));
+    Ok(())
+}
+
+/// Whether a put that is polled so is done, and an executor was made for that.
+fn is_executed<R: Wait + RandomSource + AllocGlobal>(
+    rt: &R,
+    limit: Option<u32>,
+) -> Result<bool, AllocError>
+    requires { IfSome limit (λ n. (1 ≤ n) × (n ≤ 1000000)) }
+{
+    let watched = Watched::new(rt);
+    let polled = poll_run(&watched, PUT, 7, limit)?;
+    Ok(polled == Some((End::Ended, 3, 3)) && watched.has_asked())
+}
+
+// an executor asks for random bytes, and nothing else does; where there is none the caller makes the polls, and the same is left
+#[test]
+fn a_trace_is_polled_by_an_executor(rt: HostRuntime) -> Result<(), Fail> {
+    assert!(rt; is_executed(&rt, None)?);
+    assert!(rt; is_executed(&rt, Some(1_000))?);
     Ok(())
 }
 

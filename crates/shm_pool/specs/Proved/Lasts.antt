@@ -1,10 +1,10 @@
 -- a leaving and a recovery are plans that an agent makes last
-use Rattle.std.proofs.Common.{◌≡◌, ◌≢◌, Bool, true, false, ◌&&◌, refl, sym, ap, ◌∙◌, true≢false}
-use Rattle.shm_graph.specs.{declared.{ask.Me.Me, memo.{Memo.Memo, Status.{Status, TheVariants.Gone}}}, Agents.is_gone}
+use Rattle.std.proofs.Common.{◌≡◌, ◌≢◌, Bool, false, ◌&&◌, refl, sym, ap, ◌∙◌, true≢false}
+use Rattle.shm_graph.specs.{declared.memo.{Memo.Memo, Status.{Status, TheVariants.Gone}}, Agents.is_gone}
 use Rattle.shm_recover.specs.{Leave.{Control.{leave_parts, leaving}, MayLeave, leave_plan}, Mend.MayMend}
 use Rattle.shm_recover.specs.Proved.{Leave.Laws.leave_begin, Recover.Laws.recover_begin}
 use Rattle.shm_recover.specs.Recover.{Control.{recover_parts, recovering}, recover_plan}
-use Rattle.shm_pool.specs.{Lasts.LastLaws, Tokens.has_left}
+use Rattle.shm_pool.specs.Lasts.{LastLaws}
 
 -- a status that isn't gone
 not_gone : (s : Status) → s ≢ Gone → is_gone s ≡ false

@@ -3,11 +3,11 @@
 ghost use Rattle.std.specs.Prelude.{◌+◌, ◌<◌, IfSome};
 ghost use Rattle.shm_words.specs.Layout.{GeometryFits, address_limit};
 
-use crate::tables::lines::{key, refuse};
+use crate::tables::lines::refuse;
 use shm_graph::Me;
 use shm_table::parts::{Enter, OpenTable, PutRoot, Replace, Unlink};
 use std::io;
-use t_runs::{Case, address, below, byte, go, go_calls};
+use t_runs::{Case, address, below, byte, go, go_calls, key};
 
 /// Who makes an entry, its key and its value block, the directory, and the first entry of the bucket.
 #[derive(Clone, Copy, Drop)]

@@ -3,11 +3,11 @@
 ghost use Rattle.std.specs.Prelude.{◌<◌, IfSome};
 ghost use Rattle.shm_words.specs.Layout.{GeometryFits};
 
-use crate::tables::lines::{key, refuse};
+use crate::tables::lines::refuse;
 use shm_graph::Me;
 use shm_table::parts::{Fetch, Find, Locate, Unlatch};
 use std::io;
-use t_runs::{Case, client, go_calls};
+use t_runs::{Case, client, go_calls, key};
 
 /// Who looks, whose table it is, and a key.
 #[derive(Clone, Copy, Drop)]

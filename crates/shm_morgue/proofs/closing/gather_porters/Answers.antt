@@ -14,11 +14,11 @@ absorb-requires-clause-queue g c =
     let queue = ap (λ (w : Which). w.queue) c.morgue.view_is in
     let mine : p.of ≡ now = by_last (λ (t : Puts). t.of ≡ now) front p (subst (AllByRecursion (λ (t : Puts). t.of ≡ now)) c.in-Some.ensures.items inv.of) in (
       (inv.place.0 ∙ sym queue, inv.place.1),
-      ((ap (λ (t : Puts). t.of.queue) c.porter.view_is ∙ ap (λ (w : Which). w.queue) mine) ∙ sym queue, c.porter.invariant.rest),
+      ((ap (λ (t : Puts). t.of.queue) c.into_place-other.ensures.view ∙ ap (λ (w : Which). w.queue) mine) ∙ sym queue, c.into_place-other.ensures.porter.1.rest),
     )
 
 pub absorb-requires-clause-rule : goal.absorb-requires-clause-rule
-absorb-requires-clause-rule g c = gathers g.J.Pools.pools c.loop-porter.place.id (view c.loop-porter.place) c.porter.inside.place.id (view c.porter.inside.place) (ap (λ (v : Hands). v.fresh) c.loop-porter.invariant.view_is)
+absorb-requires-clause-rule g c = gathers g.J.Pools.pools c.loop-porter.place.id (view c.loop-porter.place) c.into_place-other.result.id (view c.into_place-other.result) (ap (λ (v : Hands). v.fresh) c.loop-porter.invariant.view_is)
 
 pub loop-porter-preserved : goal.loop-porter-preserved
 loop-porter-preserved g c =
@@ -26,8 +26,8 @@ loop-porter-preserved g c =
     let front : List Puts = c.pop.new.self.items in
     let t : Puts = c.in-Some.porter in
     let inv = c.loop-porter.invariant in
-    let p = c.porter.inside.place in
-    let w_is : view p ≡ hands (desk t.client t.entries ∷ []) [] (view p).clients (view p).doctors = c.porter.invariant.view_is ∙ (λ j. hands (desk (c.porter.view_is j).client (c.porter.view_is j).entries ∷ []) [] (view p).clients (view p).doctors) in
+    let p = c.into_place-other.result in
+    let w_is : view p ≡ hands (desk t.client t.entries ∷ []) [] (view p).clients (view p).doctors = c.into_place-other.ensures.porter.1.view_is ∙ (λ j. hands (desk (c.into_place-other.ensures.view j).client (c.into_place-other.ensures.view j).entries ∷ []) [] (view p).clients (view p).doctors) in
     let r = porter_in front (desks_of c.args.porters.items) t (view c.args.place).medics (view c.loop-porter.place) (view p) (view c.absorb.new.pass) now.clients now.medics (view p).clients (view p).doctors inv.view_is w_is c.absorb.ensures.rule
     (inv.all ∙ ap (λ (l : List Puts). desks_of l ++ (view c.loop-porter.place).porters) c.in-Some.ensures.items) in record {
       place = (c.absorb.ensures.queue.0 ∙ inv.place.0, c.absorb.ensures.queue.2 ∙ inv.place.1);

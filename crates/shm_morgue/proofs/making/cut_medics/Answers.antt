@@ -1,7 +1,7 @@
-use Rattle.std.proofs.Common.{◌≡◌, ℕ, ◌+◌, ◌-◌, List, [], ◌∷◌, ◌++◌, drop, take, sym, ap, ◌∙◌}
+use Rattle.std.proofs.Common.{◌≡◌, ℕ, ◌+◌, ◌-◌, ◌≤◌, List, [], ◌∷◌, ◌++◌, length, drop, take, sym, ap, ◌∙◌, subst, arith}
 use Rattle.crossbeam_queue.specs.Passes.{view}
 use Rattle.shm_morgue.specs.{declared.rule.Taken.Taken, Hands.{blank_lists, first_list, hands, takes_of, which}}
-use Rattle.shm_morgue.proofs.{Cutting.{lists_cut, more_medics, new_medic}, Moves.cuts_medic_one}
+use Rattle.shm_morgue.proofs.{Cutting.{lists_cut, more_medics, new_medic}, Loops.medics_long, Moves.cuts_medic_one}
 use Rattle.shm_morgue.proofs.making.cut_medics.Goals as goal
 
 pub another-place-requires-clause-queue : goal.another-place-requires-clause-queue
@@ -15,8 +15,17 @@ another-place-requires-clause-rule g c =
     cuts_medic_one g.J.Pools.pools c.loop-medic.home.id (view c.loop-medic.home) [] [] (blank_lists (k - (i + 1))) n k
     (c.loop-medic.invariant.view_is ∙ ap (λ (l : List (List Taken)). hands [] l n k) (lists_cut i k c.loop-medic-test.true))
 
-pub invariant_of-push : goal.invariant_of-push
-invariant_of-push g c =
+pub push_reserved-requires : goal.push_reserved-requires
+push_reserved-requires g c =
+    let at = c.loop-medic in
+    let many = ap length at.invariant.made ∙ medics_long (which c.args.home.now) at._medic in
+    let room = at.invariant.room in
+    let len = at.medics.ok.0 in
+    let less = c.loop-medic-test.true in
+    omega arith
+
+pub invariant_of-push_reserved : goal.invariant_of-push_reserved
+invariant_of-push_reserved g c =
     let i : ℕ = c.loop-medic._medic in
     let n : ℕ = c.args.clients in
     let k : ℕ = c.args.doctors in
@@ -40,5 +49,6 @@ loop-medic-preserved g c =
       of = (queue.0.0 ∙ inv.of.0, queue.0.2 ∙ inv.of.1);
       same = (λ j. record { queue = queue.0.0 j; clients = (rule.0 j).clients; medics = (rule.0 j).doctors }) ∙ inv.same;
       view_is = rule.0 ∙ (λ j. record (v j) { medics = drop 1 (v j).medics });
-      made = c.in_ok-push.ensures.items ∙ ((λ j. inv.made j ++ medic j ∷ []) ∙ more_medics (which c.args.home.now) i);
+      made = c.push_reserved.ensures.items ∙ ((λ j. inv.made j ++ medic j ∷ []) ∙ more_medics (which c.args.home.now) i);
+      room = subst (λ (n : ℕ). k ≤ n) (sym c.push_reserved.ensures.capacity) inv.room;
     }

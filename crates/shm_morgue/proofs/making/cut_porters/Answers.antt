@@ -1,8 +1,9 @@
-use Rattle.std.proofs.Common.{◌≡◌, ℕ, ◌+◌, ◌-◌, List, [], ◌∷◌, ◌++◌, drop, take, sym, ap, ◌∙◌, arith}
+use Rattle.std.proofs.Common.{◌≡◌, ℕ, ◌+◌, ◌-◌, ◌≤◌, List, [], ◌∷◌, ◌++◌, length, drop, take, sym, ap, ◌∙◌, subst, arith}
 use Rattle.crossbeam_queue.specs.Passes.{view}
 use Rattle.shm_morgue.specs.declared.rule.Desk.{Desk}
 use Rattle.shm_morgue.specs.Hands.{blank_desks, blank_lists, desk, first_entries, hands, puts_of, which}
-use Rattle.shm_morgue.proofs.{Cutting.{blank_cut, blank_end, more_porters, new_porter}, Moves.cuts_porter_one}
+use Rattle.shm_morgue.proofs.Cutting.{blank_cut, blank_end, more_porters, new_porter, porters_long}
+use Rattle.shm_morgue.proofs.Moves.{cuts_porter_one}
 use Rattle.shm_morgue.proofs.making.cut_porters.Goals as goal
 
 pub another-place-requires-clause-queue : goal.another-place-requires-clause-queue
@@ -17,8 +18,17 @@ another-place-requires-clause-rule g c =
     cuts_porter_one g.J.Pools.pools c.loop-client.home.id (view c.loop-client.home) (desk i []) ds (blank_lists k) n k
     (c.loop-client.invariant.view_is ∙ ap (λ (l : List Desk). hands l (blank_lists k) n k) (blank_cut i n c.loop-client-test.true))
 
-pub invariant_of-push : goal.invariant_of-push
-invariant_of-push g c =
+pub push_reserved-requires : goal.push_reserved-requires
+push_reserved-requires g c =
+    let at = c.loop-client in
+    let many = ap length at.invariant.made ∙ porters_long (which c.args.home.now) 0 at.client in
+    let room = at.invariant.room in
+    let len = at.porters.ok.0 in
+    let less = c.loop-client-test.true in
+    omega arith
+
+pub invariant_of-push_reserved : goal.invariant_of-push_reserved
+invariant_of-push_reserved g c =
     let i : ℕ = c.loop-client.client in
     let n : ℕ = c.args.clients in
     let k : ℕ = c.args.doctors in
@@ -42,7 +52,8 @@ loop-client-preserved g c =
       of = (queue.0.0 ∙ inv.of.0, queue.0.2 ∙ inv.of.1);
       same = (λ j. record { queue = queue.0.0 j; clients = (rule.0 j).clients; medics = (rule.0 j).doctors }) ∙ inv.same;
       view_is = rule.0 ∙ (λ j. record (v j) { porters = drop 1 (v j).porters });
-      made = c.in_ok-push.ensures.items ∙ ((λ j. inv.made j ++ porter j ∷ []) ∙ more_porters (which c.args.home.now) 0 i i (omega arith));
+      made = c.push_reserved.ensures.items ∙ ((λ j. inv.made j ++ porter j ∷ []) ∙ more_porters (which c.args.home.now) 0 i i (omega arith));
+      room = subst (λ (m : ℕ). n ≤ m) (sym c.push_reserved.ensures.capacity) inv.room;
     }
 
 pub returns-clause-view : goal.returns-clause-view

@@ -22,8 +22,8 @@ loop-outcome-init c =
       enough = subst (λ (n : ℕ). AreEnough t p n (into_iter_items c.into_iter-outcome-iterator.result) c.args.slots.now) (sym none) (subst (λ (os : List Outcome). AreEnough t p 0 os c.args.slots.now) (sym items) c.requires.enough);
     }
 
-pub done_of-requires : goal.done_of-requires
-done_of-requires c =
+pub done-requires : goal.done-requires
+done-requires c =
     let at = c.loop-outcome in
     let t = c.args.trace.now in
     let p = c.args.pool.now in
@@ -50,9 +50,9 @@ loop-outcome-preserved c =
     let whole = subst (λ (zs : List Outcome). at.yielded ++ zs ≡ c.args.outcomes.items) steps i.items in
     let h = subst (λ (os : List Outcome). AreEnough t p (length at.dones.items) os at.slots) steps i.enough in
     let inside : n < length at.slots = (let l = seam_inside at.yielded rest c.args.outcomes.items x whole in let many = i.many in let room = i.room in omega arith) in
-    let done = c.done_of.ensures t p n (subst (IsEnough t p n x) (get_or_default at.slots n None c.index-slots-at.result inside) (subst (λ (k : ℕ). IsEnough t p k x (slice_index_or at.slots k None)) (sym is) h.0)) in
+    let done = c.done.ensures t p n (subst (IsEnough t p n x) (get_or_default at.slots n None c.index-slots-at.result inside) (subst (λ (k : ℕ). IsEnough t p k x (slice_index_or at.slots k None)) (sym is) h.0)) in
     let from : n ≡ 0 + length at.dones.items = omega arith in
-    let longer = pushed at.dones.items c.push.new.self.items c.done_of.result c.in_ok-push.ensures.items in
+    let longer = pushed at.dones.items c.push.new.self.items c.done.result c.in_ok-push.ensures.items in
     let next : suc (length at.dones.items) ≡ length c.push.new.self.items = omega arith in
     record {
       items = seam_next at.yielded rest c.args.outcomes.items x whole;
@@ -65,9 +65,9 @@ loop-outcome-preserved c =
           let was = i.many in
           let d = one_more at.yielded x in
           omega arith;
-      room = (let was = i.room in let same = length-set at.slots n c.done_of.new.slot in omega arith);
-      dones = subst (AreDones t p 0) (sym c.in_ok-push.ensures.items) (dones_more t p 0 at.dones.items c.done_of.result i.dones (subst (λ (k : ℕ). IsDone t p k c.done_of.result) from done));
-      enough = subst (λ (k : ℕ). AreEnough t p k rest (slice_set at.slots n c.done_of.new.slot)) next (enough_past t p n (suc (length at.dones.items)) rest at.slots c.done_of.new.slot (omega arith) h.1);
+      room = (let was = i.room in let same = length-set at.slots n c.done.new.slot in omega arith);
+      dones = subst (AreDones t p 0) (sym c.in_ok-push.ensures.items) (dones_more t p 0 at.dones.items c.done.result i.dones (subst (λ (k : ℕ). IsDone t p k c.done.result) from done));
+      enough = subst (λ (k : ℕ). AreEnough t p k rest (slice_set at.slots n c.done.new.slot)) next (enough_past t p n (suc (length at.dones.items)) rest at.slots c.done.new.slot (omega arith) h.1);
     }
 
 pub returns-clause-many : goal.returns-clause-many

@@ -1,7 +1,7 @@
 use mir.Syntax.{of_param}
 use denote.Exit.{unseen}
 use denote.Param.Send.{Quiet-if}
-use Rattle.std.proofs.{Common.{◌≡◌, ℕ, sym, ap, subst, length, slice_index_or, ◌∙◌}, lemmas.Result.IfOk-weaker}
+use Rattle.std.proofs.{Common.{ℕ, sym, ap, subst, slice_index_or, ◌∙◌}, lemmas.Result.IfOk-weaker}
 use Rattle.shm_morgue.specs.{Crew.{HasWorked, IsTask}, declared.worker.Task.Task}
 use Rattle.shm_morgue.proofs.worker.work_all.Goals as goal
 

@@ -44,7 +44,7 @@ low : (c : In_ok-lower) → IsBuilt 1 c.in_ok-lower.lower c.args.pool.now c.link
 low c = born_built (linked_some c.in_ok-lower.ensures.linked c.requires.near_near.0 c.requires.near_far.0) c.in_ok-lower.ensures.linked.born
 
 -- the nodes
-both : (c : In_ok-made) → Builds 3 (link_steps c.args.pool.now.start.geometry + raised_steps c.args.pool.now.start.geometry) (Ok c.in_ok-made.made) c.args.pool.now c.raised.new.pool c.args.life.now.left c.raised.new.life.left
+both : (c : In_ok-made) → Builds c.args.hints 3 (link_steps c.args.pool.now.start.geometry + raised_steps c.args.pool.now.start.geometry) (Ok c.in_ok-made.made) c.args.pool.now c.raised.new.pool c.args.life.now.left c.raised.new.life.left
 both c = let l = c.in_ok-lower.ensures in builds_on raised_steps c.requires.working (builds_link (Ok c.in_ok-lower.lower) l.changes) c.in_ok-made.ensures.builds
 
 pub returns-clause-builds : goal.returns-clause-builds

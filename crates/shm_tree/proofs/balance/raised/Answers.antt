@@ -53,7 +53,7 @@ high c =
     born_built (linked_some c.in_ok-made.ensures.linked node.0 far.0) c.in_ok-made.ensures.linked.born
 
 -- both nodes
-both : (c : In_ok-made) → Builds 2 (link_steps c.args.pool.now.start.geometry + link_steps c.args.pool.now.start.geometry) (Ok c.in_ok-made.made) c.args.pool.now c.link-2.new.pool c.args.life.now.left c.link-2.new.life.left
+both : (c : In_ok-made) → Builds c.args.hints 2 (link_steps c.args.pool.now.start.geometry + link_steps c.args.pool.now.start.geometry) (Ok c.in_ok-made.made) c.args.pool.now c.link-2.new.pool c.args.life.now.left c.link-2.new.life.left
 both c =
     let l = c.in_ok-lower.ensures in
     let m = c.in_ok-made.ensures in

@@ -37,7 +37,7 @@ returns-in_err-made-clause-builds c =
     builds_from c.from_residual-in_err-made.result c.from_residual-in_err-made.ensures.1 (builds_after 3 3 3 balanced_steps _ (lit≤ tt) (omega arith) c.requires.working (looked u.looks) (omega (arith, d)) c.in_err-made.ensures.builds)
 
 -- until the tree is made
-before : (c : In_ok-made) → Builds 3 (3 + balanced_steps c.args.pool.now.start.geometry) (Ok c.in_ok-made.made) c.args.pool.now c.balanced.new.pool c.args.life.now.left c.balanced.new.life.left
+before : (c : In_ok-made) → Builds c.args.hints 3 (3 + balanced_steps c.args.pool.now.start.geometry) (Ok c.in_ok-made.made) c.args.pool.now c.balanced.new.pool c.args.life.now.left c.balanced.new.life.left
 before c = let u = c.in_ok-far.ensures in let d = u.steps in builds_after 3 3 3 balanced_steps _ (lit≤ tt) (omega arith) c.requires.working (looked u.looks) (omega (arith, d)) c.in_ok-made.ensures.builds
 
 pub drop_root-requires : goal.drop_root-requires

@@ -1,3 +1,13 @@
+use Rattle.shm_tree.specs.{declared.hints.Hints.TheVariants.Off, Keeping.IsStill}
+use Rattle.shm_tree.specs.{Working.{IsSameLatch, IsSpent, IsWorking, Reaches}, Falling.AreFalling}
+use Rattle.shm_tree.proofs.Alive.{went_alive, went_dead}
+use Rattle.shm_tree.proofs.Answering.{Answered, alive_died, cause_died, emptied_then, reaches_then, refused_died, within_before, plan_answered}
+use Rattle.shm_tree.proofs.Drops.{drop_done, drop_kept, drop_latch, drop_spent, drop_torn, drop_works, dropped_then, kept_within}
+use Rattle.shm_tree.proofs.{Eras.{spent_stays, spent_went}, Links.{still_then, went_then}, Makes.spent_over}
+use Rattle.shm_tree.proofs.{SureCalls.drop_most, Tearings.{done_torn, stopped_torn, torn_then}, Anytime.always_falls}
+use Rattle.shm_tree.proofs.{Harmless.drop_keeps, CutOffs.{begun_ran, died_ran, died_then, look_died}}
+use Rattle.shm_tree.proofs.calls.drop_root.Goals.{After-new-dropping, In-Some-Ok, In-Some-Err, After-run}
+use Rattle.shm_tree.proofs.calls.drop_root.Goals as goal
 use Rattle.std.proofs.Common.{◌≡◌, ◌≢◌, ℕ, ◌+◌, ◌≤◌, length, arith, refl, sym, ap, ◌∙◌, subst, inr, true, Bool, false}
 use Rattle.std.proofs.lemmas.Result.{err_from_is_err_and}
 use Rattle.std.specs.Prelude.{Ok, Err}
@@ -9,15 +19,6 @@ use Rattle.shm_ref.specs.{declared.drop_root.DropState.DropState, DropRoot.Contr
 use Rattle.shm_ref.specs.{DropRoot.{DropLeaves, drop_plan}, Proved.RootTasks.DropMay}
 use Rattle.shm_ref.proofs.RefusedDrops.{spent_some}
 use Rattle.shm_client.proofs.Running.{plan_may}
-use Rattle.shm_tree.specs.{Keeping.IsStill, Working.{IsSameLatch, IsSpent, IsWorking, Reaches}, Falling.AreFalling}
-use Rattle.shm_tree.proofs.Alive.{went_alive, went_dead}
-use Rattle.shm_tree.proofs.Answering.{Answered, alive_died, cause_died, emptied_then, reaches_then, refused_died, within_before, plan_answered}
-use Rattle.shm_tree.proofs.Drops.{drop_done, drop_kept, drop_latch, drop_spent, drop_torn, drop_works, dropped_then, kept_within}
-use Rattle.shm_tree.proofs.{Eras.{spent_stays, spent_went}, Links.{still_then, went_then}, Makes.spent_over}
-use Rattle.shm_tree.proofs.{SureCalls.drop_most, Tearings.{done_torn, stopped_torn, torn_then}, Anytime.always_falls}
-use Rattle.shm_tree.proofs.{Harmless.drop_keeps, CutOffs.{begun_ran, died_ran, died_then, look_died}}
-use Rattle.shm_tree.proofs.calls.drop_root.Goals.{After-new-dropping, In-Some-Ok, In-Some-Err, After-run}
-use Rattle.shm_tree.proofs.calls.drop_root.Goals as goal
 
 -- references fall after it, whether it was answered or not
 falls : (c : After-run) (answered : Bool) → Ran 0 true answered c.args.pool.now c.run.new.self c.args.life.now.left c.run.new.life.left → AreFalling c.args.pool.now → AreFalling c.run.new.self
@@ -116,7 +117,7 @@ returns-in_err-tree-in-Some-Err c =
       steps = tt;
       refused_steps = refused_died (Unit {0}) _ _ died.0;
       spent = refused_died (Unit {0}) (IsSpent (memo_of q 0)) _ died.0;
-      cause = cause_died p q _ died.0;
+      cause = cause_died Off p q _ died.0;
       died = died_then p m q _ _ (latch first) (look_died m q _ _ died);
       begun = λ e. inr (inr (spent_went m q (working first) c.in_err-tree-in-Some-Err.ensures.looks.went (spent_era first)));
     })

@@ -1,4 +1,4 @@
-use Rattle.std.proofs.Common.{◌≡◌, refl, ap, ◌∙◌, arith, inl, inr, List, true, false}
+use Rattle.std.proofs.Common.{◌≡◌, refl, ap, ◌∙◌, arith, inl, inr, List, [], ◌∷◌, true, false}
 use Rattle.std.specs.Prelude.{Some, Ok, Err}
 use Rattle.shm_graph.specs.Events.{Event}
 use Rattle.shm_alloc.specs.Alloc.Events.{own_events}
@@ -6,7 +6,7 @@ use Rattle.shm_alloc.specs.declared.alloc.AllocFault.TheVariants as fault
 use Rattle.shm_count.specs.Roots.{member}
 use Rattle.shm_tree.proofs.Alive.{on_answer, went_alive}
 use Rattle.shm_tree.proofs.Makes.{full_over, make_cause, make_latch, make_made, make_reaches, make_room, make_within, make_works, refused_reaches, refused_still, spent_over}
-use Rattle.shm_tree.proofs.{Harmless.alloc_falls, Unnamed.made_unnamed, CutOffs.changes_dead}
+use Rattle.shm_tree.proofs.{Asking.asked_near, Harmless.alloc_falls, Unnamed.made_unnamed, CutOffs.changes_dead}
 use Rattle.shm_tree.proofs.calls.make.Goals as goal
 
 pub unreachable-requires : goal.unreachable-requires
@@ -17,7 +17,8 @@ unreachable-requires c =
     let e : x.field-0 ≡ Some (Err fault.RootsFull) = x.field-0-is ∙ ap Some (x.field-0-0-is ∙ ap Err x.field-0-0-0-is) in
     let es : List Event = own_events (member p.start.geometry 0) (Err fault.RootsFull) in
     let on = on_answer true p q _ _ es c.requires.working (rw e at x.ensures.ran) (rw e at x.ensures.at_work) (rw e at x.ensures.events) in
-    let (m, asked, y) = rw e at x.ensures.gives in
+    let (m, by, y) = rw e at x.ensures.gives in
+    let asked = asked_near c.args.hints p.start.geometry (c.args.content.key ∷ c.args.content.number ∷ c.args.height ∷ []) m by in
     make_room p q es on c.args.content c.args.height m asked c.requires.room y
 
 pub unreachable-requires-in-Err : goal.unreachable-requires-in-Err
@@ -48,7 +49,8 @@ returns-in-Ok-Some-Ok c =
     let ran = rw e at x.ensures.ran in
     let at = rw e at x.ensures.at_work in
     let on = on_answer true p q _ _ es c.requires.working ran at (rw e at x.ensures.events) in
-    let (m, asked, y) = rw e at x.ensures.gives in
+    let (m, by, y) = rw e at x.ensures.gives in
+    let asked = asked_near c.args.hints p.start.geometry (c.args.content.key ∷ c.args.content.number ∷ c.args.height ∷ []) m by in
     let low = rw e at x.ensures.number in
     let names = rw e at x.ensures.root in
     let others = rw e at x.ensures.roots in
@@ -81,7 +83,8 @@ returns-in-Ok-Some-Err-Full c =
     let ran = rw e at x.ensures.ran in
     let at = rw e at x.ensures.at_work in
     let on = on_answer true p q _ _ es c.requires.working ran at (rw e at x.ensures.events) in
-    let (m, asked, y) = rw e at x.ensures.gives in
+    let (m, by, y) = rw e at x.ensures.gives in
+    let asked = asked_near c.args.hints p.start.geometry (c.args.content.key ∷ c.args.content.number ∷ c.args.height ∷ []) m by in
     let d = c.args.content in
     let h = c.args.height in
     record {
@@ -93,7 +96,7 @@ returns-in-Ok-Some-Err-Full c =
             reaches = refused_reaches p q es on d h m asked f y;
             refused = refused_still p q es on d h m asked f y refl;
             steps = make_within p q es on d h m asked _ _ (Err f) y (ran.spent refl refl);
-            cause = make_cause p q es on d h m asked f y;
+            cause = make_cause p q es on d h m asked c.args.hints f by y;
             died = full_over x.segments x.blocks p q c.allocate.new.life.left;
           };
       made = tt;
@@ -111,7 +114,8 @@ returns-in-Ok-Some-Err-EraSpent c =
     let ran = rw e at x.ensures.ran in
     let at = rw e at x.ensures.at_work in
     let on = on_answer true p q _ _ es c.requires.working ran at (rw e at x.ensures.events) in
-    let (m, asked, y) = rw e at x.ensures.gives in
+    let (m, by, y) = rw e at x.ensures.gives in
+    let asked = asked_near c.args.hints p.start.geometry (c.args.content.key ∷ c.args.content.number ∷ c.args.height ∷ []) m by in
     let d = c.args.content in
     let h = c.args.height in
     record {
@@ -123,7 +127,7 @@ returns-in-Ok-Some-Err-EraSpent c =
             reaches = refused_reaches p q es on d h m asked f y;
             refused = refused_still p q es on d h m asked f y refl;
             steps = make_within p q es on d h m asked _ _ (Err f) y (ran.spent refl refl);
-            cause = inl (make_cause p q es on d h m asked f y);
+            cause = inl (make_cause p q es on d h m asked c.args.hints f by y);
             died = spent_over x.era p q c.allocate.new.life.left;
           };
       made = tt;

@@ -7,7 +7,7 @@ use Rattle.shm_tree.specs.Keeping.{HasGrown, HasTree, IsBorn, IsMade, IsReferrin
 use Rattle.shm_tree.specs.{Standing.TreeStands, Trees.{Tree, height}}
 use Rattle.shm_tree.proofs.Answering.{reached_then, room_still, tree_still}
 use Rattle.shm_tree.proofs.Building.{Looked, looked, looked_then, looks_after}
-use Rattle.shm_tree.proofs.Changing.{Changed, changed_looked, changed_then, changes_cut, changes_done, changes_first, changes_from}
+use Rattle.shm_tree.proofs.Changing.{Changed, changed_looked, changed_then, changes_by, changes_cut, changes_done, changes_first, changes_from}
 use Rattle.shm_tree.proofs.Links.{born_grown, born_refers, born_still, heights_fit, linked_of, still_born, still_grown, still_then}
 use Rattle.shm_tree.proofs.{Unnamed.tree_other, node.link.Goals.{In_ok-near, In_ok-far, In_ok-made, In_ok-refer}}
 use Rattle.shm_tree.proofs.node.link.Goals as goal
@@ -152,7 +152,7 @@ returns-in_err-refer-clause-changes c =
     let a = c.in_ok-made.made in
     let l = on_made at in
     changes_from c.from_residual-in_err-refer.result c.from_residual-in_err-refer.ensures.1
-    (changes_cut {T = Made} {M = HasGrown 1} {a = 4 + make_steps p.start.geometry} refer_steps _ (omega arith) c.requires.working l c.in_err-refer.ensures.changes (λ s. born_grown a p q (born_still p c.make.new.pool q c.requires.working l.working l.went.start a (born at) s)))
+    (changes_cut {T = Made} {M = HasGrown 1} {a = 4 + make_steps p.start.geometry} refer_steps _ (omega arith) c.requires.working l (changes_by _ c.in_err-refer.ensures.changes) (λ s. born_grown a p q (born_still p c.make.new.pool q c.requires.working l.working l.went.start a (born at) s)))
 
 pub returns-in_err-refer-2-clause-changes : goal.returns-in_err-refer-2-clause-changes
 returns-in_err-refer-2-clause-changes c =
@@ -162,7 +162,7 @@ returns-in_err-refer-2-clause-changes c =
     let a = c.in_ok-made.made in
     let l = on_one at in
     changes_from c.from_residual-in_err-refer-2.result c.from_residual-in_err-refer-2.ensures.1
-    (changes_cut {T = Made} {M = HasGrown 1} {a = 4 + make_steps p.start.geometry + refer_steps p.start.geometry} refer_steps _ (omega arith) c.requires.working l c.in_err-refer-2.ensures.changes (λ s. born_grown a p q (born_still p c.refer.new.pool q c.requires.working l.working l.went.start a (born_one at) s)))
+    (changes_cut {T = Made} {M = HasGrown 1} {a = 4 + make_steps p.start.geometry + refer_steps p.start.geometry} refer_steps _ (omega arith) c.requires.working l (changes_by _ c.in_err-refer-2.ensures.changes) (λ s. born_grown a p q (born_still p c.refer.new.pool q c.requires.working l.working l.went.start a (born_one at) s)))
 
 -- ---- it refers to both
 

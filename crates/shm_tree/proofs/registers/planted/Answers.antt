@@ -67,7 +67,7 @@ returns c =
     let (t0, w0) = c.requires.tree in
     let s0 = entered_stands n t0 w0.stands in
     let Built : Result Made Stop → Type 0 = λ v. IfOk v (λ m. (t : Tree) → TreeStands q c.in_ok-tree.tree t → IsBuilt (height t + 3) m q r) in
-    let Builds' : Result Made Stop → Type 0 = λ v. (t : Tree) → TreeStands q c.in_ok-tree.tree t → Builds (height t + 3) (insert_steps (height t) q.start.geometry) v q r y z in
+    let Builds' : Result Made Stop → Type 0 = λ v. (t : Tree) → TreeStands q c.in_ok-tree.tree t → Builds c.args.hints (height t + 3) (insert_steps (height t) q.start.geometry) v q r y z in
     record {
       off = released_off a wp n (h.builds t0 s0) o rel;
       calls = released_calls a wp n (h.builds t0 s0) c.requires.latch (ok_kept a (λ m b. named_cut (built_cut (b t0 s0))) h.built) o rel;

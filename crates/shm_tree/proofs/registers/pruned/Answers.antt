@@ -66,7 +66,7 @@ returns c =
     let (t0, w0) = c.requires.tree in
     let s0 = entered_stands n t0 w0.stands in
     let Taken : Result (Option Removed) Stop → Type 0 = λ v. IfOk v (λ m. (t : Tree) → TreeStands q c.in_ok-tree.tree t → IsRemoved x t m q r) in
-    let Builds' : Result (Option Removed) Stop → Type 0 = λ v. (t : Tree) → TreeStands q c.in_ok-tree.tree t → Builds (3 * height t) (remove_steps (height t) q.start.geometry) v q r y z in
+    let Builds' : Result (Option Removed) Stop → Type 0 = λ v. (t : Tree) → TreeStands q c.in_ok-tree.tree t → Builds c.args.hints (3 * height t) (remove_steps (height t) q.start.geometry) v q r y z in
     record {
       off = released_off a wp n (h.builds t0 s0) o rel;
       calls = released_calls a wp n (h.builds t0 s0) c.requires.latch (ok_kept a (λ m b. removed_named x t0 m q r (b t0 s0)) h.removed) o rel;

@@ -5,7 +5,7 @@ use Rattle.shm_tree.specs.declared.{node.{Content.Content, Side.Side}, remove.Re
 use Rattle.shm_tree.specs.{Bounds.{fall_steps, remnant_steps, remove_steps, raise_steps}, Building.{IsCut, block_of}}
 use Rattle.shm_tree.specs.{Raising.again, Removing.{rest, side_tree}, Spending.HasSpent, Standing.TreeStands}
 use Rattle.shm_tree.specs.{Trees.{Tree, height}, Ways.{IsDeep, down}}
-use Rattle.shm_tree.proofs.Building.{builds_cut, builds_died, builds_done, builds_first, builds_from, built_more, cut_then, looked, looked_then, made_more, rooms_still, root_reached, still_cut, went_on}
+use Rattle.shm_tree.proofs.Building.{builds_by, builds_cut, builds_died, builds_done, builds_first, builds_from, built_more, cut_then, looked, looked_then, made_more, rooms_still, root_reached, still_cut, went_on}
 use Rattle.shm_tree.proofs.{Descents.others_deep, Fallings.{cut_stay, fallen_low, fallen_more, fallen_none}}
 use Rattle.shm_tree.proofs.{Fresh.made_few, Growing.down_tree, Levels.{IsWay, rest_last, rest_level, rest_top, told}}
 use Rattle.shm_tree.proofs.LiveCounts.{spent_made}
@@ -118,7 +118,7 @@ returns-in_err-made-clause-builds c =
     let l = c.in_ok-lowest.ensures in
     let n = c.in_ok-next.ensures in
     let run = c.requires.working.run in
-    let r = c.in_err-made.ensures.builds in
+    let r = builds_by {hints = c.args.hints} _ c.in_err-made.ensures.builds in
     let x = c.args.wanted in
     let a = c.in_ok-place.place.depth in
     let e = c.in_ok-lowest.lowest.depth in

@@ -1,6 +1,6 @@
-use Rattle.std.proofs.Common.{◌≡◌, ◌<◌, Bool, true, false, arith, refl, sym, ap, ◌∙◌, subst}
+use Rattle.std.proofs.Common.{◌≡◌, ◌<◌, Bool, true, arith, refl, sym, ap, ◌∙◌, subst}
 use Rattle.shm_graph.specs.{declared.run.{Account.Account, Start.Start}, Runs.Stood, Whole.fits_now}
-use Rattle.shm_pool.specs.{Rescues.{IsRescuing, account_of}, Rules.alone, Tokens.Its}
+use Rattle.shm_pool.specs.{Rescues.IsRescuing, Rules.alone, Tokens.Its}
 use Rattle.shm_pool.proofs.{Rescuing.{Stepped, finished_by, rescued}, Seating.seated_on, rescue.Rescue.step.Given.Over}
 use Rattle.shm_pool.proofs.rescue.Rescue.step.Goals.{After-top-2}
 use Rattle.shm_pool.proofs.rescue.Rescue.step.Goals as goal

@@ -29,7 +29,7 @@ returns-in-Done g c =
     let O = g.C.Operation in
     let S = g.C.Shows in
     let x = (goal.at.returns-in-Done g c).After-of-command in
-    record { called = commanded_done M.control M.fits O.may O.does O.leaves O.rests S.effect S.made g.met.C.Shows.shows c.requires.maps c.args.line.now c.args.self.now c.run_on.new.self c.args.life.now.left c.run_on.new.life.left c.of-command.result c.in-Done.answer (planned g x) c.in-Done.ensures.done c.in-Done.ensures.effect }
+    record { called = commanded_done M.control M.fits O.may O.does O.leaves O.rests S.effect S.made g.met.C.Shows.shows c.requires.maps c.requires.sends c.args.line.now c.args.self.now c.run_on.new.self c.args.life.now.left c.run_on.new.life.left c.of-command.result c.in-Done.answer (planned g x) c.in-Done.ensures.done c.in-Done.ensures.effect }
 
 pub returns : goal.returns
 returns g c =
@@ -41,8 +41,8 @@ returns g c =
     let d = c.in-Died.ensures in
     let x = (goal.at.returns g c).After-of-command in
     record {
-      called = subst (λ (z : Acting). HasRun M.control M.fits O.does O.leaves S.effect S.made c.args.line.now t z c.args.life.now.left c.run_on.new.life.left Died) (sym c.keep_effect.ensures)
-          (commanded_died M.control M.fits O.may O.does O.leaves O.rests S.effect S.made g.met.C.Shows.shows c.requires.maps c.args.line.now t c.run_on.new.self c.args.life.now.left c.run_on.new.life.left c.of-command.result c.run_on.new.operation c.effect.result alive (planned g x) d.done (d.driven alive) (d.cut alive tt) c.effect.ensures);
+      called = subst (λ (z : Acting). HasRun M.control S.effect S.made O.leaves c.args.line.now t z c.args.life.now.left c.run_on.new.life.left Died) (sym c.keep_effect.ensures)
+          (commanded_died M.control M.fits O.may O.does O.leaves O.rests S.effect S.made g.met.C.Shows.shows c.requires.maps c.requires.sends c.args.line.now t c.run_on.new.self c.args.life.now.left c.run_on.new.life.left c.of-command.result c.run_on.new.operation c.effect.result alive (planned g x) d.done (d.driven alive) (d.cut alive tt) c.effect.ensures);
     }
 
 pub returns-in_default : goal.returns-in_default
@@ -50,4 +50,4 @@ returns-in_default g c =
     let M = g.C.Machine in
     let O = g.C.Operation in
     let S = g.C.Shows in
-    record { called = commanded_dead M.control M.fits O.may O.does O.leaves O.rests S.effect S.made g.met.C.Shows.shows c.requires.maps c.args.line.now c.args.self.now c.args.life.now.left c.in_default.ensures.stood (c.in_default.ensures.dead refl) }
+    record { called = commanded_dead M.control M.fits O.may O.does O.leaves O.rests S.effect S.made g.met.C.Shows.shows c.requires.maps c.requires.sends c.args.line.now c.args.self.now c.args.life.now.left c.in_default.ensures.stood (c.in_default.ensures.dead refl) }

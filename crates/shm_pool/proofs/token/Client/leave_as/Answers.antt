@@ -1,4 +1,4 @@
-use Rattle.std.proofs.{Common.{◌≡◌, refl, sym, ap, ◌∙◌, subst}, lemmas.Result.{IfErr-weaker, IfOk-weaker}}
+use Rattle.std.proofs.{Common.{◌≡◌, sym, ap, ◌∙◌, subst}, lemmas.Result.{IfErr-weaker, IfOk-weaker}}
 use Rattle.std.specs.Prelude.{IfErr, IfOk}
 use Rattle.plans.specs.{CallsControl.{calls_control, calls_does, calls_of}, CallsFit.{CallsFits, CallsGives}}
 use Rattle.plans.specs.Proved.CallsKeep.{calls_tells}

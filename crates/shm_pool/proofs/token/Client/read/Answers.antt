@@ -1,23 +1,17 @@
-use Rattle.std.proofs.Common.{◌≡◌, refl, sym, ap, ◌∙◌, subst}
-use Rattle.shm_graph.specs.declared.ask.Me.{Me}
+use Rattle.std.proofs.Common.{refl}
 use Rattle.plans.specs.Words.{word_control}
-use Rattle.shm_ref.specs.{Proved.LatchTasks.ReadMay, Read.{read_plan, reading}, declared.read.ReadState.ReadState}
-use Rattle.shm_pool.specs.Tokens.{me_of}
-use Rattle.shm_pool.proofs.{Named.{called_as, called_dead, reach_small}, token.Client.read.Goals.After-new}
+use Rattle.shm_ref.specs.{Proved.LatchTasks.ReadMay, Read.{read_plan, reading}}
+use Rattle.shm_pool.proofs.Named.{called_as, called_dead, may_as, reach_small}
 use Rattle.shm_pool.proofs.token.Client.read.Goals as goal
 
 pub new-requires-clause-block : goal.new-requires-clause-block
 new-requires-clause-block c = reach_small c.args.self.now c.in-Some.me c.alive.ensures.stood c.requires.between c.in-Some.ensures.alive c.args.block c.requires.reached
 
--- the plan is one of the client's identity
-planned : (c : After-new) → c.new.result ≡ reading (me_of c.args.self.now.of c.args.self.now.account) c.args.block c.args.k
-planned c = c.new.ensures ∙ ap (λ (x : Me). reading x c.args.block c.args.k) c.in-Some.ensures.alive.is
-
 pub run_plan-requires-clause-may : goal.run_plan-requires-clause-may
-run_plan-requires-clause-may c = λ alive. subst (λ (m : ReadState). ReadMay m c.args.self.now.account.memo) (sym (planned (goal.at.run_plan-requires-clause-may c).After-new)) (refl, c.requires.reached alive)
+run_plan-requires-clause-may c = λ alive. may_as ReadMay (λ x. reading x c.args.block c.args.k) c.in-Some.ensures.alive c.new.ensures (refl, c.requires.reached alive)
 
 pub returns : goal.returns
-returns c = record { called = called_as word_control read_plan _ (reading (me_of c.args.self.now.of c.args.self.now.account) c.args.block c.args.k) _ _ _ _ _ (planned (goal.at.returns c).After-new) c.run_plan.ensures.called }
+returns c = record { called = called_as word_control read_plan (λ x. reading x c.args.block c.args.k) c.in-Some.ensures.alive c.new.ensures c.run_plan.ensures.called }
 
 pub returns-in_default : goal.returns-in_default
-returns-in_default c = record { called = called_dead word_control read_plan (reading (me_of c.args.self.now.of c.args.self.now.account) c.args.block c.args.k) c.args.self.now c.args.life.now.left c.in_default.ensures.stood (c.in_default.ensures.dead refl) }
+returns-in_default c = record { called = called_dead word_control read_plan _ c.args.self.now c.args.life.now.left c.in_default.ensures.stood (c.in_default.ensures.dead refl) }

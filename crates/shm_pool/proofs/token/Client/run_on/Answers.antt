@@ -39,7 +39,7 @@ returns-clause-done g c =
       again = λ d. let y = h.again d in (y.0, y.1, ap (λ (x : Life). x.left) y.3);
       spent = h.spent;
       call = λ alive. (h.call alive).call;
-      events = λ alive. let d = (h.call alive).driven in record { steps = d.steps; events = d.events O.does l.tells };
+      events = λ alive. let d = (h.call alive).driven in record { steps = d.steps; made = d.made; events = d.events O.does l.tells };
       asked = λ alive. asked M.control M.fits c.args.operation.now c.drive.new.m e q c.args.life.now.left c.drive.new.life.left o (l.fresh c.args.operation.now e.memo (c.requires.may alive)) (h.call alive);
       told = once;
       left_so = left;

@@ -3,7 +3,7 @@ use Rattle.std.specs.Prelude.{Option}
 use Rattle.shm_tree.specs.{declared.line.TreeLine.TreeLine, Costing.{CostsLine, FewSet, StopsLine}}
 use Rattle.shm_tree.specs.{CutShort.{DiesHalfDone, IsWordless}, Forests.IsInRange, Working.IfRefused}
 use Rattle.shm_tree.specs.declared.line.TreeLine.TheVariants as lines
-use Rattle.shm_tree.proofs.{CutShort.{empty_root, off_from}, Moving.{moves_from, moves_to}}
+use Rattle.shm_tree.proofs.{CutShort.{empty_root, off_from}, Moving.{moves_by, moves_from, moves_to}}
 use Rattle.shm_tree.proofs.Refusals.{handed, handed_over}
 use Rattle.shm_tree.proofs.registers.Registers.answer.Goals as goal
 
@@ -46,13 +46,13 @@ pub returns-in_err-was-in-Del-clause-moves : goal.returns-in_err-was-in-Del-clau
 returns-in_err-was-in-Del-clause-moves c = moves_from c.from_residual-in_err-was-in-Del.result c.from_residual-in_err-was-in-Del.ensures.1 (moves_to Bool _ c.in_err-was-in-Del.ensures.moves)
 
 pub returns-in_err-number-in-Get-clause-moves : goal.returns-in_err-number-in-Get-clause-moves
-returns-in_err-number-in-Get-clause-moves c = moves_from c.from_residual-in_err-number-in-Get.result c.from_residual-in_err-number-in-Get.ensures.1 (moves_to (Option ℕ) _ c.in_err-number-in-Get.ensures.moves)
+returns-in_err-number-in-Get-clause-moves c = moves_from c.from_residual-in_err-number-in-Get.result c.from_residual-in_err-number-in-Get.ensures.1 (moves_to (Option ℕ) _ (moves_by _ c.in_err-number-in-Get.ensures.moves))
 
 pub returns-in_err-copy-in-Copy-clause-moves : goal.returns-in_err-copy-in-Copy-clause-moves
-returns-in_err-copy-in-Copy-clause-moves c = moves_from c.from_residual-in_err-copy-in-Copy.result c.from_residual-in_err-copy-in-Copy.ensures.1 (moves_to (Unit {0}) _ c.in_err-copy-in-Copy.ensures.moves)
+returns-in_err-copy-in-Copy-clause-moves c = moves_from c.from_residual-in_err-copy-in-Copy.result c.from_residual-in_err-copy-in-Copy.ensures.1 (moves_to (Unit {0}) _ (moves_by _ c.in_err-copy-in-Copy.ensures.moves))
 
 pub returns-in_err-clear-in-Clear-clause-moves : goal.returns-in_err-clear-in-Clear-clause-moves
-returns-in_err-clear-in-Clear-clause-moves c = moves_from c.from_residual-in_err-clear-in-Clear.result c.from_residual-in_err-clear-in-Clear.ensures.1 (moves_to (Unit {0}) _ c.in_err-clear-in-Clear.ensures.moves)
+returns-in_err-clear-in-Clear-clause-moves c = moves_from c.from_residual-in_err-clear-in-Clear.result c.from_residual-in_err-clear-in-Clear.ensures.1 (moves_to (Unit {0}) _ (moves_by _ c.in_err-clear-in-Clear.ensures.moves))
 
 pub returns-in_ok-set-in-Set-clause-costs : goal.returns-in_ok-set-in-Set-clause-costs
 returns-in_ok-set-in-Set-clause-costs c = subst (λ (l : TreeLine). CostsLine l c.args.self.now c.set.new.self c.args.life.now.left c.set.new.life.left) (sym c.in-Set.is) c.in_ok-set-in-Set.ensures.costs

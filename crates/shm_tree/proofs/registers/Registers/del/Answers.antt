@@ -9,7 +9,7 @@ use Rattle.shm_tree.specs.declared.line.TreeLine.TheVariants as lines
 use Rattle.shm_tree.proofs.{Building.went_on, Costing.{part_costs, put_costs, unput_costs}}
 use Rattle.shm_tree.proofs.CutShort.{off_from, same_off, spare_off, under_off}
 use Rattle.shm_tree.proofs.Forests.{calls_kept, registers_named, registers_then, registers_versions, untold}
-use Rattle.shm_tree.proofs.Moving.{calls_ok, deleted_all, deleted_some, made_alone, made_forest, made_kept, made_spare, made_tree, moves_after, moves_done, moves_from, moves_stop, moves_to, same_forest, same_kept, same_versions}
+use Rattle.shm_tree.proofs.Moving.{calls_ok, deleted_all, deleted_some, made_alone, made_forest, made_kept, made_spare, made_tree, moves_after, moves_by, moves_done, moves_from, moves_stop, moves_to, same_forest, same_kept, same_versions}
 use Rattle.shm_tree.proofs.Refusals.{added_none, all_of, first_of, first_of_three, handed, none_added, none_least, spends_more, spends_of, spends_then}
 use Rattle.shm_tree.proofs.{Spares.rooms_tidy, registers.Registers.del.Goals.{In_ok-pruned, In-Some-None, In-Some-Some}}
 use Rattle.shm_tree.proofs.registers.Registers.del.Goals as goal
@@ -78,7 +78,7 @@ pub returns-in_err-replace-in-Some-None-clause-moves : goal.returns-in_err-repla
 returns-in_err-replace-in-Some-None-clause-moves c =
     let d = (goal.at.returns-in_err-replace-in-Some-None-clause-moves c).In_ok-pruned in
     moves_from c.from_residual-in_err-replace-in-Some-None.result c.from_residual-in_err-replace-in-Some-None.ensures.1
-    (moves_after _ c.requires.forest (steps d) (keeps_none d) (moves_to (Unit {0}) _ c.in_err-replace-in-Some-None.ensures.moves))
+    (moves_after _ c.requires.forest (steps d) (keeps_none d) (moves_to (Unit {0}) _ (moves_by _ c.in_err-replace-in-Some-None.ensures.moves)))
 
 pub returns-in_ok-replace-in-Some-None-clause-moves : goal.returns-in_ok-replace-in-Some-None-clause-moves
 returns-in_ok-replace-in-Some-None-clause-moves c =
@@ -117,7 +117,7 @@ returns-in_err-put-in-Some-Some-clause-moves c =
     let at = goal.at.returns-in_err-put-in-Some-Some-clause-moves c in
     let s = c.in_ok-sweep.ensures in
     moves_from c.from_residual-in_err-put-in-Some-Some.result c.from_residual-in_err-put-in-Some-Some.ensures.1
-    (moves_after _ c.requires.forest (steps at.In_ok-pruned) (registers_then s.same (keeps_some at.In-Some-Some)) (moves_to (Unit {0}) _ c.in_err-put-in-Some-Some.ensures.moves))
+    (moves_after _ c.requires.forest (steps at.In_ok-pruned) (registers_then s.same (keeps_some at.In-Some-Some)) (moves_to (Unit {0}) _ (moves_by _ c.in_err-put-in-Some-Some.ensures.moves)))
 
 pub returns-in_ok-put-in-Some-Some-clause-moves : goal.returns-in_ok-put-in-Some-Some-clause-moves
 returns-in_ok-put-in-Some-Some-clause-moves c =
@@ -197,7 +197,7 @@ returns-in_err-put-in-Some-Some-clause-refused c =
     handed (Unit {0}) (StopsLine (lines.Del c.args.to c.args.from c.args.key) c.args.self.now c.put.new.self c.args.life.now.left c.put.new.life.left) _ c.from_residual-in_err-put-in-Some-Some.result c.from_residual-in_err-put-in-Some-Some.ensures.1 (λ r ts v. last_part d c.put.new.self c.put.new.life.left ts v e.moves.went r) e.refused
 
 pub returns-in_err-sweep-clause-moves : goal.returns-in_err-sweep-clause-moves
-returns-in_err-sweep-clause-moves c = moves_from c.from_residual.result c.from_residual.ensures.1 (moves_to (Unit {0}) _ c.in_err-sweep.ensures.moves)
+returns-in_err-sweep-clause-moves c = moves_from c.from_residual.result c.from_residual.ensures.1 (moves_to (Unit {0}) _ (moves_by _ c.in_err-sweep.ensures.moves))
 
 -- a tree was made in a root of its own
 pub put-requires-clause-root : goal.put-requires-clause-root

@@ -6,7 +6,7 @@ use Rattle.shm_tree.specs.declared.line.TreeLine.TheVariants as lines
 use Rattle.shm_tree.proofs.{Building.went_on, Costing.{part_costs, set_costs, set_few}}
 use Rattle.shm_tree.proofs.CutShort.{off_from, spare_off, under_off}
 use Rattle.shm_tree.proofs.Forests.{registers_named, registers_then, registers_versions, calls_kept, untold}
-use Rattle.shm_tree.proofs.Moving.{made_alone, made_forest, made_kept, made_spare, made_tree, made_versions, moves_after, moves_from, moves_stop, put_done}
+use Rattle.shm_tree.proofs.Moving.{made_alone, made_forest, made_kept, made_spare, made_tree, made_versions, moves_after, moves_by, moves_from, moves_stop, put_done}
 use Rattle.shm_tree.proofs.Refusals.{added_none, all_of, first_of, first_of_three, handed, none_added, none_least, refused_kept, spends_more, spends_of, spends_then}
 use Rattle.shm_tree.proofs.Spares.{rooms_tidy}
 use Rattle.shm_tree.proofs.registers.Registers.set.Goals as goal
@@ -43,7 +43,7 @@ put-requires c =
     }
 
 pub returns-in_err-sweep-clause-moves : goal.returns-in_err-sweep-clause-moves
-returns-in_err-sweep-clause-moves c = moves_from c.from_residual.result c.from_residual.ensures.1 c.in_err-sweep.ensures.moves
+returns-in_err-sweep-clause-moves c = moves_from c.from_residual.result c.from_residual.ensures.1 (moves_by _ c.in_err-sweep.ensures.moves)
 
 pub returns-in_err-made-clause-moves : goal.returns-in_err-made-clause-moves
 returns-in_err-made-clause-moves c =
@@ -65,7 +65,7 @@ returns c =
     let same = made_versions g q m x s.tidy p.calls p.rooted p.some in
     record {
       off = spare_off (lines.Set c.args.to c.args.from c.args.key c.args.number) c.args.self.now (record { pool = q; roots = g.roots; tidy = false }) c.put.new.self m.root c.args.life.now.left c.planted.new.life.left c.put.result p.rooted.low (made_spare g q m x s.tidy p.calls p.rooted p.some) o.begun o.kept;
-      moves = moves_after _ c.requires.forest (went_on c.requires.forest.working.run s.moves.went p.calls.went) (registers_then s.same (made_kept g q m x s.tidy p.calls p.rooted p.some)) o.moves;
+      moves = moves_after _ c.requires.forest (went_on c.requires.forest.working.run s.moves.went p.calls.went) (registers_then s.same (made_kept g q m x s.tidy p.calls p.rooted p.some)) (moves_by _ o.moves);
       done =
           put_done c.args.to m.root c.args.self.now (record { pool = q; roots = g.roots; tidy = false }) c.put.new.self (λ ts. inserted c.args.key c.args.number (version ts c.args.from)) _ (λ ts v.
           (let w = registers_versions s.same ts v in

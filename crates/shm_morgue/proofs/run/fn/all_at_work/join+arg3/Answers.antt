@@ -1,4 +1,4 @@
-use Rattle.std.proofs.Common.{◌≡◌, refl, sym, subst, arith, List, [], ◌∷◌}
+use Rattle.std.proofs.Common.{refl, sym, subst, arith, List}
 use Rattle.std.specs.List.{Contains}
 use Rattle.shm_pool.specs.Tokens.{Its}
 use Rattle.shm_morgue.proofs.run.fn.all_at_work.join+arg3.Goals as goal

@@ -1,0 +1,13 @@
+use Rattle.std.proofs.Common.{refl, sym}
+use Rattle.shm_pool.specs.Tokens.{me_of}
+use Rattle.lojarnek.proofs.{Parts.joined_map, Ready.ready_joined}
+use Rattle.lojarnek.proofs.vacant.Vacant.join.Goals as goal
+
+pub joined-requires-clause-ready : goal.joined-requires-clause-ready
+joined-requires-clause-ready c = let t = c.self.inside.token in let e = c.in-Ok.ensures in ready_joined (me_of t.of t.account) _ c.in-Ok.client (sym e.same.1) e.gives e.leaves
+
+pub returns : goal.returns
+returns c =
+    let t = c.self.inside.token in
+    let e = c.in-Ok.ensures in
+    rw (c.joined.ensures, ← c.self.view_is) (record { same = (e.same.0, e.same.1); alive = e.same.2; budget = refl; map = joined_map t.account c.in-Ok.client.account e.keeps })

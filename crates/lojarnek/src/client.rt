@@ -1,0 +1,128 @@
+//! An identity that somebody works for.
+
+ghost use Rattle.std.specs.Prelude.{◌≡◌, ◌<◌, ◌^◌, ◌-◌, true, false, IfOk, IfErr};
+ghost use Rattle.lojarnek.specs.{Homes.IsHome, Standing.{IsRecovered, IsReadyForCall, IsStopped, corpse_of}};
+
+use crate::corpse::Corpse;
+use crate::desk::Rest;
+use crate::place::Place;
+use crate::stopped::Stopped;
+use crate::vacant::Vacant;
+use shm_graph::Life;
+use std::fmt;
+use std::marker::Model;
+
+/// An identity with a client, which makes its calls. It has a budget of word steps, which is endless at first; where that is used up the client
+/// is dead, and each further call answers `Died`. A client that is dropped is dead too, and its corpse can be had from the pool (`Pool::corpse`).
+pub struct Client<'p> {
+    pub(crate) place: Place<'p>,
+    pub(crate) token: shm_pool::Client,
+    pub(crate) dead: bool,
+    pub(crate) life: Life,
+}
+
+impl<'p> Model for Client<'p> {
+    ghost use Rattle.std.specs.Prelude.{◌≡◌};
+    ghost use Rattle.lojarnek.specs.{Homes.IsHome, Standing.{Acts, IsReadyForCall}};
+
+    ghost Value = { Acts };
+
+    ghost view = { λ c. record { token = c.token; left = c.life.left } };
+
+    ghost invariant = { λ c. IsHome c.place c.token.of c.token.account.who × (c.dead ≡ c.token.dead) × IsReadyForCall c.token };
+}
+
+impl<'p> Client<'p> {
+    /// The client that has joined.
+    pub(crate) fn joined(place: Place<'p>, token: shm_pool::Client) -> Client<'p>
+        requires home { IsHome place token.of token.account.who }
+        requires alive { token.dead ≡ false }
+        requires ready { IsReadyForCall token }
+        ensures { result ≡ record { token = token; left = u64.MAX } }
+    {
+        Client {
+            place,
+            token,
+            dead: false,
+            life: Life::of(u64::MAX),
+        }
+    }
+
+    /// The number of the identity.
+    pub fn number(&self) -> u8
+        ensures is { result ≡ self.now.token.account.who }
+        ensures below { result < self.now.token.of.start.geometry.clients }
+    {
+        self.token.client()
+    }
+
+    /// Whether the client has died.
+    pub fn is_dead(&self) -> bool
+        ensures { result ≡ self.now.token.dead }
+    {
+        self.dead
+    }
+
+    /// How many word steps are left of its budget.
+    pub fn budget(&self) -> u64
+        ensures { result ≡ self.now.left }
+    {
+        self.life.left
+    }
+
+    /// Sets the budget: so many word steps may be made from now on. A client that has died stays dead.
+    pub fn set_budget(&mut self, steps: u64)
+        ensures { self.new ≡ record self.old { left = steps } }
+    {
+        self.life = Life::of(steps);
+    }
+
+    /// The client dies. Nothing is done by that: it is as if it had stopped where it is.
+    pub fn fall(self) -> Corpse<'p>
+        ensures { result ≡ corpse_of self.entry }
+    {
+        let Client {
+            place,
+            token,
+            dead: _,
+            life: _,
+        } = self;
+        Corpse::at(place, token.fall())
+    }
+
+    /// Leaves the pool: the roots are dropped, and the identity is gone. Its map stays for others to read, and for the next client of the identity.
+    ///
+    /// # Errors
+    ///
+    /// `EraSpent`, with the corpse: the identity is used up, and its pool can't be closed.
+    pub fn leave(self) -> Result<Vacant<'p>, Stopped<'p>>
+        ensures ok { IfOk result (IsRecovered (corpse_of self.entry)) }
+        ensures err { IfErr result (IsStopped self.entry.token.of self.entry.token.account.who) }
+    {
+        self.fall().recover()
+    }
+}
+
+impl Drop for Client<'_> {
+    fn drop(self) {
+        let Client {
+            place,
+            token,
+            dead: _,
+            life: _,
+        } = self;
+        place.desk.lay(Rest::Corpse(token.fall()));
+    }
+}
+
+impl fmt::Debug for Client<'_> {
+    fn fmt<W: fmt::Write>(&self, f: &mut fmt::Formatter<W>) -> fmt::Result {
+        write!(f, "Client({})", self.number())
+    }
+}
+
+impl fmt::Display for Client<'_> {
+    fn fmt<W: fmt::Write>(&self, f: &mut fmt::Formatter<W>) -> fmt::Result {
+        write!(f, "client {}", self.number())
+    }
+}

@@ -1,0 +1,13 @@
+mod Maps
+mod Reading
+mod Gets
+mod Entries
+mod Steps
+mod Falls
+mod Turns
+mod Played
+mod Lived
+mod Logs
+mod Ended
+mod Replays
+mod TeamEnded

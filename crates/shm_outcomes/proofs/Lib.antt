@@ -1,0 +1,12 @@
+pub mod Elements
+pub mod Determined
+pub mod Logging
+pub mod Crewing
+pub mod Cutting
+pub mod Ordering
+pub mod Turning
+pub mod Writing
+pub mod Keying
+pub mod Spending
+pub mod Mapping
+pub mod Costing
