@@ -9,4 +9,5 @@ pub mod Behind
 pub mod Due
 pub mod Mending
 pub mod Listed
+pub mod Starting
 pub mod LimitedRun

@@ -13,8 +13,8 @@ use Rattle.shm_team.specs.declared.{done.Done.Done, left.Left.Left}
 use Rattle.shm_team.specs.Dones.{AreDones, AreGivenBack, IsDone, IsDoneBy, log_of, logs_done, logs_in}
 use Rattle.shm_team.specs.{Lefts.{IsGivenBack, account_in, is_corpse}, Rans.HasSettled}
 use Rattle.shm_team.proofs.Settled.{team_run_of}
-use Rattle.shm_async.specs.Limited.{AreLimited, IsCutTo, IsLimitedRun, LimitedWithin}
-use Rattle.shm_async.specs.LimitedMembers.{AreLimitedDones, EachFrom, IsLimitedDone, LimitedBy}
+use Rattle.shm_async.specs.{Limited.{AreLimited, IsCutTo, IsLimitedRun, LimitedWithin}, Each.EachFrom}
+use Rattle.shm_async.specs.LimitedMembers.{AreLimitedDones, IsLimitedDone, LimitedBy}
 
 -- ---- the scripts under the limit
 

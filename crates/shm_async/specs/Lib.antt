@@ -4,4 +4,5 @@ pub mod Cancelled
 pub mod Rescued
 pub mod Members
 pub mod Limited
+pub mod Each
 pub mod LimitedMembers

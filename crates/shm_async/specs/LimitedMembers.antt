@@ -1,15 +1,15 @@
 -- the identities of a trace under a limit, each of which is polled so many times at most, and then cut, and recovered
-use Rattle.std.specs.Prelude.{◌≡◌, ℕ, suc, ◌+◌, ◌*◌, ◌-◌, ◌^◌, ◌<◌, ◌≤◌, ◌⊎◌, true, false, Option, Some, None, Result, Ok, Err, List, [], ◌∷◌, length, slice_index_or}
+use Rattle.std.specs.Prelude.{◌≡◌, ℕ, ◌+◌, ◌*◌, ◌-◌, ◌^◌, ◌<◌, ◌≤◌, ◌⊎◌, true, false, Option, Some, None, Result, Ok, Err, List, length, slice_index_or}
 use Rattle.shm_graph.specs.{declared.run.Account.Account, Agents.acts, Held.is_loose, Runs.account_died}
 use Rattle.shm_agents.specs.{Agents.IsFold, Logs.AreUnspent, Turns.script_in, TurnsLeft.turns_given}
 use Rattle.shm_pool.specs.{declared.token.Stopped.Stopped, Rescues.Rescuing, Tokens.{Its, Token}}
 use Rattle.shm_script.specs.{Logged.Logged, Values.{Scripted, Traced}}
-use Rattle.shm_team.specs.{declared.{done.Done.Done, left.Left.{Left, TheVariants.{Vacant, Corpse}}}, Dones.IsDoneBy}
-use Rattle.shm_team.specs.Lefts.{IsGivenBack, account_in}
+use Rattle.shm_team.specs.declared.{done.Done.Done, jobs.Job.Job, left.Left.{Left, TheVariants.{Vacant, Corpse}}}
+use Rattle.shm_team.specs.{Dones.IsDoneBy, Jobs.IsJob, Lefts.{IsGivenBack, account_in}}
 use Rattle.shm_async.specs.declared.limited.{Cut.Cut, LimitedMember.LimitedMember}
 use Rattle.shm_async.specs.declared.limited.LimitedMember.TheVariants.{Works, Recovers, Finished}
 use Rattle.shm_async.specs.{declared.limits.LimitedMembers.LimitedMembers, Cancelled.IsCutLog, Limited.IsCutTo}
-use Rattle.shm_async.specs.{Members.MemberAtWork, Polled.Course, Rescued.{HasStepped, rescuing_first}}
+use Rattle.shm_async.specs.{Each.EachFrom, Members.MemberAtWork, Polled.Course, Rescued.{HasStepped, rescuing_first}}
 
 -- the own era of an identity has room for so many turns more, and for a recovery behind them
 abbrev pub HasRoom : Its → ℕ → Type 0
@@ -104,10 +104,13 @@ pub record AreLimited {A : Type 0} (t : Traced) (p : Its) (turns : ℕ) (x : Lim
   pub many : length x.members.items ≡ t.clients
   pub here : AreLimitedHere t p turns x.left x.members.items
 
--- of each item, in order, what is said of the numbers from c on
-abbrev pub EachFrom : {X : Type 0} → (ℕ → X → Type 0) → ℕ → List X → Type 0
-EachFrom P c [] = Unit {0}
-EachFrom P c (x ∷ xs) = P c x × EachFrom P (suc c) xs
+-- the job of the identity c, whose own era has room for so many polls of q turns
+pub record MayStart {A : Type 0} (t : Traced) (p : Its) (q limit c : ℕ) (j : Job A) : Type 0 where
+  pub turns : 1 ≤ q
+  pub polls : 1 ≤ limit
+  pub room : HasRoom p (q * limit)
+  pub who : j.token.account.who ≡ c
+  pub job : IsJob t p c j
 
 -- all is done of the identities from c on, in order
 abbrev pub AreLimitedDones : Traced → Its → ℕ → ℕ → List Done → Type 0

@@ -42,12 +42,22 @@ impl<'p, A: Play> Model for Site<'p, A> {
 pub type IdentityFuture<'p> = CourseFuture<'p, Cast>;
 
 /// The same, whoever plays them.
-#[derive(Drop)]
 pub struct CourseFuture<'p, A: Play> {
     script: &'p Script,
     q: u32,
     /// None once a poll was ready.
     site: Option<Site<'p, A>>,
+}
+
+// by hand, so that who lets it go needn't know what it is made of
+impl<'p, A: Play> Drop for CourseFuture<'p, A> {
+    fn drop(self) {
+        let CourseFuture {
+            script: _script,
+            q: _q,
+            site: _site,
+        } = self;
+    }
 }
 
 impl<'p, A: Play> Model for CourseFuture<'p, A> {

@@ -2,6 +2,7 @@
 //! clients share one thread.
 #![tactic(auto)]
 
+mod each;
 mod finish;
 mod identity;
 mod limited;

@@ -1,11 +1,12 @@
 //! The identities of a trace under a limit, as they are polled in rounds.
 
-ghost use Rattle.std.specs.Prelude.{◌≡◌, ◌+◌, ◌*◌, ◌-◌, ◌^◌, ◌≤◌, ℕ, IfOk, length};
-ghost use Rattle.shm_pool.specs.Tokens.{Its as APool};
+ghost use Rattle.std.specs.Prelude.{◌≡◌, ◌*◌, ◌-◌, ◌≤◌, ℕ, IfOk, length};
 ghost use Rattle.shm_script.specs.Values.{Traced as ATrace};
-ghost use Rattle.shm_team.specs.Jobs.{AreJobs};
-ghost use Rattle.shm_async.specs.LimitedMembers.{AreLimited, AreLimitedDones, AreLimitedHere, HasRoom, IsLimitedDone, IsLimitedHere};
+ghost use Rattle.shm_team.specs.{declared.jobs.Job.Job as AJob, Jobs.AreJobs};
+ghost use Rattle.shm_async.specs.Each.{EachFrom};
+ghost use Rattle.shm_async.specs.LimitedMembers.{AreLimited, AreLimitedDones, AreLimitedHere, HasRoom, IsLimitedDone, IsLimitedHere, MayStart};
 
+use crate::each::{Makes, make_all, put_in};
 use crate::limited::LimitedMember;
 use crate::polls::Rounds;
 use counted_slot::Fits;
@@ -46,25 +47,36 @@ impl<'p, A: Play> Rounds for LimitedMembers<'p, A> {
     }
 }
 
-/// The identities of a trace before their first turns.
-fn all_limited<'p, A: Play>(
-    alloc: Global,
+/// How the identities of a trace begin: a poll gives each of them `q` turns, and after `limit` polls those are cut that have turns left.
+#[derive(Drop)]
+struct Start<'p> {
     pool: &'p SharedPool,
     trace: &'p Trace,
-    jobs: Vec<Job<A>>,
     q: u32,
-) -> Result<Vec<Option<LimitedMember<'p, A>>>, AllocError>
-    requires turns { 1 ≤ q }
-    requires many { length jobs.items ≡ trace.now.clients }
-    requires jobs { AreJobs trace.now pool.now 0 jobs.items }
-    ensures many { IfOk result (λ v. length v.items ≡ trace.now.clients) }
-    ensures here { (limit : ℕ) → 1 ≤ limit → pool.now.start.first_era + q * limit ≤ 2 ^ 46 → IfOk result (λ v. AreLimitedHere trace.now pool.now (q * limit) limit v.items) }
-{
-    let mut members = Vec::new(alloc);
-    for job in jobs {
-        members.push(Some(LimitedMember::of(pool, trace, job, q)))?;
+    limit: u32,
+}
+
+impl<'p, A: Play> Makes<Job<A>, Option<LimitedMember<'p, A>>> for Start<'p> {
+    ghost takes = { λ m c j. MayStart m.trace.now m.pool.now m.q m.limit c j };
+
+    ghost gives = { λ m c x. IsLimitedHere m.trace.now m.pool.now c (m.q * m.limit) m.limit x };
+
+    fn make(&self, job: Job<A>) -> Option<LimitedMember<'p, A>> {
+        Some(LimitedMember::of(self.pool, self.trace, job, self.q))
     }
-    Ok(members)
+}
+
+/// The identities of a trace before their first turns.
+fn start_all<'p, A: Play>(
+    alloc: Global,
+    start: &Start<'p>,
+    jobs: Vec<Job<A>>,
+) -> Result<Vec<Option<LimitedMember<'p, A>>>, AllocError>
+    requires { EachFrom (λ (c : ℕ) (j : AJob A). MayStart start.now.trace.now start.now.pool.now start.now.q start.now.limit c j) 0 jobs.items }
+    ensures many { IfOk result (λ v. length v.items ≡ length jobs.items) }
+    ensures here { IfOk result (λ v. EachFrom (λ (c : ℕ) (x : _). IsLimitedHere start.now.trace.now start.now.pool.now c (start.now.q * start.now.limit) start.now.limit x) 0 v.items) }
+{
+    make_all(alloc, start, jobs)
 }
 
 /// Polls an identity that is here, and tells whether anything is left of it.
@@ -83,7 +95,7 @@ fn poll_one<'p, A: Play>(
         Some(member) => {
             let member = member.polled(pool, q, left);
             let more = member.is_left();
-            *slot = Some(member);
+            put_in(slot, member);
             more
         }
     }
@@ -124,7 +136,13 @@ impl<'p, A: Play> LimitedMembers<'p, A> {
         requires jobs { AreJobs trace.now pool.now 0 jobs.items }
         ensures { IfOk result (λ x. AreLimited trace.now pool.now (q * limit) x) }
     {
-        let members = all_limited(alloc, pool, trace, jobs, q)?;
+        let start = Start {
+            pool,
+            trace,
+            q,
+            limit,
+        };
+        let members = start_all(alloc, &start, jobs)?;
         Ok(LimitedMembers {
             pool,
             q,
@@ -134,38 +152,62 @@ impl<'p, A: Play> LimitedMembers<'p, A> {
     }
 
     /// Makes all that is left of them.
-    pub(crate) fn dones(self, alloc: Global) -> Result<Vec<Done>, AllocError>
-        requires { (t : ATrace) × (p : APool) × (turns : ℕ) × AreLimited t p turns self }
-        ensures many { IfOk result (λ v. length v.items ≡ length self.entry.members.items) }
-        ensures dones { (t : ATrace) (p : APool) (turns : ℕ) → AreLimited t p turns self.entry → IfOk result (λ v. AreLimitedDones t p 0 turns v.items) }
+    pub(crate) fn dones(self, alloc: Global, limit: &Limit<'p>) -> Result<Vec<Done>, AllocError>
+        requires { AreLimited limit.now.trace.now limit.now.pool.now limit.now.turns self }
+        ensures many { IfOk result (λ v. length v.items ≡ limit.now.trace.now.clients) }
+        ensures dones { IfOk result (λ v. AreLimitedDones limit.now.trace.now limit.now.pool.now 0 limit.now.turns v.items) }
     {
         let LimitedMembers {
-            pool,
+            pool: _,
             q,
             left,
             members,
         } = self;
-        let mut dones = Vec::new(alloc);
-        for member in members {
-            dones.push(finish(pool, q, left, member))?;
-        }
-        Ok(dones)
+        let Limit { pool, trace, turns } = *limit;
+        let end = End {
+            pool,
+            trace,
+            turns,
+            q,
+            left,
+        };
+        end_all(alloc, &end, members)
     }
 }
 
-/// Makes all that is left of an identity that is here.
-fn finish<'p, A: Play>(
+/// How the identities of a trace come to their end: a poll gives each of them `q` turns, and after `left` polls those are cut that have turns
+/// left.
+#[derive(Drop)]
+struct End<'p> {
     pool: &'p SharedPool,
+    trace: &'p Trace,
+    turns: u64,
     q: u32,
     left: u32,
-    slot: Option<LimitedMember<'p, A>>,
-) -> Done
-    requires turns { 1 ≤ q }
-    requires here { (t : ATrace) × (c : ℕ) × (turns : ℕ) × IsLimitedHere t pool.now c turns left slot }
-    ensures { (t : ATrace) (c turns : ℕ) → IsLimitedHere t pool.now c turns left slot.entry → IsLimitedDone t pool.now c turns result }
-{
-    match slot {
-        None => unreachable!(),
-        Some(member) => member.done(pool, q, left),
+}
+
+impl<'p, A: Play> Makes<Option<LimitedMember<'p, A>>, Done> for End<'p> {
+    ghost takes = { λ m c x. (1 ≤ m.q) × IsLimitedHere m.trace.now m.pool.now c m.turns m.left x };
+
+    ghost gives = { λ m c d. IsLimitedDone m.trace.now m.pool.now c m.turns d };
+
+    fn make(&self, slot: Option<LimitedMember<'p, A>>) -> Done {
+        match slot {
+            None => unreachable!(),
+            Some(member) => member.done(self.pool, self.q, self.left),
+        }
     }
+}
+
+/// Makes all that is left of identities that are here.
+fn end_all<'p, A: Play>(
+    alloc: Global,
+    end: &End<'p>,
+    members: Vec<Option<LimitedMember<'p, A>>>,
+) -> Result<Vec<Done>, AllocError>
+    requires { EachFrom (λ (c : ℕ) (x : _). (1 ≤ end.now.q) × IsLimitedHere end.now.trace.now end.now.pool.now c end.now.turns end.now.left x) 0 members.items }
+    ensures many { IfOk result (λ v. length v.items ≡ length members.entry.items) }
+    ensures dones { IfOk result (λ v. AreLimitedDones end.now.trace.now end.now.pool.now 0 end.now.turns v.items) }
+{
+    make_all(alloc, end, members)
 }

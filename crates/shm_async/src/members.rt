@@ -2,11 +2,13 @@
 
 ghost use Rattle.std.specs.Prelude.{◌≡◌, ◌≢◌, ◌≤◌, ℕ, None, Some, IfOk, length};
 ghost use Rattle.shm_pool.specs.Tokens.{Its as APool};
-ghost use Rattle.shm_replay.specs.Replays.{start_of};
 ghost use Rattle.shm_script.specs.Values.{Traced as ATrace};
-ghost use Rattle.shm_team.specs.{Dones.{AreDones, IsDone}, Jobs.{AreJobs, IsJob}};
-ghost use Rattle.shm_async.specs.{Members.{AreMembers, MemberAtWork, MemberHere, IsMember}, Polled.MayGive};
+ghost use Rattle.shm_team.specs.{declared.{done.Done.Done as ADone, jobs.Job.Job as AJob}, Dones.{AreDones, IsDone}};
+ghost use Rattle.shm_team.specs.Jobs.{AreJobs, IsJob};
+ghost use Rattle.shm_async.specs.{Each.EachFrom, Members.{AreMembers, MemberAtWork, MemberHere, IsMember}};
+ghost use Rattle.shm_async.specs.Polled.{MayGive};
 
+use crate::each::{Makes, make_all, put_in};
 use crate::identity::CourseFuture;
 use shm_play::play::Play;
 use shm_pool::SharedPool;
@@ -102,7 +104,38 @@ fn run_out<A: Play>(mut future: CourseFuture<'_, A>) -> Finish
     }
 }
 
+/// How the identities of a trace begin: a poll gives each of them `q` turns.
+#[derive(Drop)]
+struct Start<'p> {
+    pool: &'p SharedPool,
+    trace: &'p Trace,
+    q: u32,
+}
+
+impl<'p, A: Play> Makes<Job<A>, Option<Member<'p, A>>> for Start<'p> {
+    ghost takes = { λ m c j. (1 ≤ m.q) × (j.token.account.who ≡ c) × IsJob m.trace.now m.pool.now c j };
+
+    ghost gives = { λ m c x. MemberHere m.trace.now m.pool.now c x };
+
+    fn make(&self, job: Job<A>) -> Option<Member<'p, A>> {
+        Some(Member::of(self.pool, self.trace, job, self.q))
+    }
+}
+
 /// The identities of a trace before their first turns.
+fn start_all<'p, A: Play>(
+    alloc: Global,
+    start: &Start<'p>,
+    jobs: Vec<Job<A>>,
+) -> Result<Vec<Option<Member<'p, A>>>, AllocError>
+    requires { EachFrom (λ (c : ℕ) (j : AJob A). (1 ≤ start.now.q) × (j.token.account.who ≡ c) × IsJob start.now.trace.now start.now.pool.now c j) 0 jobs.items }
+    ensures many { IfOk result (λ v. length v.items ≡ length jobs.items) }
+    ensures here { IfOk result (λ v. EachFrom (λ (c : ℕ) (x : _). MemberHere start.now.trace.now start.now.pool.now c x) 0 v.items) }
+{
+    make_all(alloc, start, jobs)
+}
+
+/// The same, which are all here.
 pub(crate) fn all_members<'p, A: Play>(
     alloc: Global,
     pool: &'p SharedPool,
@@ -115,11 +148,7 @@ pub(crate) fn all_members<'p, A: Play>(
     requires jobs { AreJobs trace.now pool.now 0 jobs.items }
     ensures { IfOk result (λ v. AreMembers trace.now pool.now v.items) }
 {
-    let mut members = Vec::new(alloc);
-    for job in jobs {
-        members.push(Some(Member::of(pool, trace, job, q)))?;
-    }
-    Ok(members)
+    start_all(alloc, &Start { pool, trace, q }, jobs)
 }
 
 /// Polls an identity that is here, and tells whether it has turns left.
@@ -131,7 +160,7 @@ fn poll_one<A: Play>(slot: &mut Option<Member<'_, A>>) -> bool
         Some(member) => {
             let member = member.polled();
             let left = member.is_left();
-            *slot = Some(member);
+            put_in(slot, member);
             left
         }
     }
@@ -148,18 +177,42 @@ pub(crate) fn poll_each<A: Play>(members: &mut [Option<Member<'_, A>>]) -> bool
     left
 }
 
-/// Makes the turns that are left of an identity that is here.
-fn finish<A: Play>(slot: Option<Member<'_, A>>) -> Done
-    requires { (t : ATrace) × (p : APool) × (c : ℕ) × MemberHere t p c slot }
-    ensures { (t : ATrace) (p : APool) (c : ℕ) → MemberHere t p c slot.entry → IsDone t p c result }
-{
-    match slot {
-        None => unreachable!(),
-        Some(member) => member.done(),
+/// How the identities of a trace come to their end. The pool and the trace only say which identities they are.
+#[derive(Drop)]
+struct End<'a> {
+    pool: &'a SharedPool,
+    trace: &'a Trace,
+}
+
+impl<'a, 'p, A: Play> Makes<Option<Member<'p, A>>, Done> for End<'a> {
+    ghost takes = { λ m c x. MemberHere m.trace.now m.pool.now c x };
+
+    ghost gives = { λ m c d. IsDone m.trace.now m.pool.now c d };
+
+    fn make(&self, slot: Option<Member<'p, A>>) -> Done {
+        let _ = self.pool;
+        let _ = self.trace;
+        match slot {
+            None => unreachable!(),
+            Some(member) => member.done(),
+        }
     }
 }
 
-/// Makes the turns that are left of all identities. The pool and the trace only say which identities they are.
+/// Makes the turns that are left of identities that are here.
+fn end_all<A: Play>(
+    alloc: Global,
+    end: &End<'_>,
+    members: Vec<Option<Member<'_, A>>>,
+) -> Result<Vec<Done>, AllocError>
+    requires { EachFrom (λ (c : ℕ) (x : _). MemberHere end.now.trace.now end.now.pool.now c x) 0 members.items }
+    ensures many { IfOk result (λ v. length v.items ≡ length members.entry.items) }
+    ensures dones { IfOk result (λ v. EachFrom (λ (c : ℕ) (d : ADone). IsDone end.now.trace.now end.now.pool.now c d) 0 v.items) }
+{
+    make_all(alloc, end, members)
+}
+
+/// Makes the turns that are left of all identities.
 pub(crate) fn finish_all<A: Play>(
     alloc: Global,
     pool: &SharedPool,
@@ -170,11 +223,5 @@ pub(crate) fn finish_all<A: Play>(
     ensures many { IfOk result (λ v. length v.items ≡ trace.now.clients) }
     ensures dones { IfOk result (λ v. AreDones trace.now pool.now 0 v.items) }
 {
-    let _ = pool;
-    let _ = trace;
-    let mut dones = Vec::new(alloc);
-    for member in members {
-        dones.push(finish(member))?;
-    }
-    Ok(dones)
+    end_all(alloc, &End { pool, trace }, members)
 }

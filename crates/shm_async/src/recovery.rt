@@ -13,13 +13,24 @@ use shm_pool::{Cause, Corpse, Rescuer, SharedPool, Stopped, Vacant};
 use std::marker::Model;
 
 /// The recovery of an identity, of which each poll gives its recoverer a number of turns.
-#[derive(Drop)]
 pub struct RecoveryFuture<'p> {
     pool: &'p SharedPool,
     q: u32,
     life: Life,
     /// None once a poll was ready.
     rescuer: Option<Rescuer>,
+}
+
+// by hand, so that who lets it go needn't know what it is made of
+impl<'p> Drop for RecoveryFuture<'p> {
+    fn drop(self) {
+        let RecoveryFuture {
+            pool: _pool,
+            q: _q,
+            life: _life,
+            rescuer: _rescuer,
+        } = self;
+    }
 }
 
 impl<'p> Model for RecoveryFuture<'p> {
@@ -72,7 +83,12 @@ impl<'p> RecoveryFuture<'p> {
     pub fn cancel(self) -> Option<Corpse>
         ensures { IsGivenUp self.entry.rescuer result }
     {
-        let RecoveryFuture { rescuer, .. } = self;
+        let RecoveryFuture {
+            pool: _,
+            q: _,
+            life: _,
+            rescuer,
+        } = self;
         match rescuer?.end() {
             Ok(_) => unreachable!(),
             Err(corpse) => Some(corpse),

@@ -5,7 +5,7 @@ ghost use Rattle.shm_graph.specs.declared.run.Move.{Move as AMove};
 ghost use Rattle.shm_plain.specs.Pools.{pool as pool_of};
 ghost use Rattle.shm_replay.specs.Replays.{start_of};
 ghost use Rattle.shm_team.specs.{Dones.AreDones, Jobs.AreJobs, Rans.IsTeamRun};
-ghost use Rattle.shm_async.specs.{Limited.IsLimitedRun, LimitedMembers.AreLimitedDones};
+ghost use Rattle.shm_async.specs.{Limited.IsLimitedRun, LimitedMembers.{AreLimited, AreLimitedDones}};
 
 use crate::limits::{Limit, LimitedMembers};
 use crate::members::{all_members, finish_all};
@@ -47,6 +47,20 @@ fn poll_jobs<A: Play, R: Wait + RandomSource + AllocGlobal>(
     finish_all(alloc, pool, trace, members)
 }
 
+/// An executor polls them, and where it gives up the caller makes all that is left.
+fn poll_out<'p, A: Play, R: Wait + RandomSource + AllocGlobal>(
+    rt: &R,
+    alloc: Global,
+    limit: &Limit<'p>,
+    members: LimitedMembers<'p, A>,
+) -> Result<Vec<Done>, AllocError>
+    requires { AreLimited limit.now.trace.now limit.now.pool.now limit.now.turns members }
+    ensures many { IfOk result (λ v. length v.items ≡ limit.now.trace.now.clients) }
+    ensures dones { IfOk result (λ v. AreLimitedDones limit.now.trace.now limit.now.pool.now 0 limit.now.turns v.items) }
+{
+    poll_all(rt, limit, members).dones(alloc, limit)
+}
+
 /// The same, where those are cut after `limit` polls that have turns left.
 fn poll_limit<A: Play, R: Wait + RandomSource + AllocGlobal>(
     rt: &R,
@@ -67,7 +81,7 @@ fn poll_limit<A: Play, R: Wait + RandomSource + AllocGlobal>(
 {
     let turns = q as u64 * limit as u64;
     let members = LimitedMembers::of(alloc, pool, trace, jobs, q, limit)?;
-    poll_all(rt, &Limit { pool, trace, turns }, members).dones(alloc)
+    poll_out(rt, alloc, &Limit { pool, trace, turns }, members)
 }
 
 /// Runs a trace by clients that are polled on this thread, whoever plays its scripts.

@@ -1,4 +1,4 @@
-use Rattle.std.proofs.Common.{◌≡◌, subst}
+use Rattle.std.proofs.Common.{◌≡◌, ◌-◌, sym, subst}
 use Rattle.std.specs.Prelude.{Some, None}
 use Rattle.shm_async.specs.LimitedMembers.{IsLimitedHere}
 use Rattle.shm_async.proofs.limits.poll_one.Goals as goal
@@ -17,4 +17,4 @@ returns-in-None g c = λ t k n h.
 pub returns-in-Some : goal.returns-in-Some
 returns-in-Some g c = λ t k n h.
     let was : c.args.slot.now ≡ Some c.in-Some.member = (let a = c.take.ensures.value in let b = c.in-Some.is in cc) in
-    c.polled-member.ensures.member t k n (subst (IsLimitedHere t c.args.pool.now k n c.args.left) was h)
+    subst (IsLimitedHere t c.args.pool.now k n (c.args.left - 1)) (sym c.put_in.ensures) (c.polled-member.ensures.member t k n (subst (IsLimitedHere t c.args.pool.now k n c.args.left) was h))

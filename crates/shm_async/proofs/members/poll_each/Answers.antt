@@ -1,6 +1,6 @@
 use Rattle.std.proofs.{Common.{◌<◌, length, ◌∙◌, subst, arith}, lemmas.List.length-set}
 use Rattle.shm_async.specs.Members.{MemberHere}
-use Rattle.shm_async.proofs.Gathering.{members_set}
+use Rattle.shm_async.proofs.Starting.{members_set}
 use Rattle.shm_async.proofs.members.poll_each.Goals as goal
 
 pub loop-at-preserved : goal.loop-at-preserved

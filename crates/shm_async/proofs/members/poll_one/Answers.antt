@@ -1,4 +1,4 @@
-use Rattle.std.proofs.Common.{◌≡◌, subst}
+use Rattle.std.proofs.Common.{◌≡◌, sym, subst}
 use Rattle.std.specs.Prelude.{Some, None}
 use Rattle.shm_async.specs.Members.{MemberHere}
 use Rattle.shm_async.proofs.members.poll_one.Goals as goal
@@ -11,4 +11,4 @@ returns-in-None g c = λ t p k h.
 pub returns-in-Some : goal.returns-in-Some
 returns-in-Some g c = λ t p k h.
     let was : c.args.slot.now ≡ Some c.in-Some.member = (let a = c.take.ensures.value in let b = c.in-Some.is in cc) in
-    c.polled-member.ensures t p k (subst (MemberHere t p k) was h)
+    subst (MemberHere t p k) (sym c.put_in.ensures) (c.polled-member.ensures t p k (subst (MemberHere t p k) was h))

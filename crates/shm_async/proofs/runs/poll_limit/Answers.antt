@@ -1,5 +1,4 @@
-use Rattle.std.proofs.{Common.{◌≡◌, ◌≤◌, ◌*◌, ℕ, ap, length, subst, arith}, Math.Nat.mul-le-mul_left}
-use Rattle.std.specs.Prelude.{IfOk}
+use Rattle.std.proofs.{Common.{◌≤◌, ◌*◌, ℕ, ap, arith}, Math.Nat.mul-le-mul_left}
 use Rattle.shm_graph.specs.declared.run.Start.{Start}
 use Rattle.shm_async.proofs.runs.poll_limit.Goals as goal
 
@@ -15,14 +14,5 @@ of-requires-clause-room g c =
     let era = ap (λ (s : Start). s.first_era) c.requires.start in
     omega (arith, h, era)
 
-pub poll_all-requires : goal.poll_all-requires
-poll_all-requires g c = c.in_ok-members.ensures
-
-pub dones-requires : goal.dones-requires
-dones-requires g c = (c.args.trace.now, c.args.pool.now, c.args.q * c.args.limit, c.poll_all.ensures)
-
-pub returns-clause-many : goal.returns-clause-many
-returns-clause-many g c = subst (λ (n : ℕ). IfOk c.dones.result (λ v. length v.items ≡ n)) c.poll_all.ensures.many c.dones.ensures.many
-
-pub returns-clause-dones : goal.returns-clause-dones
-returns-clause-dones g c = c.dones.ensures.dones c.args.trace.now c.args.pool.now (c.args.q * c.args.limit) c.poll_all.ensures
+pub poll_out-requires : goal.poll_out-requires
+poll_out-requires g c = c.in_ok-members.ensures

@@ -1,0 +1,13 @@
+use Rattle.std.proofs.Common.{ℕ, sym, subst}
+use Rattle.shm_team.specs.Jobs.{IsJob}
+use Rattle.shm_async.specs.Members.{IsMember}
+use Rattle.shm_async.proofs.members.StartMakesJobOptionMember.make.Goals as goal
+
+pub of-requires-clause-turns : goal.of-requires-clause-turns
+of-requires-clause-turns g c = let (k, h) = c.requires in h.0
+
+pub of-requires-clause-job : goal.of-requires-clause-job
+of-requires-clause-job g c = let (k, h) = c.requires in subst (λ (n : ℕ). IsJob c.args.self.now.trace.now c.args.self.now.pool.now n c.args.job) (sym h.1) h.2
+
+pub returns : goal.returns
+returns g c = λ k h. let m = c.args.self.now in subst (λ (n : ℕ). IsMember m.trace.now m.pool.now n c.of.result) h.1 c.of.ensures
