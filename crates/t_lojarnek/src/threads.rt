@@ -2,7 +2,7 @@
 
 ghost use Rattle.std.specs.Prelude.{◌<◌};
 
-use crate::tests::audited;
+use crate::tests::closed_and_audited;
 use lojarnek::prelude::*;
 use shm_audit::Verdict;
 use std::test::Fail;
@@ -79,16 +79,11 @@ fn four_clients_die_and_are_recovered(rt: HostRuntime) -> Result<(), Fail> {
         let pool = Pool::builder().clients(4).segments(8).build(rt.alloc())?;
         let played = four(&rt, &pool, steps)?;
         assert!(rt; 100 < played, "{played}");
-        match pool.close(rt.alloc()) {
-            Ok(closed) => {
-                let verdict = audited(rt.alloc(), &closed);
-                assert!(rt;
-                    matches!(verdict, Some(Verdict::Clean { .. })),
-                    "{verdict:?}"
-                );
-            }
-            Err(stop) => panic!(rt; "{}", stop.error),
-        }
+        let verdict = closed_and_audited(rt.alloc(), pool);
+        assert!(rt;
+            matches!(verdict, Some(Verdict::Clean { .. })),
+            "{verdict:?}"
+        );
     }
     Ok(())
 }
