@@ -4,6 +4,7 @@
     python3 tools/figures.py IMAGE           what `cxlview stats` writes
     python3 tools/figures.py --json IMAGE    what `cxlview stats --json` writes
     python3 tools/figures.py --svg IMAGE     what `cxlview pool` writes
+    python3 tools/figures.py --svg-of-0 IMAGE    what `cxlview pool --client 0` writes
 
 It reads the image as tools/audit.py does, by docs/IMAGE.md and docs/WORDS.md."""
 import html
@@ -16,7 +17,7 @@ from audit import audit, header, read, references
 STATUSES = ("new", "live", "dead", "gone")
 
 
-def client(word):
+def named(word):
     """Who a word names by number and one; 0 is nobody."""
     return None if word == 0 else word - 1
 
@@ -55,10 +56,10 @@ def tables(pool):
         found = chains(pool, words[pool.homes + c])
         waiting = sum(1 for s in range(n) for k in range(8) if words[pool.queues + 10 * (s * n + c) + 2 + k])
         roots = sum(1 for k in range(16) if words[pool.roots + 16 * c + k])
-        clients.append((c, STATUSES[words[1 + c]] if words[1 + c] < 4 else "unknown", client(words[pool.holds + c]), client(words[pool.latches + c]), words[pool.homes + c], roots, waiting, sum(found), max(found, default=0)))
+        clients.append((c, STATUSES[words[1 + c]] if words[1 + c] < 4 else "unknown", named(words[pool.holds + c]), named(words[pool.latches + c]), words[pool.homes + c], roots, waiting, sum(found), max(found, default=0)))
     return {
         "pool": (("format", "clients", "segments", "words"), [(2 if pool.wide else 1, n, pool.segments, len(words))]),
-        "segments": (("owner", "segments"), [(client(o), owners[o]) for o in range(n + 1)]),
+        "segments": (("owner", "segments"), [(named(o), owners[o]) for o in range(n + 1)]),
         "classes": (("class", "pages", "live", "free"), [(k, pages[k], live[k], free[k]) for k in (0, 4, 8, 16, 32)]),
         "counts": (("count", "blocks"), sorted(counts.items())),
         "clients": (("client", "status", "holds", "holder", "home", "roots", "waiting", "keys", "longest"), clients),
@@ -71,12 +72,12 @@ def verdict(pool):
     pending = [c for c in range(pool.clients) if pool.words[1 + c] not in (0, 3)]
     if pending:
         return f"pending {pending[0]}"
-    named = Counter(pool.words[at] for at in references(pool, live))
+    counted = Counter(pool.words[at] for at in references(pool, live))
     for at in sorted(live):
         if live[at][1] == 0:
             return f"uncounted {at}"
-        if live[at][1] != named[at]:
-            return f"wrong {at} stored {live[at][1]} found {named[at]}"
+        if live[at][1] != counted[at]:
+            return f"wrong {at} stored {live[at][1]} found {counted[at]}"
     if said:
         raise SystemExit(said[0])
     return f"clean live {len(live)} refs {refs}"
@@ -98,8 +99,8 @@ def text_of(found, line):
 
 def json_of(found, line):
     """The figures as JSON."""
-    named = {name: [dict(zip(heads, row)) for row in rows] for name, (heads, rows) in found.items()}
-    return json.dumps({**named, "audit": line}, separators=(",", ":")) + "\n"
+    by_name = {name: [dict(zip(heads, row)) for row in rows] for name, (heads, rows) in found.items()}
+    return json.dumps({**by_name, "audit": line}, separators=(",", ":")) + "\n"
 
 
 LEFT, PAGE, TOP, LINE, MOST = 250, 136, 130, 10, 64
@@ -115,8 +116,36 @@ def label(x, y, text):
     return f'<text x="{x}" y="{y}">{html.escape(text, quote=False)}</text>\n'
 
 
-def svg_of(pool):
-    """The picture of the pool."""
+def line(x1, y1, x2, y2):
+    return f'<line x1="{x1}" y1="{y1}" x2="{x2}" y2="{y2}" stroke-width="3" stroke="rgb(0,0,0)"/>\n'
+
+
+def arrows(pool, rows, c):
+    """The references of a client's table: from its directory to the first entries of its chains, 64 of each at most, from entry to entry, and to values."""
+
+    def place(at):
+        segment, inside = divmod(at - pool.bodies, 2048)
+        page, k = divmod(inside, 128)
+        return (LEFT + PAGE * page + 8 * (k % 16) + 3, TOP + ROW * segment + LINE * (k // 16) + 4) if 0 <= segment < rows else None
+
+    def reference(at, block):
+        start, end = place(at), place(block)
+        return [line(*start, *end), rect(end[0] - 4, end[1] - 4, 9, 9, (0, 0, 0))] if start and end else []
+
+    out, home = [], pool.words[pool.homes + c] if c < pool.clients else 0
+    for bucket in range(16) if home else ():
+        at = home + 2 + bucket
+        for _ in range(64):
+            entry = word(pool, at)
+            if not entry:
+                break
+            out += reference(at, entry) + reference(entry + 3, word(pool, entry + 3))
+            at = entry + 2
+    return out
+
+
+def svg_of(pool, client=None):
+    """The picture of the pool, with the references of a client's table where one is named."""
     rows = min(pool.segments, MOST)
     bottom = TOP + ROW * rows
     out = [f'<svg xmlns="http://www.w3.org/2000/svg" viewBox="0 0 {WIDTH} {bottom + 60}" font-family="sans-serif" font-size="34">\n']
@@ -126,7 +155,7 @@ def svg_of(pool):
         out += [rect(x, 32, 34, 34, LIVE[size]), rect(x + 40, 32, 34, 34, FREE[size]), label(x + 86, 60, f"{size} words: live, free")]
     out += [rect(1896, 32, 34, 34, GREY), label(1942, 60, "no blocks")]
     for s in range(rows):
-        y, owner = TOP + ROW * s, client(pool.words[pool.owners + s])
+        y, owner = TOP + ROW * s, named(pool.words[pool.owners + s])
         out.append(label(16, y + 52, f"{s}: nobody's" if owner is None else f"{s}: client {owner}"))
         for p in range(16):
             x, size = LEFT + PAGE * p, pool.words[pool.pages + 16 * s + p]
@@ -137,6 +166,8 @@ def svg_of(pool):
             for at in range(0, 128, size):
                 fill = (LIVE if header(pool.words[first + at]) else FREE)[size]
                 out.append(rect(x + 8 * (at % 16), y + LINE * (at // 16), 8 * min(size, 16) - 2, LINE * max(size // 16, 1) - 2, fill))
+    if client is not None:
+        out += [*arrows(pool, rows, client), label(1000, bottom + 36, f"lines: the table of client {client}")]
     if rows < pool.segments:
         out.append(label(16, bottom + 36, f"and {pool.segments - rows} more segments, not shown"))
     return "".join([*out, "</svg>\n"])
@@ -144,13 +175,13 @@ def svg_of(pool):
 
 def shown_of(pool, form):
     """What is written of the pool: as text, as JSON or as SVG."""
-    if form == "--svg":
-        return svg_of(pool)
+    if form.startswith("--svg"):
+        return svg_of(pool, int(form.split("-")[-1]) if "-of-" in form else None)
     return (json_of if form == "--json" else text_of)(tables(pool), verdict(pool))
 
 
 def main(words):
-    form = words[0] if words[:1] in (["--json"], ["--svg"]) else ""
+    form = words[0] if words[:1] and (words[0] in ("--json", "--svg") or words[0].startswith("--svg-of-")) else ""
     if len(words) != 1 + bool(form):
         print(__doc__)
         return 2

@@ -1,25 +1,34 @@
 #!/usr/bin/env python3
-"""The rows of t_view and what they have to write, made without the program: by tools/figures.py, docs/IMAGE.md and docs/VIEW.md.
+"""The rows of t_view and what they have to write, made without the program: by tools/figures.py, tools/runs.py, docs/IMAGE.md, docs/TRACE.md and docs/VIEW.md.
 
     python3 tools/view_rows.py           compares crates/t_view/stdin and stdout, and the rows of cxlview, with what they are to be
     python3 tools/view_rows.py --write   writes them
 
 Run it at the top of the repository. It ends with status 1 where a file differs."""
+import os
 import sys
 
 from audit import read
 from figures import shown_of
+from runs import shown_of as run_shown
 
 COMMANDS = """usage:
   cxlview stats < IMAGE           write the figures of an image as aligned text
   cxlview stats --json < IMAGE    write them as JSON
   cxlview pool < IMAGE > SVG      draw the pool of an image
+  cxlview steps < TRACE           write at which word steps each command of a trace's replay begins, decides and ends
+  cxlview steps --words < TRACE   write each word step of it
+  cxlview run < TRACE > SVG       draw the replay of a trace
+`pool` takes --client C: the client whose table's references are drawn. `steps` and `run` take --from T and --to T: the first and the last turn that are shown.
 """
 STATUSES = """Input comes on standard input, and what is written goes to standard output.
 status: 0 done, 2 words not accepted, 3 input refused, 4 a read failed, 5 a write failed, 6 no memory
-docs/VIEW.md says what the figures and the pictures show, docs/IMAGE.md what an image is.
+docs/VIEW.md says what the figures and the pictures show, docs/IMAGE.md what an image is, docs/TRACE.md what a trace is.
 """
+TURNS = "cxlview: behind `--from` and `--to` stands the number of a turn, from 1 on, and the first turn isn't behind the last one\n"
+CLIENTS = "cxlview: behind `--client` stands the number of a client, from 0 to 15\n"
 FORMS = {"stats": "", "stats --json": "--json", "pool": "--svg"}
+ALL_FORMS = {**FORMS, **{f"pool --client {c}": f"--svg-of-{c}" for c in range(16)}}
 
 
 class Rows:
@@ -59,12 +68,35 @@ class Rows:
     def shown(self, *forms):
         """Calls that show the image."""
         for words in forms or FORMS:
-            self.call(words, 0, "", shown_of(read(self.data), FORMS[words]))
+            self.call(words, 0, "", shown_of(read(self.data), ALL_FORMS[words]))
 
-    def refused(self, line, why):
-        """Each command refuses the image."""
-        for words in FORMS:
+    def refused(self, line, why, commands=tuple(FORMS)):
+        """Each command refuses the input."""
+        for words in commands:
             self.call(words, 3, f"{line}\ncxlview: {why}\n")
+
+    def trace(self, text):
+        """Makes this trace."""
+        self.rows += [f"+ {line}" for line in text.splitlines()]
+        self.data = text.encode()
+
+    def lines(self, count, text):
+        """Adds so many lines of this text."""
+        self.rows.append(f"lines {count} {text}")
+        self.data += f"{text}\n".encode() * count
+
+    def replayed(self, name, *commands):
+        """Calls that show the replay of a trace."""
+        trace, turns = replay_of(name)
+        self.title(f"the replay of {os.path.basename(name)}")
+        self.trace(trace)
+        for words in commands:
+            self.call(words, 0, "", run_shown(trace, turns, words.split(" ")))
+
+
+def replay_of(name):
+    """The text of a trace, and the turns of its replay as another implementation made them."""
+    return open(f"{name}.trace").read(), open(f"tools/replays/{os.path.basename(name)}.turns").read()
 
 
 def with_words(data, words):
@@ -121,6 +153,23 @@ def words_rows(rows):
         ("stats --json --json", "cxlview: `stats` doesn't take a word twice\n"),
         ("pool --json", "cxlview: `pool` doesn't take `--json`\n"),
         ("pool 1", "cxlview: `pool` doesn't take `1`: it reads standard input: `cxlview pool < 1`\n"),
+        ("pool --client 16", CLIENTS),
+        ("pool --client", CLIENTS),
+        ("pool --client=x", CLIENTS),
+        ("pool --client 0 --client=1", "cxlview: `pool` doesn't take a word twice\n"),
+        ("stats --client 0", "cxlview: `stats` doesn't take `--client`\n"),
+        ("steps one.trace", "cxlview: `steps` doesn't take `one.trace`: it reads standard input: `cxlview steps < one.trace`\n"),
+        ("steps --json", "cxlview: `steps` doesn't take `--json`\n"),
+        ("steps --words --words", "cxlview: `steps` doesn't take a word twice\n"),
+        ("run --words", "cxlview: `run` doesn't take `--words`\n"),
+        ("run --from 1 --from=2", "cxlview: `run` doesn't take a word twice\n"),
+        ("run --to 5 one.trace", "cxlview: `run` doesn't take `one.trace`: it reads standard input: `cxlview run < one.trace`\n"),
+        ("steps --from 0", TURNS),
+        ("steps --from 5 --to 4", TURNS),
+        ("steps --words --to x", TURNS),
+        ("steps --to", TURNS),
+        ("run --from 01", TURNS),
+        ("run --to=18446744073709551616", TURNS),
     ):
         rows.call(words, 2, why + COMMANDS)
     for words in ("--help", "help", "stats -h"):
@@ -132,6 +181,7 @@ def shown_rows(rows):
         rows.title(f"the image examples/{name}")
         rows.image(open(f"examples/{name}", "rb").read())
         rows.shown()
+        rows.shown("pool --client 0")
     rows.title("empty pools")
     for sizes in ((False, 1, 1), (False, 16, 2), (True, 2, 1)):
         rows.image(empty(*sizes))
@@ -140,6 +190,7 @@ def shown_rows(rows):
         rows.title(f"clients in the midst of work, format {1 + wide}")
         rows.image(busy(wide))
         rows.shown()
+        rows.shown("pool --client 0", "pool --client 1", "pool --client 15")
     rows.title("the verdicts")
     rows.image(busy(False))
     pool = read(rows.data)
@@ -155,7 +206,7 @@ def shown_rows(rows):
     rows.image(busy(False))
     rows.set(1, 7)
     rows.set(pool.bodies + 128 + 40 + 2, pool.bodies + 128)
-    rows.shown("stats")
+    rows.shown("stats", "pool --client 0")
     rows.set(pool.homes + 1, pool.bodies + 2 * 128 + 31 * 4)
     rows.shown("stats")
 
@@ -190,6 +241,42 @@ def fault_rows(rows):
     rows.refused("refused reference 185 307", "word 185 of the pool, at byte 1504 of the image, is 307: a reference is 0, or names a live block with a count above 0")
 
 
+def replay_rows(rows):
+    rows.replayed("examples/one_put", "steps", "steps --words", "run", "steps --words --from 80 --to=90", "run --from 80 --to 90")
+    rows.replayed("examples/death", "steps", "run", "steps --words --from 235 --to 240", "run --from=100", "run --to 300", "steps --from 236 --to 237")
+    rows.replayed("examples/two_clients", "steps", "run", "steps --words --from 270 --to 310", "run --from 100 --to 260")
+    rows.replayed("examples/recoverers", "steps", "run", "steps --words --from 148 --to 166", "run --from 140 --to 190", "run --from 400 --to 18446744073709551615", "steps --from 879", "run --from 879")
+    rows.replayed("tools/replays/wide", "steps", "steps --words", "run")
+    rows.replayed("tools/replays/lives", "steps", "steps --words --to 20", "run --to 30")
+    rows.replayed("tools/replays/nobody", "steps", "steps --words", "run")
+
+
+def trace_fault_rows(rows):
+    commands = ("steps", "steps --words", "run")
+    rows.title("traces that are refused")
+    rows.refused("refused line 1 syntax", "line 1 of the trace: the input ends before it\n  wanted: pool N G | pool2 N G", commands)
+    rows.trace("pool 1 1\nclient 0\nputt 5 77\n")
+    forms = "one of pool N G | pool2 N G | order C:T .. | client C | life L .. | put K V | del K | get C K | copy K C K | send C K | recv C K"
+    rows.refused("refused line 3 syntax", f"line 3 of the trace: no line begins with `putt`\n  found:  putt 5 77\n  wanted: {forms}", commands)
+    rows.title("a number out of its range")
+    rows.trace("pool 3 257\n")
+    rows.refused("refused line 1 range", "line 1 of the trace: 257 is out of range: G is 1 to 256 here\n  found:  pool 3 257", commands)
+    rows.title("two scripts of one client")
+    rows.trace("pool 2 1\nclient 0\nclient 1\nclient 0\n")
+    rows.refused("refused line 4 twice", "line 4 of the trace: that client has a script already, at line 2\n  found:  client 0", commands)
+    rows.title("too many items")
+    rows.trace(f"pool 1 1\norder{' 0' * 1001}\n")
+    rows.refused("refused line 2 limit", "line 2 of the trace: an order has 1000 items at most", commands)
+    rows.title("too many bytes: what was read of the line in which they begin is shown")
+    rows.trace("pool 1 1\nclient 0\n")
+    rows.lines(116507, "put 5 77")
+    found = rows.data[:1048577].decode().split("\n")[116508]
+    rows.refused("refused line 116509 limit", f"line 116509 of the trace: the input has more than 1048576 bytes\n  found:  {found}", commands)
+    rows.title("an image in place of a trace, and a trace in place of an image")
+    rows.trace("pool 1 1\nclient 0\n")
+    rows.refused("refused short 18", "the image has 18 bytes, and the first 24 say what it is: `CXLSHM01` or `CXLSHM02`, how many clients, and how many segments")
+
+
 def stream_rows(rows):
     rows.title("reads and writes that fail")
     rows.image(open("examples/one_put.image", "rb").read())
@@ -201,6 +288,14 @@ def stream_rows(rows):
     picture = shown_of(read(rows.data), "--svg")
     rows.rows.append("write 2")
     rows.call("pool", 5, "cxlview: standard output can't be written\n", picture[:4096])
+    rows.title("the same of a trace")
+    trace, turns = replay_of("examples/one_put")
+    rows.trace(trace)
+    for number in (1, 2):
+        rows.rows.append(f"read {number}")
+        rows.call("steps", 4, "cxlview: standard input can't be read\n")
+    rows.rows.append("write 2")
+    rows.call("steps --words", 5, "cxlview: standard output can't be written\n", run_shown(trace, turns, ["steps", "--words"])[:4096])
 
 
 def files():
@@ -209,6 +304,8 @@ def files():
     words_rows(rows)
     shown_rows(rows)
     fault_rows(rows)
+    replay_rows(rows)
+    trace_fault_rows(rows)
     stream_rows(rows)
     image = open("examples/one_put.image", "rb").read()
     return {

@@ -1,7 +1,7 @@
-//! A pool seen from outside: the program.
+//! A pool and a run seen from outside: the program.
 //!
-//! `cxlview stats` reads an image and writes its figures as aligned text, and with `--json` as JSON. `cxlview pool` draws its pool. What
-//! stands against the words or the image goes to standard error.
+//! `cxlview stats` reads an image and writes its figures, and `cxlview pool` draws its pool. `cxlview steps` reads a trace and writes its word steps by
+//! command, and `cxlview run` draws its run. What stands against the words or the input goes to standard error.
 #![tactic(auto)]
 
 use shm_io::{StdSink, StdSource};

@@ -27,7 +27,7 @@ AreLimited turns es [] rs = rs ≡ []
 AreLimited turns es (s ∷ ss) [] = ⊥
 AreLimited turns es (s ∷ ss) (r ∷ rs) = (((r ≡ s) × LimitedWithin turns s (account_at es s.client)) ⊎ IsCutTo turns s r) × AreLimited turns es ss rs
 
--- The closed pool p is what polled clients leave of the trace, each of which was cut after so many turns where one of its agents was left, and these are its logs: it is what clients on threads leave of the trace with the scripts as they were cut
+-- The closed pool p is what polled clients leave of the trace, each of which was cut after so many turns where one of its agents was left, and these are its logs: it is what clients leave of the trace with the scripts as they were cut
 pub record IsLimitedRun (t : Traced) (turns : ℕ) (p : Pool) (ls : List Logged) : Type 0 where
   pub scripts : List Scripted
   pub limited : AreLimited turns p.accounts t.scripts scripts

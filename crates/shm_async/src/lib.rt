@@ -15,5 +15,5 @@ mod runs;
 pub use finish::NewStop;
 pub use identity::IdentityFuture;
 pub use recovery::RecoveryFuture;
-pub use runs::{Polled, run_async, run_limited};
-pub use shm_team::{Finish, Left as Token};
+pub use runs::{run_async, run_limited};
+pub use shm_team::{Finish, Left as Token, Ran};

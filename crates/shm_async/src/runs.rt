@@ -12,19 +12,12 @@ use crate::members::{all_members, finish_all};
 use crate::polls::{Members, Which, poll_all};
 use shm_play::cast::Cast;
 use shm_play::play::Play;
-use shm_pool::{Closed, SharedPool};
-use shm_script::{Log, Trace};
+use shm_pool::SharedPool;
+use shm_script::Trace;
 use shm_team::{Done, Job, Ran, begin, settle};
 use std::alloc::{AllocError, AllocGlobal, Global};
 use std::random::RandomSource;
 use std::sync::Wait;
-
-/// What polled clients leave of a trace: the closed pool, and the logs of the clients in the order of the scripts.
-#[derive(Drop)]
-pub struct Polled {
-    pub closed: Closed,
-    pub logs: Vec<Log>,
-}
 
 /// An executor polls the identities of a trace, and where it gives up the caller makes the turns that are left.
 fn poll_jobs<A: Play, R: Wait + RandomSource + AllocGlobal>(
@@ -90,15 +83,14 @@ fn run_async_of<A: Play, R: Wait + RandomSource + AllocGlobal>(
     alloc: Global,
     trace: &Trace,
     q: u32,
-) -> Result<Polled, AllocError>
+) -> Result<Ran, AllocError>
     requires { (1 ≤ q) × (q ≤ 1000000) }
     ensures { IfOk result (λ r. (turns : List AMove) × IsTeamRun trace.now (pool_of r.closed.start r.closed.words r.closed.accounts turns) r.logs.items) }
 {
     trace.in_grammar();
     let (pool, jobs) = begin::<A>(alloc, trace)?;
     let dones = poll_jobs(rt, alloc, &pool, trace, jobs, q)?;
-    let Ran { closed, logs } = settle(rt, alloc, trace, pool, dones)?;
-    Ok(Polled { closed, logs })
+    settle(rt, alloc, trace, pool, dones)
 }
 
 /// Runs a trace under a limit, whoever plays its scripts.
@@ -108,7 +100,7 @@ fn run_limited_of<A: Play, R: Wait + RandomSource + AllocGlobal>(
     trace: &Trace,
     q: u32,
     limit: u32,
-) -> Result<Polled, AllocError>
+) -> Result<Ran, AllocError>
     requires turns { (1 ≤ q) × (q ≤ 1000000) }
     requires polls { (1 ≤ limit) × (limit ≤ 1000000) }
     ensures { IfOk result (λ r. (turns : List AMove) × IsLimitedRun trace.now (q * limit) (pool_of r.closed.start r.closed.words r.closed.accounts turns) r.logs.items) }
@@ -116,8 +108,7 @@ fn run_limited_of<A: Play, R: Wait + RandomSource + AllocGlobal>(
     trace.in_grammar();
     let (pool, jobs) = begin::<A>(alloc, trace)?;
     let dones = poll_limit(rt, alloc, &pool, trace, jobs, q, limit)?;
-    let Ran { closed, logs } = settle(rt, alloc, trace, pool, dones)?;
-    Ok(Polled { closed, logs })
+    settle(rt, alloc, trace, pool, dones)
 }
 
 /// Runs a trace by clients that are polled on this thread. There is one future for each script; one future polls each of them that is not
@@ -133,7 +124,7 @@ pub fn run_async<R: Wait + RandomSource + AllocGlobal>(
     alloc: Global,
     trace: &Trace,
     q: u32,
-) -> Result<Polled, AllocError>
+) -> Result<Ran, AllocError>
     requires { (1 ≤ q) × (q ≤ 1000000) }
     ensures { IfOk result (λ r. (turns : List AMove) × IsTeamRun trace.now (pool_of r.closed.start r.closed.words r.closed.accounts turns) r.logs.items) }
 {
@@ -152,7 +143,7 @@ pub fn run_limited<R: Wait + RandomSource + AllocGlobal>(
     trace: &Trace,
     q: u32,
     limit: u32,
-) -> Result<Polled, AllocError>
+) -> Result<Ran, AllocError>
     requires turns { (1 ≤ q) × (q ≤ 1000000) }
     requires polls { (1 ≤ limit) × (limit ≤ 1000000) }
     ensures { IfOk result (λ r. (turns : List AMove) × IsLimitedRun trace.now (q * limit) (pool_of r.closed.start r.closed.words r.closed.accounts turns) r.logs.items) }

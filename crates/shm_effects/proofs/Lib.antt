@@ -4,10 +4,12 @@ mod Gets
 mod Entries
 mod Steps
 mod Falls
+mod Along
 mod Turns
 mod Played
 mod Lived
 mod Logs
 mod Ended
+mod Interleaved
 mod Replays
 mod TeamEnded

@@ -1,36 +1,32 @@
--- the turns that a trace gives: the entries of a log take effect in them, one after the other
-use Rattle.std.proofs.Common.{◌≡◌, ℕ, zero, suc, ◌+◌, ◌<◌, List, [], ◌∷◌, ◌++◌, length, length-append, take, append_assoc, append-nil, refl, sym, ap, ◌∙◌, subst, inl, inr, arith}
+-- the turns that a trace gives are those that the agents of its scripts take
+use Rattle.std.proofs.Common.{◌≡◌, ◌≢◌, ℕ, ◌<◌, List, [], ◌∷◌, ◌++◌, append_assoc, append-nil, refl, sym, ap, ◌∙◌, subst, inl, inr}
 use Rattle.std.proofs.lemmas.Bool.{cases_eq}
-use Rattle.std.specs.Prelude.{◌⊎◌, Option, Some, None, slice_get}
-use Rattle.std.specs.FinMap as finmap
-use Rattle.shm_words.specs.declared.geometry.Geometry.{Geometry}
-use Rattle.shm_graph.specs.declared.{memo.Kind.Kind, run.{Account.Account, Move.{Move, TheVariants.Word}, Start.Start}}
-use Rattle.shm_graph.specs.{Runs.account_at, Views.at1}
+use Rattle.std.specs.Prelude.{◌⊎◌, Option, Some, None}
+use Rattle.shm_graph.specs.declared.{ask.Me.Me, memo.Kind.Kind, run.{Account.Account, Move.{Move, TheVariants.Begins}}}
+use Rattle.shm_graph.specs.{declared.run.Start.Start, Runs.account_at, Views.at1}
 use Rattle.shm_graph.proofs.Runs.Lists.{at1_here, at1_other}
 use Rattle.plans.specs.Deciding.{Foretells}
-use Rattle.shm_plain.specs.{Pools.{IsRun, Pool}, Proved.Standing.stood_in}
-use Rattle.shm_script.specs.{declared.log.Entry.Entry, Logged.{Logged, folded}, Values.{Scripted, Traced}}
+use Rattle.shm_count.specs.Roots.{member}
+use Rattle.shm_plain.specs.Pools.{IsRun, Pool}
+use Rattle.shm_script.specs.Values.{Scripted, Traced}
 use Rattle.shm_table.specs.Command.{command_by, command_control, command_effect}
 use Rattle.shm_agents.specs.{Agents.Playing, Turns.script_in}
-use Rattle.shm_agents.proofs.{Dying.CommandMaps, Loose.has_table}
-use Rattle.shm_replay.specs.{Replays.start_of, Seats.{IsSeat, Seat}, Turns.{given, life_in, next_of, next_work, worked}}
+use Rattle.shm_agents.proofs.Dying.{CommandMaps}
+use Rattle.shm_replay.specs.{Replays.start_of, Seats.Seat, Turns.{given, life_in, next_of, next_work, worked}}
 use Rattle.shm_replay.proofs.{Seating.{seat_other, seat_still, seat_turn, standing_cases}, Gathering.same_some}
-use Rattle.shm_headline.specs.{TurnsOf.{turn_of, turns_of}, WordRuns.{Steps, words_by}}
-use Rattle.shm_effects.specs.Effects.{HoldsMap, TakesEffect}
-use Rattle.shm_effects.proofs.{Entries.{effective, effective_fold}, Maps.holds_map, Steps.{Saw, Shows, saw_more}}
-use Rattle.shm_effects.proofs.Turns.{IsTurn, front_of, taken}
+use Rattle.shm_headline.proofs.Moves.{who_of}
+use Rattle.shm_effects.specs.Taken.{AreTaken, own_turns}
+use Rattle.shm_effects.proofs.{Along.{own_first, own_skip}, Turns.{IsTurn, front_of, taken}}
 
-take_front : {A : Type 0} (xs ys : List A) (n : ℕ) → n ≡ length xs → take n (xs ++ ys) ≡ xs
-take_front [] ys zero e = refl
-take_front [] ys (suc n) e = absurd (omega arith)
-take_front (x ∷ xs) ys zero e = absurd (omega arith)
-take_front (x ∷ xs) ys (suc n) e = ap (λ zs. x ∷ zs) (take_front xs ys n (omega arith))
+-- ---- the turns of an identity among those of all
 
-get_behind : {A : Type 0} (xs : List A) (y : A) (ys : List A) (n : ℕ) → n ≡ length xs → slice_get (xs ++ y ∷ ys) n ≡ Some y
-get_behind [] y ys zero e = refl
-get_behind [] y ys (suc n) e = absurd (omega arith)
-get_behind (x ∷ xs) y ys zero e = absurd (omega arith)
-get_behind (x ∷ xs) y ys (suc n) e = get_behind xs y ys n (omega arith)
+own_here : (d : ℕ) (o : Option Kind) (m : Move) (ms : List Move) → who_of m ≡ d → own_turns d (front_of d o ++ m ∷ ms) ≡ front_of d o ++ m ∷ own_turns d ms
+own_here d None m ms e = own_first d m ms e
+own_here d (Some k) m ms e = own_first d (Begins d k) (m ∷ ms) refl ∙ ap (λ (zs : List Move). Begins d k ∷ zs) (own_first d m ms e)
+
+own_other : (c d : ℕ) (o : Option Kind) (m : Move) (ms : List Move) → who_of m ≡ d → d ≢ c → own_turns c (front_of d o ++ m ∷ ms) ≡ own_turns c ms
+own_other c d None m ms e n = own_skip c m ms (λ z. n (sym e ∙ z))
+own_other c d (Some k) m ms e n = own_skip c (Begins d k) (m ∷ ms) n ∙ own_skip c m ms (λ z. n (sym e ∙ z))
 
 turns_behind : (old fs : List Move) (m : Move) (ms : List Move) → (old ++ (fs ++ m ∷ [])) ++ ms ≡ old ++ (fs ++ m ∷ ms)
 turns_behind old fs m ms = append_assoc old (fs ++ m ∷ []) ms ∙ ap (λ xs. old ++ xs) (append_assoc fs (m ∷ []) ms)
@@ -38,9 +34,6 @@ turns_behind old fs m ms = append_assoc old (fs ++ m ∷ []) ms ∙ ap (λ xs. o
 -- ---- a pool on the way
 
 module _ (maps : CommandMaps) (tells : Foretells command_control (λ a. a) command_effect command_by) (t : Traced) (low : (d : ℕ) (s : Scripted) → script_in t.scripts d ≡ Some s → d < t.clients) where
-  abbrev g : Geometry
-  g = (start_of t).geometry
-
   -- the agents of all identities
   pub record IsPlayed (p : Pool) (xs : ℕ → Option Playing) : Type 0 where
     pub run : IsRun p
@@ -88,154 +81,54 @@ module _ (maps : CommandMaps) (tells : Foretells command_control (λ a. a) comma
         ];
       }
 
-  -- where these turns lead
-  pub all_played : (cs : List ℕ) (p : Pool) (xs : ℕ → Option Playing) → IsPlayed p xs → (fin : Pool) → fin ≡ given t p cs → (ys : ℕ → Option Playing) × IsPlayed fin ys
-  all_played [] p xs is fin e = (xs, subst (λ (q : Pool). IsPlayed q xs) (sym e) is)
+  -- ---- all turns
+
+  -- the turns of c among these are those that the agents of its script take, from where this pool accounts for it
+  abbrev TakenAt : Pool → ℕ → List Move → Type 0
+  TakenAt p c ms = (s : Scripted) → script_in t.scripts c ≡ Some s → AreTaken (member p.start.geometry c) s (account_at p.accounts c) (own_turns c ms)
+
+  -- a turn of another identity before them
+  taken_other : (p q : Pool) (d : ℕ) (s : Scripted) (y : Playing) → (turn : IsTurn t p q d s y) → (c : ℕ) → d ≢ c → (ms : List Move) → TakenAt q c ms → TakenAt p c (front_of d turn.front ++ turn.last ∷ ms)
+  taken_other p q d s y turn c n ms taken r script =
+      subst (AreTaken (member p.start.geometry c) r (account_at p.accounts c)) (sym (own_other c d turn.front turn.last ms turn.who n))
+      (subst (λ (a : Account). AreTaken (member p.start.geometry c) r a (own_turns c ms)) (turn.others c (λ z. n (sym z)))
+      (subst (λ (z : Start). AreTaken (member z.geometry c) r (account_at q.accounts c) (own_turns c ms)) turn.start (taken r script)))
+
+  -- and one of its own
+  taken_own : (p q : Pool) (d : ℕ) (s : Scripted) → script_in t.scripts d ≡ Some s → (y : Playing) → (turn : IsTurn t p q d s y) → (ms : List Move) → TakenAt q d ms → TakenAt p d (front_of d turn.front ++ turn.last ∷ ms)
+  taken_own p q d s is y turn ms taken r script =
+      let same : s ≡ r = same_some s r (sym is ∙ script) in
+      let me : member q.start.geometry d ≡ y.me = ap (λ (z : Start). member z.geometry d) turn.start ∙ sym turn.me in
+      let more : AreTaken y.me s (account_at q.accounts d) (own_turns d ms) = subst (λ (m : Me). AreTaken m s (account_at q.accounts d) (own_turns d ms)) me (taken s is) in
+      subst (AreTaken (member p.start.geometry d) r (account_at p.accounts d)) (sym (own_here d turn.front turn.last ms turn.who))
+      (subst (λ (z : Scripted). AreTaken (member p.start.geometry d) z (account_at p.accounts d) (front_of d turn.front ++ turn.last ∷ own_turns d ms)) same
+      (subst (λ (m : Me). AreTaken m s (account_at p.accounts d) (front_of d turn.front ++ turn.last ∷ own_turns d ms)) turn.me (turn.taken (own_turns d ms) more)))
+
+  -- where turns lead from the pool p
+  pub record HasCome (p fin : Pool) : Type 0 where
+    pub all : ℕ → Option Playing
+    pub played : IsPlayed fin all
+    pub turns : List Move
+    pub grew : fin.turns ≡ p.turns ++ turns
+    pub taken : (c : ℕ) → TakenAt p c turns
+
+  come_after : (p q fin : Pool) (d : ℕ) (s : Scripted) → script_in t.scripts d ≡ Some s → (y : Playing) → IsTurn t p q d s y → HasCome q fin → HasCome p fin
+  come_after p q fin d s is y turn later =
+      record {
+        all = later.all;
+        played = later.played;
+        turns = front_of d turn.front ++ turn.last ∷ later.turns;
+        grew = later.grew ∙ (ap (λ (zs : List Move). zs ++ later.turns) turn.grew ∙ turns_behind p.turns (front_of d turn.front) turn.last later.turns);
+        taken = λ c. elim (cases_eq d c) [
+          | inr n ↦ taken_other p q d s y turn c n later.turns (later.taken c)
+          | inl e ↦ subst (λ (k : ℕ). TakenAt p k (front_of d turn.front ++ turn.last ∷ later.turns)) e (taken_own p q d s is y turn later.turns (later.taken d))
+        ];
+      }
+
+  pub all_played : (cs : List ℕ) (p : Pool) (xs : ℕ → Option Playing) → IsPlayed p xs → (fin : Pool) → fin ≡ given t p cs → HasCome p fin
+  all_played [] p xs is fin e = record { all = xs; played = subst (λ (q : Pool). IsPlayed q xs) (sym e) is; turns = []; grew = ap (λ (q : Pool). q.turns) e ∙ sym (append-nil p.turns); taken = λ c s script. tt }
   all_played (d ∷ cs) p xs is fin e =
       elim (next_pool p xs is d) [
         | inl same ↦ all_played cs p xs is fin (e ∙ ap (λ (q : Pool). given t q cs) same)
-        | inr turn ↦ (let (s, script, (y, at, taken)) = turn in all_played cs (after p d) (at1 xs d (Some taken.next)) (played_after p (after p d) xs is d s y taken) fin e)
+        | inr turn ↦ (let (s, script, (y, at, taken)) = turn in come_after p (after p d) fin d s script y taken (all_played cs (after p d) (at1 xs d (Some taken.next)) (played_after p (after p d) xs is d s y taken) fin e))
       ]
-
-  -- ---- the log of a client
-
-  module _ (l : Logged) (s : Scripted) (script : script_in t.scripts l.client ≡ Some s) (fin : Pool) where
-    abbrev c : ℕ
-    c = l.client
-
-    -- what is left to happen of the log, from the pool p on, where its client's agents are x
-    pub record IsLeft (p : Pool) (x : Playing) : Type 0 where
-      pub turns : List Move
-      pub grew : fin.turns ≡ p.turns ++ turns
-      pub more : List Entry
-      pub entries : l.entries ≡ effective s x ++ more
-      pub takes : (times : List (List ℕ)) → Saw g x.work times → TakesEffect g l (length (effective s x)) times p.words (turns_of turns)
-
-    seat_of_c : (p : Pool) (xs : ℕ → Option Playing) → IsPlayed p xs → (x : Playing) → xs c ≡ Some x → IsSeat t p c x
-    seat_of_c p xs is x at = subst (Seat t p c) at (is.seats c (low c s script))
-
-    same_script : (p : Pool) (x : Playing) → (h : IsSeat t p c x) → h.script ≡ s
-    same_script p x h = same_some h.script s (sym h.is ∙ script)
-
-    -- the words hold the fold of the entries that have taken effect
-    holds : (p : Pool) (xs : ℕ → Option Playing) → IsPlayed p xs → (x : Playing) → xs c ≡ Some x → (more : List Entry) → l.entries ≡ effective s x ++ more → HoldsMap g p.words c (folded (take (length (effective s x)) l.entries) finmap.empty)
-    holds p xs is x at more entries =
-        let h = seat_of_c p xs is x at in
-        let lt = few p is.start c (low c s script) in
-        let e : Account = account_at p.accounts c in
-        let stood = stood_in p is.run c lt in
-        let front : take (length (effective s x)) l.entries ≡ effective s x = ap (take (length (effective s x))) entries ∙ take_front (effective s x) more (length (effective s x)) refl in
-        let map : HoldsMap p.start.geometry p.words c (folded (effective h.script x) finmap.empty) = holds_map p.start.geometry p.words p.accounts is.run.held c lt (has_table p.start e stood h.stands.may.tables) (folded (effective h.script x) finmap.empty) (effective_fold maps p.start h.script x e h.stands stood) in
-        subst (λ (es : List Entry). HoldsMap g p.words c (folded es finmap.empty)) (sym front)
-        (subst (λ (z : Scripted). HoldsMap g p.words c (folded (effective z x) finmap.empty)) (same_script p x h)
-        (subst (λ (z : Start). HoldsMap z.geometry p.words c (folded (effective h.script x) finmap.empty)) is.start map))
-
-    -- a turn before what is left
-    module _ (p q : Pool) (d : ℕ) (front : Option Kind) (last : Move) (words : q.words ≡ words_by (turn_of last) p.words) (grew : q.turns ≡ p.turns ++ (front_of d front ++ last ∷ [])) (x y : Playing) (left : IsLeft q y) where
-      abbrev ms : List Move
-      ms = left.turns
-
-      abbrev n : ℕ
-      n = length (effective s x)
-
-      all_grew : fin.turns ≡ p.turns ++ (front_of d front ++ last ∷ ms)
-      all_grew = left.grew ∙ (ap (λ (zs : List Move). zs ++ ms) grew ∙ turns_behind p.turns (front_of d front) last ms)
-
-      -- what holds from the last turn on holds from the beginning on
-      begins : HoldsMap g p.words c (folded (take n l.entries) finmap.empty) → (o : Option Kind) → ((times : List (List ℕ)) → Saw g x.work times → TakesEffect g l n times p.words (turn_of last ∷ turns_of ms))
-          → (times : List (List ℕ)) → Saw g x.work times → TakesEffect g l n times p.words (turns_of (front_of d o ++ last ∷ ms))
-      begins map None then times saw = then times saw
-      begins map (Some k) then times saw = (map, inl (then (p.words ∷ times) (saw_more g x.work p.words times saw)))
-
-      pub quiet_before : ((more : List Entry) → l.entries ≡ effective s x ++ more → HoldsMap g p.words c (folded (take n l.entries) finmap.empty)) → effective s y ≡ effective s x → ((times : List (List ℕ)) → Saw g x.work times → Saw g y.work (p.words ∷ times)) → IsLeft p x
-      quiet_before map same saw =
-          let entries : l.entries ≡ effective s x ++ left.more = left.entries ∙ ap (λ (es : List Entry). es ++ left.more) same in
-          record {
-            turns = front_of d front ++ last ∷ ms;
-            grew = all_grew;
-            more = left.more;
-            entries = entries;
-            takes = begins (map left.more entries) front (λ times seen. (
-              map left.more entries,
-              inl (subst (λ (ws : List ℕ). TakesEffect g l n (p.words ∷ times) ws (turns_of ms)) words
-                  (subst (λ (es : List Entry). TakesEffect g l (length es) (p.words ∷ times) q.words (turns_of ms)) same (left.takes (p.words ∷ times) (saw times seen)))),
-            ));
-          }
-
-      pub rise_before : ((more : List Entry) → l.entries ≡ effective s x ++ more → HoldsMap g p.words c (folded (take n l.entries) finmap.empty)) → (a : Entry) → effective s y ≡ effective s x ++ a ∷ [] → ((times : List (List ℕ)) → Saw g x.work times → Shows g c (p.words ∷ times) a) → Saw g y.work [] → (step : _) → last ≡ Word step → step.me.who ≡ c → IsLeft p x
-      rise_before map a rises shows fresh step is own =
-          let entries : l.entries ≡ effective s x ++ (a ∷ left.more) = left.entries ∙ (ap (λ (es : List Entry). es ++ left.more) rises ∙ append_assoc (effective s x) (a ∷ []) left.more) in
-          let many : length (effective s y) ≡ n + 1 = ap (λ (es : List Entry). length es) rises ∙ length-append (effective s x) (a ∷ []) in
-          record {
-            turns = front_of d front ++ last ∷ ms;
-            grew = all_grew;
-            more = a ∷ left.more;
-            entries = entries;
-            takes = begins (map (a ∷ left.more) entries) front (λ times seen.
-                let w = shows times seen in (
-                  map (a ∷ left.more) entries,
-                  inr (
-                    record {
-                      ask = step.ask;
-                      own = ap turn_of is ∙ ap (λ (k : ℕ). Steps k step.ask) own;
-                      entry = a;
-                      next = ap (λ (es : List Entry). slice_get es n) entries ∙ get_behind (effective s x) a left.more n refl;
-                      time = w.0;
-                      among = w.1;
-                      shown = w.2;
-                    },
-                    subst (λ (ws : List ℕ). TakesEffect g l (n + 1) [] ws (turns_of ms)) words
-                        (subst (λ (k : ℕ). TakesEffect g l k [] q.words (turns_of ms)) many (left.takes [] fresh)),
-                  ),
-                ));
-          }
-
-    -- the client's own turn
-    own_turn : (p q : Pool) (xs : ℕ → Option Playing) → IsPlayed p xs → (x : Playing) → xs c ≡ Some x → (turn : IsTurn t p q c s x) → IsLeft q turn.next → IsLeft p x
-    own_turn p q xs is x at turn left = elim turn.takes [
-      | inl h ↦ quiet_before p q c turn.front turn.last turn.words turn.grew x turn.next left (holds p xs is x at) h.0
-          (λ times seen. subst (λ (z : Start). Saw z.geometry turn.next.work (p.words ∷ times)) is.start (h.1 times (subst (λ (z : Start). Saw z.geometry x.work times) (sym is.start) seen)))
-      | inr h ↦ rise_before p q c turn.front turn.last turn.words turn.grew x turn.next left (holds p xs is x at) h.entry h.more
-          (λ times seen. subst (λ (z : Start). Shows z.geometry c (p.words ∷ times) h.entry) is.start (h.shows times (subst (λ (z : Start). Saw z.geometry x.work times) (sym is.start) seen)))
-          (subst (λ (z : Start). Saw z.geometry turn.next.work []) is.start h.fresh) h.step h.is h.own
-    ]
-
-    -- ---- all turns
-
-    -- in the end all entries have taken effect
-    module _ (ends : (xs : ℕ → Option Playing) (x : Playing) → IsPlayed fin xs → IsSeat t fin c x → l.entries ≡ effective s x) where
-      at_end : (p : Pool) (xs : ℕ → Option Playing) → IsPlayed p xs → (x : Playing) → xs c ≡ Some x → fin ≡ p → IsLeft p x
-      at_end p xs is x at e =
-          let all : l.entries ≡ effective s x = ends xs x (subst (λ (q : Pool). IsPlayed q xs) (sym e) is) (subst (λ (q : Pool). IsSeat t q c x) (sym e) (seat_of_c p xs is x at)) in
-          let entries : l.entries ≡ effective s x ++ [] = all ∙ sym (append-nil (effective s x)) in
-          record {
-            turns = [];
-            grew = ap (λ (q : Pool). q.turns) e ∙ sym (append-nil p.turns);
-            more = [];
-            entries = entries;
-            takes = λ times seen. (holds p xs is x at [] entries, ap (λ (es : List Entry). length es) (sym all));
-          }
-
-      pub left_of : (cs : List ℕ) (p : Pool) (xs : ℕ → Option Playing) → IsPlayed p xs → (x : Playing) → xs c ≡ Some x → fin ≡ given t p cs → IsLeft p x
-      left_of [] p xs is x at e = at_end p xs is x at e
-      left_of (d ∷ cs) p xs is x at e =
-          elim (next_pool p xs is d) [
-            | inl same ↦ left_of cs p xs is x at (e ∙ ap (λ (q : Pool). given t q cs) same)
-            | inr turn ↦ (
-                let (r, script_d, (y, at_d, taken)) = turn in
-                let then = played_after p (after p d) xs is d r y taken in
-                elim (cases_eq d c) [
-                  | inr n ↦ (
-                      let left : IsLeft (after p d) x = left_of cs (after p d) (at1 xs d (Some taken.next)) then x (at1_other xs d (Some taken.next) c n ∙ at) e in
-                      quiet_before p (after p d) d taken.front taken.last taken.words taken.grew x x left (holds p xs is x at) refl (λ times seen. saw_more g x.work p.words times seen)
-                      )
-                  | inl own ↦ mine (after p d) d own r script_d y at_d taken (left_of cs (after p d) (at1 xs d (Some taken.next)) then taken.next (ap (at1 xs d (Some taken.next)) (sym own) ∙ at1_here xs d (Some taken.next)) e)
-                ]
-                )
-          ]
-        where
-          mine : (q : Pool) (d : ℕ) → d ≡ c → (r : Scripted) → script_in t.scripts d ≡ Some r → (y : Playing) → xs d ≡ Some y → (taken : IsTurn t p q d r y) → IsLeft q taken.next → IsLeft p x
-          mine q d own = subst (λ (k : ℕ). (r : Scripted) → script_in t.scripts k ≡ Some r → (y : Playing) → xs k ≡ Some y → (taken : IsTurn t p q k r y) → IsLeft q taken.next → IsLeft p x) (sym own)
-              (λ r script_c y at_c. let same : r ≡ s = same_some r s (sym script_c ∙ script) in let agents : y ≡ x = same_some y x (sym at_c ∙ at) in
-              subst (λ (z : Scripted). (taken : IsTurn t p q c z y) → IsLeft q taken.next → IsLeft p x) (sym same)
-              (subst (λ (z : Playing). (taken : IsTurn t p q c s z) → IsLeft q taken.next → IsLeft p x) (sym agents) (own_turn p q xs is x at)))

@@ -1,36 +1,29 @@
--- in the turns that a replay gives each log takes effect
-use Rattle.std.proofs.Common.{◌≡◌, ℕ, suc, ◌<◌, Bool, true, false, cond, eqb, List, [], ◌∷◌, ◌++◌, length, refl, sym, ap, ◌∙◌, subst, arith}
+-- a replay is a run in which each identity takes the turns that its script gives
+use Rattle.std.proofs.Common.{◌≡◌, ℕ, suc, ◌<◌, Bool, true, false, cond, eqb, inl, inr, List, [], ◌∷◌, ◌++◌, length, refl, sym, ap, ◌∙◌, subst, arith}
 use Rattle.std.proofs.lemmas.Bool.{cond-false, cond-true}
 use Rattle.std.specs.{Prelude.{◌==◌, Option, Some, None, if◌then◌else◌, slice_get, slice_index}, List.AllByRecursion}
 use Rattle.shm_words.specs.{declared.geometry.Geometry.Geometry, Layout.GeometryFits}
-use Rattle.shm_graph.specs.{declared.{ask.Me.Me, run.{Move.Move, Start.Start}}, Runs.account_at}
+use Rattle.shm_graph.specs.declared.{ask.Me.Me, run.{Account.Account, Move.Move, Start.Start}}
+use Rattle.shm_graph.specs.{Agents.{acts, last_agent}, Runs.{account_at, first_account}}
 use Rattle.plans.specs.Deciding.{Foretells}
 use Rattle.shm_count.specs.Roots.{member}
-use Rattle.shm_plain.specs.Pools.{Pool, first_pool}
+use Rattle.shm_plain.specs.Pools.{Pool, first_pool, memo_of}
 use Rattle.shm_plain.proofs.Turning.{first_run}
 use Rattle.shm_script.specs.{Logged.Logged, Ranges.{IsTrace, ScriptFits}, Values.{Scripted, Traced}}
 use Rattle.shm_table.specs.Command.{command_by, command_control, command_effect}
-use Rattle.shm_agents.specs.{declared.agents.Standing.TheVariants.AtWork, Agents.{Playing, Stage.Fresh}}
-use Rattle.shm_agents.specs.{Logs.{AreLogs, IsLog}, Turns.{lives_of, script_in}, Work.join_work}
-use Rattle.shm_agents.proofs.{Dying.CommandMaps, Over.{IsOver, is_over}}
+use Rattle.shm_agents.specs.{declared.agents.Standing.TheVariants.{AtWork, Dead, Gone}, Agents.{Playing, Stage.Fresh}}
+use Rattle.shm_agents.specs.{Logs.IsLog, Turns.{lives_of, script_in}, Work.join_work}
+use Rattle.shm_agents.proofs.{Dying.CommandMaps, Over.{IsOver, is_over, over_gone}, Standing.fell_quiet}
 use Rattle.shm_replay.specs.{Orders.rounds_of, Replays.{IsReplay, start_of}, Seats.{IsSeat, Seat}}
-use Rattle.shm_replay.proofs.{Ending.seat_rest, Starting.{NewStands, new_seat, none_seat, script_client}}
+use Rattle.shm_replay.proofs.{Ending.seat_rest, Starting.{NewStands, account_first, new_seat, none_seat, script_client}}
 use Rattle.shm_replay.proofs.{WholeRun.script_at, Gathering.same_some}
 use Rattle.shm_headline.specs.{Headline.{geometry_of, words_first}, TurnsOf.turns_of}
-use Rattle.shm_effects.specs.{Effects.TakesEffect, Lived.HasLived}
-use Rattle.shm_effects.proofs.{Ended.replay_lived, Entries.effective, Logs.{entries_noted, log_noted}}
-use Rattle.shm_effects.proofs.Played.{IsPlayed, all_played, left_of}
+use Rattle.shm_effects.specs.{Effects.TakesEffect, Lived.HasLived, Taken.{AreTaken, IsInterleaved, own_turns}}
+use Rattle.shm_effects.proofs.{Along.first_life, Ended.replay_lived}
+use Rattle.shm_effects.proofs.{Interleaved.{all_logs, interleaved_takes, script_of}, Logs.log_noted}
+use Rattle.shm_effects.proofs.Played.{HasCome, IsPlayed, all_played}
 
 -- ---- scripts
-
--- what holds of all scripts holds of that of an identity
-pub script_of : (P : Scripted → Type 0) (ss : List Scripted) (d : ℕ) (s : Scripted) → AllByRecursion P ss → script_in ss d ≡ Some s → P s
-script_of P [] d s h e = absurd (cc)
-script_of P (r ∷ ss) d s h e = go (eqb r.client d) refl (script_of P ss d s h.1)
-  where
-    go : (b : Bool) → eqb r.client d ≡ b → (script_in ss d ≡ Some s → P s) → P s
-    go true f later = subst P (same_some r s (sym (cond-true (eqb r.client d) (Some r) (script_in ss d) f) ∙ e)) h.0
-    go false f later = later (sym (cond-false (eqb r.client d) (Some r) (script_in ss d) f) ∙ e)
 
 -- where the script of an identity stands
 abbrev index_of : List Scripted → ℕ → ℕ
@@ -45,9 +38,11 @@ index_is (r ∷ ss) d s e = go (eqb r.client d) refl (index_is ss d s)
     go true f later = ap (slice_get (r ∷ ss)) (cond-true (eqb r.client d) 0 (suc (index_of ss d)) f) ∙ (sym (cond-true (eqb r.client d) (Some r) (script_in ss d) f) ∙ e)
     go false f later = ap (slice_get (r ∷ ss)) (cond-false (eqb r.client d) 0 (suc (index_of ss d)) f) ∙ later (sym (cond-false (eqb r.client d) (Some r) (script_in ss d) f) ∙ e)
 
-first_life : (ns : List ℕ) → slice_get (lives_of ns) 0 ≡ Some (slice_index (lives_of ns) 0)
-first_life [] = refl
-first_life (n ∷ ns) = refl
+-- where the agents of a script have nothing left to do none of them acts
+over_idle : (s : Scripted) (x : Playing) (e : Account) → IsOver s x e → acts e.memo ≡ false
+over_idle s x e (inl p) = (over_gone s x e (inl p) (λ dead. let z : Gone ≡ Dead = sym p.left ∙ dead in cc)).1.0
+over_idle s x e (inr (inl h)) = (over_gone s x e (inr (inl h)) (λ dead. let z : Gone ≡ Dead = sym h.0.recovered ∙ dead in cc)).1.0
+over_idle s x e (inr (inr h)) = fell_quiet (last_agent e.memo.agents) h.1.fell
 
 module _ (maps : CommandMaps) (tells : Foretells command_control (λ a. a) command_effect command_by) (t : Traced) (trace : IsTrace t) (p : Pool) (ls : List Logged) (r : IsReplay t p ls) where
   abbrev g : Geometry
@@ -108,63 +103,52 @@ module _ (maps : CommandMaps) (tells : Foretells command_control (λ a. a) comma
   played : IsPlayed maps tells t low first all_fresh
   played = record { run = first_run (start_of t) fits (omega arith, omega arith); start = refl; seats = λ d l. begins d l (script_in t.scripts d) refl }
 
-  -- ---- where the agents of a script have nothing left to do
+  -- ---- after the last one
 
-  module _ (s : Scripted) (script : script_in t.scripts s.client ≡ Some s) (xs : ℕ → Option Playing) (x : Playing) (at : IsPlayed maps tells t low r.played xs) (h : IsSeat t r.played s.client x) where
-    few : s.client < t.clients
-    few = low s.client s script
+  come : HasCome maps tells t low first r.played
+  come = all_played maps tells t low (r.given.items ++ rounds_of t.clients r.given.rounds) first all_fresh played r.played r.given.turns
 
-    over : IsOver s x (account_at r.played.accounts s.client)
-    over =
-        subst (λ (z : Scripted). IsOver z x (account_at r.played.accounts s.client)) (same_some h.script s (sym h.is ∙ script))
-        (is_over r.played.start h.script x (account_at r.played.accounts s.client) h.stands.stage (seat_rest t r.played s.client x h (r.given.done s.client)))
+  same : r.played.start ≡ start_of t
+  same = come.played.start
 
-    low_played : s.client < r.played.start.geometry.clients
-    low_played = subst (λ (z : Start). s.client < z.geometry.clients) (sym at.start) few
+  -- the agents of a script have nothing left to do
+  over : (d : ℕ) (x : Playing) → (h : IsSeat t r.played d x) → IsOver h.script x (account_at r.played.accounts d)
+  over d x h = is_over r.played.start h.script x (account_at r.played.accounts d) h.stands.stage (seat_rest t r.played d x h (r.given.done d))
 
-    who : s.client ≡ x.me.who
-    who = sym (ap (λ (m : Me). m.who) h.me)
+  idle : (d : ℕ) (o : Option Playing) → Seat t r.played d o → acts (memo_of r.played d) ≡ false
+  idle d None h = ap (λ (a : Account). acts a.memo) h.1
+  idle d (Some x) h = over_idle h.script x (account_at r.played.accounts d) (over d x h)
 
-    -- all that its client has noted are the entries
-    noted : (l : Logged) → IsLog p s l → l.entries ≡ effective s x
-    noted l is = entries_noted t.clients r.played p at.run (r.start ∙ sym at.start) r.visits s x few low_played who h.me over l is
+  turns : (s : Scripted) → script_in t.scripts s.client ≡ Some s → AreTaken (member r.played.start.geometry s.client) s (first_account r.played.start s.client) (own_turns s.client r.played.turns)
+  turns s script =
+      subst (λ (z : Start). AreTaken (member z.geometry s.client) s (first_account z s.client) (own_turns s.client r.played.turns)) (sym same)
+      (subst (λ (ms : List Move). AreTaken (member g s.client) s (first_account (start_of t) s.client) (own_turns s.client ms)) (sym come.grew)
+      (subst (λ (a : Account). AreTaken (member g s.client) s a (own_turns s.client come.turns)) (account_first (start_of t) s.client (low s.client s script)) (come.taken s.client s script)))
 
-    lived : (l : Logged) → IsLog p s l → HasLived (turns_of p.turns) l
-    lived l is = replay_lived r.played p at.run t.clients r.visits s x over l (log_noted t.clients r.played p at.run (r.start ∙ sym at.start) r.visits s x few low_played who h.me over l is) is.client
+  pub interleaved : IsInterleaved t p ls
+  interleaved = record { start = r.start; played = r.played; begins = same; run = come.played.run; turns = turns; rests = λ d l. (idle d (come.all d) (come.played.seats d l), r.given.done d); visits = r.visits; logs = r.logs }
 
-  -- ---- each log
+  pub replay_takes : AllByRecursion (λ (l : Logged). TakesEffect (geometry_of t) l 0 [] (words_first t) (turns_of r.played.turns)) ls
+  unfolding interleaved
+  replay_takes = interleaved_takes maps tells t trace p ls interleaved
 
-  abbrev Takes : Logged → Type 0
-  Takes l = TakesEffect (geometry_of t) l 0 [] (words_first t) (turns_of r.played.turns)
-
-  -- in the end all that its client has noted has taken effect
-  ends : (l : Logged) (s : Scripted) → script_in t.scripts s.client ≡ Some s → IsLog p s l → (xs : ℕ → Option Playing) (x : Playing) → IsPlayed maps tells t low r.played xs → IsSeat t r.played l.client x → l.entries ≡ effective s x
-  ends l s script is xs x at seat = noted s script xs x at (subst (λ (k : ℕ). IsSeat t r.played k x) is.client seat) l is
-
-  takes : (l : Logged) (s : Scripted) → script_in t.scripts s.client ≡ Some s → IsLog p s l → Takes l
-  takes l s script is =
-      let here : script_in t.scripts l.client ≡ Some s = ap (script_in t.scripts) is.client ∙ script in
-      let left = left_of maps tells t low l s here r.played (ends l s script is) (r.given.items ++ rounds_of t.clients r.given.rounds) first all_fresh played (fresh l.client s) (ap (fresh_by l.client) here) r.given.turns in
-      subst (λ (ms : List Move). TakesEffect (geometry_of t) l 0 [] (words_first t) (turns_of ms)) (sym left.grew) (left.takes [] (λ m e b. absurd (cc)))
+  -- ---- who died
 
   -- of a client that ended nobody of its identity died
   ended : (l : Logged) (s : Scripted) → script_in t.scripts s.client ≡ Some s → IsLog p s l → HasLived (turns_of p.turns) l
-  ended l s script is =
-      let (xs, at) = all_played maps tells t low (r.given.items ++ rounds_of t.clients r.given.rounds) first all_fresh played r.played r.given.turns in
-      go xs at (xs s.client) refl (at.seats s.client (low s.client s script))
+  ended l s script is = go (come.all s.client) (come.played.seats s.client few)
     where
-      go : (xs : ℕ → Option Playing) → IsPlayed maps tells t low r.played xs → (o : Option Playing) → xs s.client ≡ o → Seat t r.played s.client o → HasLived (turns_of p.turns) l
-      go xs at None f h = absurd (let z : ◌≡◌ {A = Option Scripted} (Some s) None = sym script ∙ h.0 in cc)
-      go xs at (Some x) f h = lived s script xs x at h l is
+      few : s.client < t.clients
+      few = low s.client s script
 
-  -- what holds of the log of each script holds of all
-  all_logs : (P : Logged → Type 0) → ((l : Logged) (s : Scripted) → script_in t.scripts s.client ≡ Some s → IsLog p s l → P l) → (ss : List Scripted) (logs : List Logged) → ((k : ℕ) (s : Scripted) → slice_get ss k ≡ Some s → script_in t.scripts s.client ≡ Some s) → AreLogs p ss logs → AllByRecursion P logs
-  all_logs P one [] logs at h = subst (AllByRecursion P) (sym h) tt
-  all_logs P one (s ∷ ss) [] at h = absurd h
-  all_logs P one (s ∷ ss) (l ∷ logs) at h = (one l s (at 0 s refl) h.0, all_logs P one ss logs (λ k z e. at (suc k) z e) h.1)
+      here : s.client < r.played.start.geometry.clients
+      here = subst (λ (z : Start). s.client < z.geometry.clients) (sym same) few
 
-  pub replay_takes : AllByRecursion Takes ls
-  replay_takes = all_logs Takes takes t.scripts ls (λ k s e. script_at t.scripts k s trace.apart e) r.logs
+      go : (o : Option Playing) → Seat t r.played s.client o → HasLived (turns_of p.turns) l
+      go None h = absurd (let z : ◌≡◌ {A = Option Scripted} (Some s) None = sym script ∙ h.0 in cc)
+      go (Some x) h =
+          let own : IsOver s x (account_at r.played.accounts s.client) = subst (λ (z : Scripted). IsOver z x (account_at r.played.accounts s.client)) (same_some h.script s (sym h.is ∙ script)) (over s.client x h) in
+          replay_lived r.played p come.played.run t.clients r.visits s x own l (log_noted t.clients r.played p come.played.run (r.start ∙ sym same) r.visits s x few here (sym (ap (λ (m : Me). m.who) h.me)) h.me own l is) is.client
 
   pub replay_ended : AllByRecursion (HasLived (turns_of p.turns)) ls
-  replay_ended = all_logs (HasLived (turns_of p.turns)) ended t.scripts ls (λ k s e. script_at t.scripts k s trace.apart e) r.logs
+  replay_ended = all_logs t.scripts p (HasLived (turns_of p.turns)) ended t.scripts ls (λ k s e. script_at t.scripts k s trace.apart e) r.logs

@@ -13,7 +13,7 @@ use Rattle.shm_replay.proofs.WholeRun.{script_at}
 use Rattle.shm_team.specs.{Rans.{HasAgents, IsTeamRun}, Visits.AreClosers}
 use Rattle.shm_headline.specs.TurnsOf.{turns_of}
 use Rattle.shm_effects.specs.Lived.{HasLived, NoneDies}
-use Rattle.shm_effects.proofs.{Ended.script_lived, Lived.{AllLived, lived_both, none_died}, Replays.script_of}
+use Rattle.shm_effects.proofs.{Ended.script_lived, Lived.{AllLived, lived_both, none_died}, Interleaved.script_of}
 
 -- ---- the agents
 

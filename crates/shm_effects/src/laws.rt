@@ -1,7 +1,7 @@
 //! What holds of the logs of a trace, at each word step of its run.
 
 ghost use Rattle.std.specs.{Prelude.{List, []}, List.AllByRecursion};
-ghost use Rattle.shm_effects.specs.{Effects.TakesEffect, Lived.HasLived};
+ghost use Rattle.shm_effects.specs.{Effects.TakesEffect, Lived.HasLived, Taken.IsInterleaved};
 ghost use Rattle.shm_headline.specs.{Headline.{geometry_of, words_first}, TurnsOf.turns_of};
 ghost use Rattle.shm_plain.specs.Pools.{Pool as APool};
 ghost use Rattle.shm_replay.specs.Replays.{IsReplay};
@@ -11,9 +11,12 @@ ghost use Rattle.shm_team.specs.Rans.{IsTeamRun};
 use shm_table::{command_foretells, command_maps};
 
 /// In the turns that a trace gives each command of a log takes effect at one word step of its client, or of who recovers it, wholly or not at
-/// all; and what a get answered stood in the author's map at a time since the command before it.
+/// all; and what a get answered stood in the author's map at a time since the command before it. So it is in whatever order the turns come,
+/// where each identity takes those that its script gives; a replay is one such run.
 pub fn logs_take_effect()
     ensures replay { (t : ATrace) (p : APool) (ls : List ALogged) → IsTrace t → (r : IsReplay t p ls) → AllByRecursion (λ (l : ALogged). TakesEffect (geometry_of t) l 0 [] (words_first t) (turns_of r.played.turns)) ls }
+    ensures interleaved { (t : ATrace) (p : APool) (ls : List ALogged) → IsTrace t → (r : IsInterleaved t p ls) → AllByRecursion (λ (l : ALogged). TakesEffect (geometry_of t) l 0 [] (words_first t) (turns_of r.played.turns)) ls }
+    ensures one_such { (t : ATrace) (p : APool) (ls : List ALogged) → IsTrace t → IsReplay t p ls → IsInterleaved t p ls }
 {
     // by their laws: what the map is while a command runs, and what the command shows of its answer
     command_maps();

@@ -16,4 +16,5 @@ pub use gate::{Gate, NoGate};
 pub use making::Made3;
 pub use morgue::{Medic, Morgue, NoRoom, Porter};
 pub use rule::{Pools, Taken};
-pub use run::{Rescued, run_morgue};
+pub use run::run_morgue;
+pub use shm_team::Ran;

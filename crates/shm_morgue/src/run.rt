@@ -19,23 +19,15 @@ use crate::rule::{Pools, Taken};
 use crate::worker::{Outcome, Shift, Task, Worked, work_all};
 use shm_play::cast::Cast;
 use shm_play::play::Play;
-use shm_pool::{Closed, SharedPool};
-use shm_script::{Log, Trace};
-use shm_team::{Done, Job, Left, begin, settle};
+use shm_pool::SharedPool;
+use shm_script::Trace;
+use shm_team::{Done, Job, Left, Ran, begin, settle};
 use std::alloc::{AllocError, Global};
 use std::marker::{Brand, Send, Sync};
 use std::sync::Wait;
 use std::sync::atomic::AtomicU32;
 use std::thread;
 use std::thread::Threads;
-
-/// What clients, and the recoverers of the dead among them, leave of a trace: the closed pool, and the logs of the clients in the order of the
-/// scripts.
-#[derive(Drop)]
-pub struct Rescued {
-    pub closed: Closed,
-    pub logs: Vec<Log>,
-}
 
 /// A task for each identity, in order, where there is room for all of them.
 fn tasks_in<'a, J: Pools, A: Play>(
@@ -426,18 +418,14 @@ fn run_morgue_of<A: Play + Send, R: Threads + Wait + Sync, G: Gate>(
     trace: &Trace,
     medics: u8,
     gate: &G,
-) -> Result<Rescued, AllocError>
+) -> Result<Ran, AllocError>
     requires { (1 ≤ medics) × (medics ≤ 4) }
     ensures { IfOk result (λ r. (turns : List AMove) × IsTeamRun trace.now (pool_of r.closed.start r.closed.words r.closed.accounts turns) r.logs.items) }
 {
     trace.in_grammar();
     let (pool, jobs) = begin::<A>(alloc, trace)?;
     let dones = run_in::<Brand, A, R, G>(rt, alloc, &pool, trace, medics, gate, jobs)?;
-    let ran = settle(rt, alloc, trace, pool, dones)?;
-    Ok(Rescued {
-        closed: ran.closed,
-        logs: ran.logs,
-    })
+    settle(rt, alloc, trace, pool, dones)
 }
 
 /// Runs a trace by clients on threads, as `run_team` of shm_team does, but that a worker whose client died puts the corpse into a morgue, from
@@ -458,7 +446,7 @@ pub fn run_morgue<R: Threads + Wait + Sync, G: Gate>(
     trace: &Trace,
     medics: u8,
     gate: &G,
-) -> Result<Rescued, AllocError>
+) -> Result<Ran, AllocError>
     requires { (1 ≤ medics) × (medics ≤ 4) }
     ensures { IfOk result (λ r. (turns : List AMove) × IsTeamRun trace.now (pool_of r.closed.start r.closed.words r.closed.accounts turns) r.logs.items) }
 {

@@ -36,7 +36,7 @@ line_costs l a f g x y ts ran unspent has =
       steps = subst (λ (n : ℕ). x ≤ y + line_steps l ts geometry + tear_steps geometry.wide n) freed h.most;
       few = ran.few unspent ts has;
       trees = ran.lives unspent;
-      same = λ refused. ran.same refused unspent;
+      same = λ other. ran.same other unspent;
     }
 
 lines_cost : (ls : List TreeLine) (bs : List TreeAnswer) (f g : Forested) (x y : ℕ) (ts : List Tree) → Lines ls bs f x g y → HasVersions f.registers ts → IsOfOne f.registers.pool.start → x + made_by f ≤ 2 ^ 46 → LinesCost ls bs ts f.registers.pool g.registers.pool x y

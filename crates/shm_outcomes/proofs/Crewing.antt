@@ -1,7 +1,7 @@
 -- the agents of an identity by how its client ended
 use Rattle.std.proofs.Common.{◌≡◌, ℕ, ◌≤◌, ◌++◌, Bool, true, false, eqb, List, [], ◌∷◌, refl, sym, ap, ◌∙◌, subst, inl, inr}
 use Rattle.std.proofs.lemmas.Bool.{cond-false, cond-true, false≢true}
-use Rattle.std.specs.{Prelude.{Option, Some, None, slice_index}, List.Contains}
+use Rattle.std.specs.{Prelude.{Some, None, slice_index}, List.Contains}
 use Rattle.shm_agents.specs.Courses.{AreAgents, AreRecoverers, HasBegun, HasLived, client_lines}
 use Rattle.shm_agents.specs.{Logs.{AreLogs, BeganWith, HasEnd, IsLog}, Turns.{lives_of, script_in}}
 use Rattle.shm_graph.specs.declared.{ask.Me.Me, memo.{Agent.Agent, Fate.Fate}, run.Account.Account}
@@ -14,10 +14,10 @@ use Rattle.shm_script.specs.{declared.log.{End.{End, TheVariants.{Ended, Died}},
 use Rattle.shm_script.specs.Values.{Scripted}
 use Rattle.shm_team.specs.{Rans.HasAgents, Visits.AreClosers}
 use Rattle.shm_outcomes.specs.Crews.{ClientDied, ClientLeft, ClientWent, HasCrew, IsCloserAlone, client_by, closing_lines}
-use Rattle.shm_outcomes.proofs.Elements.{contains_first, contains_later, head_same}
+use Rattle.shm_outcomes.proofs.{Cutting.some_same, Elements.{contains_first, contains_later, head_same}}
 
 -- nobody comes behind an agent that ended
-none_more : (lives : List ℕ) (agents : List Agent) (begun : List (List (List ℕ))) (dead : Bool) → AreRecoverers false lives agents begun dead → (agents ≡ []) × (begun ≡ []) × (dead ≡ false)
+pub none_more : (lives : List ℕ) (agents : List Agent) (begun : List (List (List ℕ))) (dead : Bool) → AreRecoverers false lives agents begun dead → (agents ≡ []) × (begun ≡ []) × (dead ≡ false)
 none_more lives [] [] dead h = (refl, refl, h)
 none_more lives [] (b ∷ bs) dead h = absurd h
 none_more lives (a ∷ more) begun dead h = absurd h
@@ -34,7 +34,7 @@ lived_ended : (n : ℕ) (a : Agent) → HasLived n a → a.fate ≡ fate.Ended �
 lived_ended n a (inl h) e = absurd (false≢true (ap is_dead (sym e ∙ h.0)))
 lived_ended n a (inr h) e = h.1
 
-lived_died : (n : ℕ) (a : Agent) → HasLived n a → a.fate ≡ fate.Died → a.steps ≡ n
+pub lived_died : (n : ℕ) (a : Agent) → HasLived n a → a.fate ≡ fate.Died → a.steps ≡ n
 lived_died n a (inl h) e = h.1
 lived_died n a (inr h) e = absurd (false≢true (ap is_dead (sym h.0 ∙ e)))
 
@@ -101,9 +101,6 @@ closer_alone e h =
 -- ---- logs
 
 -- a script has a log
-some_same : (x y : Scripted) → ◌≡◌ {A = Option Scripted} (Some x) (Some y) → x ≡ y
-some_same x y e = cc
-
 script_log : (p : Pool) (ss : List Scripted) (ls : List Logged) (c : ℕ) (s : Scripted) → AreLogs p ss ls → script_in ss c ≡ Some s → (l : Logged) × Contains ls l × IsLog p s l
 script_log p [] ls c s are is = absurd (cc)
 script_log p (r ∷ ss) [] c s are is = absurd are

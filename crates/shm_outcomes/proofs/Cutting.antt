@@ -8,7 +8,7 @@ use Rattle.shm_graph.specs.{declared.run.Account.Account, Runs.account_at}
 use Rattle.shm_script.specs.Values.{Scripted}
 use Rattle.shm_outcomes.proofs.Elements.{head_same}
 
-some_same : (x y : Scripted) → ◌≡◌ {A = Option Scripted} (Some x) (Some y) → x ≡ y
+pub some_same : (x y : Scripted) → ◌≡◌ {A = Option Scripted} (Some x) (Some y) → x ≡ y
 some_same x y e = cc
 
 -- the script as it was cut, or as it is

@@ -1,8 +1,9 @@
 pub mod Elements
 pub mod Determined
 pub mod Logging
-pub mod Crewing
 pub mod Cutting
+pub mod Crewing
+pub mod Dying
 pub mod Ordering
 pub mod Turning
 pub mod Writing

@@ -1,15 +1,16 @@
 -- what the lines of a script for versions cost
-use Rattle.std.specs.{Prelude.{◌≡◌, ℕ, ◌+◌, ◌<◌, ◌≤◌, false, List, [], ◌∷◌, ◌++◌}, Option.is_some}
+use Rattle.std.specs.{Prelude.{◌≡◌, ◌≢◌, ℕ, ◌+◌, ◌<◌, ◌≤◌, false, List, [], ◌∷◌, ◌++◌}, Option.is_some}
 use Rattle.shm_count.specs.Tear.Events.{frees}
 use Rattle.shm_graph.specs.{Bounds.tear_steps, Events.Event}
 use Rattle.shm_plain.specs.{Calls.Did, Pools.{Pool, first_pool}}
 use Rattle.shm_tree.specs.{Costing.{line_steps, made_most, new_most}, CutShort.{IsCutShort, IsWordless}}
 use Rattle.shm_tree.specs.declared.{hints.Hints.TheVariants.Off, line.{TreeAnswer.TreeAnswer, TreeLine.TreeLine}, registers.Registers.Registers}
-use Rattle.shm_tree.specs.{Forests.{HasVersions, IsOwn, versions_by}, Keeping.{AreSameLives, HasMade}}
+use Rattle.shm_tree.specs.{Forests.{HasVersions, versions_by}, Keeping.{AreSameLives, HasMade}}
 use Rattle.shm_tree.specs.{Living.{AreFewNew, AreLivesTrees}, Scripts.TreeScripted, Trees.Tree}
+use Rattle.shm_tree.specs.declared.line.TreeAnswer.TheVariants as answers
 use Rattle.shm_versions.specs.{declared.treed.Treed.Treed, TreeRuns.{first_versions, life_of, versions_of}}
 
--- A line on these versions that was finished with this answer took the pool p to q, and left y of x word steps. It made so many blocks at most, of which at most so many are live that weren't, and took so many word steps at most, beside those for each block that was freed. At each live block stands a tree; and where the line was refused the same blocks are live
+-- A line on these versions that was finished with this answer took the pool p to q, and left y of x word steps. It made so many blocks at most, of which at most so many are live that weren't, and took so many word steps at most, beside those for each block that was freed. At each live block stands a tree; and where it wasn't answered by Ok the same blocks are live
 pub record LineCosts (l : TreeLine) (a : TreeAnswer) (ts : List Tree) (p q : Pool) (x y : ℕ) : Type 0 where
   pub made : HasMade (made_most l ts) p q
   pub told : List Event
@@ -17,7 +18,7 @@ pub record LineCosts (l : TreeLine) (a : TreeAnswer) (ts : List Tree) (p q : Poo
   pub steps : x ≤ y + line_steps l ts p.start.geometry + tear_steps p.start.geometry.wide (frees told)
   pub few : AreFewNew (new_most l ts) p q
   pub trees : AreLivesTrees q
-  pub same : (IsOwn a → ⊥) → AreSameLives p q
+  pub same : a ≢ answers.Ok → AreSameLives p q
 
 -- and so of lines one after the other
 abbrev pub LinesCost : List TreeLine → List TreeAnswer → List Tree → Pool → Pool → ℕ → ℕ → Type 0

@@ -16,8 +16,8 @@ pub fn scripts_are_maps()
 }
 
 /// What a run of a script cost. Each line that was finished made few blocks, by the height of the version that it began with, of which few are live
-/// that weren't, and took few word steps; at each live block stands a tree, and where a line was refused the same blocks are live. A line that was cut
-/// off takes a word step, and where one was left for it, it isn't done.
+/// that weren't, and took few word steps; at each live block stands a tree, and where a line wasn't answered by `Ok` the same blocks are live. A line
+/// that was cut off takes a word step, and where one was left for it, it isn't done.
 pub fn scripts_are_frugal()
     ensures { (s : AScript) (r : ATreed) → IsScript s → IsTreeRun s r → ScriptCosts s r }
 {}

@@ -1,14 +1,15 @@
 //! What a run of a trace by clients tells, on threads, polled or with medics.
 
-ghost use Rattle.std.specs.{Prelude.{◌≡◌, ◌<◌, ℕ, List, None, Some, slice_index}, List.AllByRecursion};
-ghost use Rattle.shm_graph.specs.Runs.{account_at};
+ghost use Rattle.std.specs.Prelude.{◌≡◌, ℕ, ◌+◌, ◌<◌, List, ◌∷◌, ◌++◌, length, None, Some, slice_index};
+ghost use Rattle.std.specs.List.{AllByRecursion};
+ghost use Rattle.shm_graph.specs.{declared.memo.Agent.Agent as AnAgent, Agents.steps_of, Runs.account_at};
 ghost use Rattle.shm_graph.specs.declared.memo.Fate.TheVariants as fate;
 ghost use Rattle.shm_agents.specs.{Logs.BeganWith, Turns.{lives_of, script_in}};
 ghost use Rattle.shm_async.specs.Limited.{IsLimitedRun};
 ghost use Rattle.shm_count.specs.Roots.{member};
 ghost use Rattle.shm_plain.specs.Pools.{Pool};
 ghost use Rattle.shm_replay.specs.Replays.{IsReplay};
-ghost use Rattle.shm_script.specs.{Logged.Logged, Values.{Scripted, Traced}};
+ghost use Rattle.shm_script.specs.{Logged.Logged, Ranges.IsTrace, Values.{Scripted, Traced}};
 ghost use Rattle.shm_team.specs.Rans.{IsTeamRun, entries_in};
 ghost use Rattle.shm_outcomes.specs.{Crews.{HasCrew, IsCloserAlone}, Histories.{AreLogged, IsLogOfScript}};
 
@@ -33,7 +34,9 @@ pub fn agents_are_of_lines()
     ensures others { (t : Traced) (p : Pool) (ls : List Logged) → IsTeamRun t p ls → (c : ℕ) → c < t.clients → script_in t.scripts c ≡ None → IsCloserAlone (account_at p.accounts c) }
 {}
 
-/// Where identities are given up after so many turns, a client that died before the word steps of its life were made had made exactly so many.
+/// Where identities are given up after so many turns, a client that died before the word steps of its life were made had made exactly so many. And an
+/// agent of any kind that died so was given its last turn with them: its word steps, those of the agents before it, and their deaths are so many.
 pub fn cuts_are_told()
-    ensures { (t : Traced) (turns : ℕ) (p : Pool) (ls : List Logged) → IsLimitedRun t turns p ls → (c : ℕ) (s : Scripted) (steps : ℕ) → c < t.clients → script_in t.scripts c ≡ Some s → BeganWith (account_at p.accounts c).memo.agents steps fate.Died → steps < slice_index (lives_of s.life) 0 → steps ≡ turns }
+    ensures clients { (t : Traced) (turns : ℕ) (p : Pool) (ls : List Logged) → IsLimitedRun t turns p ls → (c : ℕ) (s : Scripted) (steps : ℕ) → c < t.clients → script_in t.scripts c ≡ Some s → BeganWith (account_at p.accounts c).memo.agents steps fate.Died → steps < slice_index (lives_of s.life) 0 → steps ≡ turns }
+    ensures agents { (t : Traced) (turns : ℕ) (p : Pool) (ls : List Logged) → IsTrace t → IsLimitedRun t turns p ls → (c : ℕ) (s : Scripted) (before behind : List AnAgent) (a : AnAgent) → c < t.clients → script_in t.scripts c ≡ Some s → (account_at p.accounts c).memo.agents ≡ before ++ a ∷ behind → a.fate ≡ fate.Died → a.steps < slice_index (lives_of s.life) (length before) → steps_of before + length before + a.steps ≡ turns }
 {}

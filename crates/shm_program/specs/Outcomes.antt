@@ -9,8 +9,8 @@ use Rattle.shm_script.specs.{declared.fault.TraceFault.TraceFault, Drawing.drawn
 use Rattle.shm_script.specs.{Ranges.{IsTrace, IsTraceText}, Text.text_of, Values.Traced}
 use Rattle.shm_tree.specs.{Scripts.{TreeScripted, script_of}, ScriptTexts.SpellsScript}
 use Rattle.shm_program.specs.{Reads.{Reads, ReadsLimit, input_of, limit_of, most_of}, Refusals.fault_line}
-use Rattle.shm_program.specs.{Replays.{IsPollTold, IsRescueTold, IsTeamTold, IsTold}, Trees.IsTreeTold}
-use Rattle.shm_program.specs.{Words.{NamesCommand, job_of}, declared.outcome.Finished.{Finished, TheVariants.Neither}}
+use Rattle.shm_program.specs.{Replays.{IsPollTold, IsTeamTold, IsTold}, Trees.IsTreeTold, Words.{NamesCommand, job_of}}
+use Rattle.shm_program.specs.declared.outcome.Finished.{Finished, TheVariants.{Neither, Ran, Rescued}}
 use Rattle.shm_program.specs.declared.words.{Form.TheVariants.Summary, Job.Job}
 use Rattle.shm_program.specs.declared.words.Job.TheVariants.{Replay, Print, Run, Rescue, Audit, Migrate, Make, Draw, Poll, Tree}
 
@@ -57,12 +57,12 @@ pub record IsMigrated (bytes : List ℕ) (finished : Finished) (text : List ℕ)
 abbrev pub IsDone : Job → List ℕ → Finished → List ℕ → Type 0
 IsDone (Replay form) bytes finished text = (t : Traced) × Spells bytes t × IsTold form t finished text
 IsDone Print bytes finished text = (t : Traced) × Spells bytes t × IsPrinted t finished text
-IsDone (Run form) bytes finished text = (t : Traced) × Spells bytes t × IsTeamTold form t finished text
+IsDone (Run form) bytes finished text = (t : Traced) × Spells bytes t × IsTeamTold Ran form t finished text
 IsDone Audit bytes finished text = IsAudited bytes finished text
 IsDone Migrate bytes finished text = IsMigrated bytes finished text
 IsDone (Make start size) bytes finished text = IsTold Summary (drawn_trace start size) finished text
 IsDone (Draw start size) bytes finished text = IsPrinted (drawn_trace start size) finished text
-IsDone (Rescue form medics) bytes finished text = (t : Traced) × Spells bytes t × IsRescueTold form t finished text
+IsDone (Rescue form medics) bytes finished text = (t : Traced) × Spells bytes t × IsTeamTold Rescued form t finished text
 IsDone (Poll q limit) bytes finished text = (t : Traced) × Spells bytes t × IsPollTold q limit t finished text
 IsDone Tree bytes finished text = (s : TreeScripted) × SpellsScript bytes s × IsTreeTold s finished text
 

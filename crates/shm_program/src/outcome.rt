@@ -1,7 +1,5 @@
 //! What a call of the program comes to.
 
-use shm_async::Polled;
-use shm_morgue::Rescued;
 use shm_plain::PlainClosed;
 use shm_replay::Replayed;
 use shm_team::Ran;
@@ -24,9 +22,9 @@ pub enum Finished {
     /// The run of a trace by clients on threads.
     Ran(Ran),
     /// The run of a trace by clients on threads, of which those that died were recovered by other threads.
-    Rescued(Rescued),
+    Rescued(Ran),
     /// The run of a trace by clients that were polled.
-    Polled(Polled),
+    Polled(Ran),
     /// The closed pool of a script for versions of a map.
     Treed(PlainClosed),
 }

@@ -7,7 +7,7 @@ ghost use Rattle.shm_graph.specs.Tables.{IsTable};
 ghost use Rattle.shm_plain.specs.Closings.{IsClosedRun};
 ghost use Rattle.shm_report.specs.PoolWords.{IsCleanPool};
 ghost use Rattle.shm_tree.specs.ScriptTexts.{IsScript};
-ghost use Rattle.shm_program.specs.Replays.{IsPollTold, IsRescueTold, IsTeamTold, IsTold, polled_pool, written};
+ghost use Rattle.shm_program.specs.Replays.{IsPollTold, IsTeamTold, IsTold, team_pool, written};
 ghost use Rattle.shm_program.specs.{declared.words.Form.TheVariants.Report, Trees.IsTreeTold};
 ghost use Rattle.shm_program.specs.Words.{AreMedics, IsCount};
 ghost use Rattle.shm_program.specs.declared.outcome.Finished.TheVariants as finished;
@@ -16,13 +16,13 @@ use crate::answer::Reply;
 use crate::gate::ByGate;
 use crate::outcome::Finished;
 use crate::words::Form;
-use shm_async::{Polled, run_async, run_limited};
+use shm_async::{run_async, run_limited};
 use shm_audit::write_image;
 use shm_morgue::run_morgue;
 use shm_replay::replay;
 use shm_report::{report, summary};
 use shm_script::{Log, Trace};
-use shm_team::{Gate, run_team};
+use shm_team::{Gate, Ran, run_team};
 use shm_tree::TreeScript;
 use shm_versions::{Treed, run_script, run_text};
 use shm_words::Geometry;
@@ -53,7 +53,7 @@ pub fn tell_team<R: Threads + Wait + Sync, G: Gate>(
     form: Form,
     gate: &G,
 ) -> Result<Reply, AllocError>
-    ensures { IfOk result (λ r. (r.status ≡ 0) × IsTeamTold form trace.now r.finished r.text.items) }
+    ensures { IfOk result (λ r. (r.status ≡ 0) × IsTeamTold finished.Ran form trace.now r.finished r.text.items) }
 {
     let run = run_team(rt, alloc, trace, gate)?;
     let closed = &run.closed;
@@ -75,7 +75,7 @@ pub fn tell_rescue<R: Threads + Wait + Sync, G: Gate>(
     gate: &G,
 ) -> Result<Reply, AllocError>
     requires { AreMedics medics }
-    ensures { IfOk result (λ r. (r.status ≡ 0) × IsRescueTold form trace.now r.finished r.text.items) }
+    ensures { IfOk result (λ r. (r.status ≡ 0) × IsTeamTold finished.Rescued form trace.now r.finished r.text.items) }
 {
     let run = run_morgue(rt, alloc, trace, medics, &ByGate { gate })?;
     let closed = &run.closed;
@@ -88,8 +88,8 @@ pub fn tell_rescue<R: Threads + Wait + Sync, G: Gate>(
 }
 
 /// The answer to a run by clients that were polled: its report.
-fn polled(alloc: Global, run: Polled) -> Result<Reply, AllocError>
-    ensures { IfOk result (λ r. (r.status ≡ 0) × (r.finished ≡ finished.Polled run) × ((turns : List AMove) → IsClosedRun (polled_pool run turns) → (table : ℕ → ℕ → List AnEntry) → IsTable run.closed.start.geometry (see run.closed.start.geometry run.closed.words) table → r.text.items ≡ written Report run.closed.start.geometry run.closed.words table run.logs.items)) }
+fn polled(alloc: Global, run: Ran) -> Result<Reply, AllocError>
+    ensures { IfOk result (λ r. (r.status ≡ 0) × (r.finished ≡ finished.Polled run) × ((turns : List AMove) → IsClosedRun (team_pool run turns) → (table : ℕ → ℕ → List AnEntry) → IsTable run.closed.start.geometry (see run.closed.start.geometry run.closed.words) table → r.text.items ≡ written Report run.closed.start.geometry run.closed.words table run.logs.items)) }
 {
     let closed = &run.closed;
     let text = written(

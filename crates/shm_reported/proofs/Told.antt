@@ -4,11 +4,12 @@ use Rattle.std.specs.Prelude.{Option, Some, None, MatchOption}
 use Rattle.shm_headline.specs.Headline.{Reported, ReportedCut}
 use Rattle.shm_io.specs.Writing.{Appends}
 use Rattle.shm_script.specs.Values.{Traced}
-use Rattle.shm_program.specs.declared.{outcome.Finished.Finished, words.{Form.TheVariants.Report, Job.Job}}
+use Rattle.shm_team.specs.declared.team.Ran.{Ran as Team}
+use Rattle.shm_program.specs.declared.outcome.Finished.{Finished, TheVariants.{Polled, Ran, Rescued}}
+use Rattle.shm_program.specs.declared.words.{Form.TheVariants.Report, Job.Job}
 use Rattle.shm_program.specs.declared.words.Job.TheVariants.{Poll, Replay, Rescue, Run}
 use Rattle.shm_program.specs.{Outcomes.{Asks, Done, IsCall, Sides, Spells, Writes}, Reads.ReadsAll}
-use Rattle.shm_program.specs.Replays.{IsPollTold, IsRescueTold, IsTeamTold, IsTold, polled_pool, rescued_pool, team_pool}
-use Rattle.shm_program.specs.Words.{job_of}
+use Rattle.shm_program.specs.{Replays.{IsLimitedTold, IsTeamTold, IsTold, team_pool}, Words.job_of}
 use Rattle.shm_reported.specs.Jobs.{HasWritten, WritesReport}
 use Rattle.shm_reported.proofs.Headed.{limited_reported, replay_reported, team_reported}
 
@@ -17,17 +18,13 @@ use Rattle.shm_reported.proofs.Headed.{limited_reported, replay_reported, team_r
 pub replay_told : (bytes : List ℕ) (t : Traced) (finished : Finished) (text : List ℕ) → Spells bytes t → IsTold Report t finished text → Reported bytes text
 replay_told bytes t finished text s x = subst (λ (y : List ℕ). Reported bytes y) (sym x.1) (replay_reported t x.0.run.closed x.0.run.logs.items bytes s.trace s.short s.text x.0.replay)
 
-pub run_told : (bytes : List ℕ) (t : Traced) (finished : Finished) (text : List ℕ) → Spells bytes t → IsTeamTold Report t finished text → Reported bytes text
-run_told bytes t finished text s x = subst (λ (y : List ℕ). Reported bytes y) (sym x.1) (team_reported t (team_pool x.0.run x.0.turns) x.0.run.logs.items bytes s.trace s.short s.text x.0.team)
+pub run_told : (how : Team → Finished) (bytes : List ℕ) (t : Traced) (finished : Finished) (text : List ℕ) → Spells bytes t → IsTeamTold how Report t finished text → Reported bytes text
+run_told how bytes t finished text s x = subst (λ (y : List ℕ). Reported bytes y) (sym x.1) (team_reported t (team_pool x.0.run x.0.turns) x.0.run.logs.items bytes s.trace s.short s.text x.0.team)
 
-pub rescue_told : (bytes : List ℕ) (t : Traced) (finished : Finished) (text : List ℕ) → Spells bytes t → IsRescueTold Report t finished text → Reported bytes text
-rescue_told bytes t finished text s x = subst (λ (y : List ℕ). Reported bytes y) (sym x.1) (team_reported t (rescued_pool x.0.run x.0.turns) x.0.run.logs.items bytes s.trace s.short s.text x.0.team)
-
-pub poll_told : (q : ℕ) (bytes : List ℕ) (t : Traced) (finished : Finished) (text : List ℕ) → Spells bytes t → IsPollTold q None t finished text → Reported bytes text
-poll_told q bytes t finished text s x = subst (λ (y : List ℕ). Reported bytes y) (sym x.1) (team_reported t (polled_pool x.0.run x.0.turns) x.0.run.logs.items bytes s.trace s.short s.text x.0.team)
-
-pub limited_told : (q most : ℕ) (bytes : List ℕ) (t : Traced) (finished : Finished) (text : List ℕ) → Spells bytes t → IsPollTold q (Some most) t finished text → ReportedCut bytes text
-limited_told q most bytes t finished text s x = subst (λ (y : List ℕ). ReportedCut bytes y) (sym x.1) (limited_reported t (q * most) (polled_pool x.0.run x.0.turns) x.0.run.logs.items bytes s.trace s.short s.text x.0.limited)
+pub limited_told : (turns : ℕ) (bytes : List ℕ) (t : Traced) (finished : Finished) (text : List ℕ) → Spells bytes t → IsLimitedTold turns t finished text → ReportedCut bytes text
+limited_told turns bytes t finished text s x =
+    let r = x.told.0 in
+    subst (λ (y : List ℕ). ReportedCut bytes y) (sym x.told.1) (limited_reported t turns (team_pool r.run r.turns) r.run.logs.items bytes s.trace s.short s.text (record { scripts = x.scripts; limited = x.limited; run = r.team }))
 
 -- ---- what a call read and wrote
 
@@ -46,9 +43,9 @@ ends Is before after bytes got text e r x = let q = all_read before after bytes 
 
 reported : (job : Job) → WritesReport job → (before after : Option (List ℕ)) (bytes : List ℕ) → before ≡ Some bytes → (made : Finished) (text : List ℕ) → Done job before after made text → Ends Reported bytes after text
 reported (Replay Report) w before after bytes e made text d = ends Reported before after bytes d.bytes text e d.read (replay_told d.bytes d.is.0 made text d.is.1 d.is.2)
-reported (Run Report) w before after bytes e made text d = ends Reported before after bytes d.bytes text e d.read (run_told d.bytes d.is.0 made text d.is.1 d.is.2)
-reported (Rescue Report medics) w before after bytes e made text d = ends Reported before after bytes d.bytes text e d.read (rescue_told d.bytes d.is.0 made text d.is.1 d.is.2)
-reported (Poll q None) w before after bytes e made text d = ends Reported before after bytes d.bytes text e d.read (poll_told q d.bytes d.is.0 made text d.is.1 d.is.2)
+reported (Run Report) w before after bytes e made text d = ends Reported before after bytes d.bytes text e d.read (run_told Ran d.bytes d.is.0 made text d.is.1 d.is.2)
+reported (Rescue Report medics) w before after bytes e made text d = ends Reported before after bytes d.bytes text e d.read (run_told Rescued d.bytes d.is.0 made text d.is.1 d.is.2)
+reported (Poll q None) w before after bytes e made text d = ends Reported before after bytes d.bytes text e d.read (run_told Polled d.bytes d.is.0 made text d.is.1 d.is.2)
 reported _ w before after bytes e made text d = absurd w
 
 same_job : (x : Option Job) (a b : Job) → x ≡ Some a → x ≡ Some b → a ≡ b
@@ -69,5 +66,5 @@ headed words job old new made bytes held asks w call left shown = written Report
 pub headed_cut : (words : List (List ℕ)) (q most : ℕ) (old new : Sides) (made : Finished) (bytes held : List ℕ) → job_of words ≡ Some (Poll q (Some most)) → IsCall words old new 0 made → old.left ≡ Some bytes → old.held ≡ Some held → HasWritten ReportedCut bytes held new
 headed_cut words q most old new made bytes held asks call left shown =
     written ReportedCut words (Poll q (Some most)) old new made bytes held
-    (λ text d. ends ReportedCut old.left new.left bytes d.bytes text left d.read (limited_told q most d.bytes d.is.0 made text d.is.1 d.is.2))
+    (λ text d. ends ReportedCut old.left new.left bytes d.bytes text left d.read (limited_told (q * most) d.bytes d.is.0 made text d.is.1 d.is.2))
     asks call shown

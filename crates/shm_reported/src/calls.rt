@@ -4,19 +4,18 @@ ghost use Rattle.std.specs.Prelude.{◌≡◌, ℕ, List, [], ◌∷◌, None, S
 ghost use Rattle.shm_headline.specs.Headline.{Reported, ReportedCut};
 ghost use Rattle.shm_reported.specs.Jobs.{HasWritten, WritesReport};
 ghost use Rattle.shm_script.specs.Values.{Traced};
+ghost use Rattle.shm_team.specs.declared.team.Ran.{Ran as ATeam};
 ghost use Rattle.shm_program.specs.declared.{outcome.Finished.Finished as AFinished, words.Form.TheVariants.Report};
 ghost use Rattle.shm_program.specs.declared.words.Job.{Job as AJob, TheVariants.{Poll, Replay, Rescue, Run}};
-ghost use Rattle.shm_program.specs.Outcomes.{IsCall, Sides, Spells};
-ghost use Rattle.shm_program.specs.{Replays.{IsPollTold, IsRescueTold, IsTeamTold, IsTold}, Words.job_of};
+ghost use Rattle.shm_program.specs.{Outcomes.{IsCall, Sides, Spells}, Replays.{IsLimitedTold, IsTeamTold, IsTold}};
+ghost use Rattle.shm_program.specs.Words.{job_of};
 
-/// What is written of a trace that was replayed, or run by threads or by polls, is the report of a run as the headline says; with a limit of
-/// polls, of a run of the trace with the lives cut.
+/// What is written of a trace that was replayed, or run by clients, is the report of a run as the headline says; with a limit of polls, of a run of
+/// the trace with the lives cut.
 pub fn reports_are_of_runs()
     ensures replay { (bytes : List ℕ) (t : Traced) (finished : AFinished) (text : List ℕ) → Spells bytes t → IsTold Report t finished text → Reported bytes text }
-    ensures run { (bytes : List ℕ) (t : Traced) (finished : AFinished) (text : List ℕ) → Spells bytes t → IsTeamTold Report t finished text → Reported bytes text }
-    ensures rescue { (bytes : List ℕ) (t : Traced) (finished : AFinished) (text : List ℕ) → Spells bytes t → IsRescueTold Report t finished text → Reported bytes text }
-    ensures poll { (q : ℕ) (bytes : List ℕ) (t : Traced) (finished : AFinished) (text : List ℕ) → Spells bytes t → IsPollTold q None t finished text → Reported bytes text }
-    ensures limited { (q most : ℕ) (bytes : List ℕ) (t : Traced) (finished : AFinished) (text : List ℕ) → Spells bytes t → IsPollTold q (Some most) t finished text → ReportedCut bytes text }
+    ensures run { (how : ATeam → AFinished) (bytes : List ℕ) (t : Traced) (finished : AFinished) (text : List ℕ) → Spells bytes t → IsTeamTold how Report t finished text → Reported bytes text }
+    ensures limited { (turns : ℕ) (bytes : List ℕ) (t : Traced) (finished : AFinished) (text : List ℕ) → Spells bytes t → IsLimitedTold turns t finished text → ReportedCut bytes text }
 {}
 
 /// A call of the program that ends with the status 0, over a source and a sink that show their bytes, where its words ask for a report: all

@@ -1,6 +1,7 @@
 -- a pool that is settled where all is done of its identities is a run of the trace
 use Rattle.std.proofs.Common.{◌≡◌, ℕ, ◌+◌, ◌<◌, List, [], ◌∷◌, length, refl, sym, ◌∙◌, subst, arith}
-use Rattle.std.specs.Prelude.{IfOk, Result, Ok, Err, Option, Some, None, slice_get, slice_index_or}
+use Rattle.std.proofs.lemmas.Result.{IfOk-weaker}
+use Rattle.std.specs.Prelude.{IfOk, Result, Option, Some, None, slice_get, slice_index_or}
 use Rattle.shm_graph.specs.{declared.run.Move.Move, Runs.account_at}
 use Rattle.shm_plain.specs.Pools.{Pool, pool}
 use Rattle.shm_agents.specs.Turns.{script_in}
@@ -8,7 +9,7 @@ use Rattle.shm_pool.specs.Tokens.{End, Its}
 use Rattle.shm_replay.specs.Replays.{start_of}
 use Rattle.shm_replay.proofs.WholeRun.{all_at}
 use Rattle.shm_script.specs.{Logged.Logged, Ranges.{AreApart, IsTrace, ScriptFits}, Values.{Scripted, Traced}}
-use Rattle.shm_team.specs.{declared.done.Done.Done, Dones.{AreDones, IsDoneBy, logs_done, logs_in}}
+use Rattle.shm_team.specs.{declared.{done.Done.Done, team.Ran.Ran}, Dones.{AreDones, IsDoneBy, logs_done, logs_in}}
 use Rattle.shm_team.specs.Rans.{HasSettled, IsTeamRun}
 use Rattle.shm_team.proofs.{Gathering.{done_at, log_done}, Whole.{WasClosed, closed_pool, is_team_run}}
 
@@ -49,7 +50,7 @@ pub team_run : (t : Traced) → IsTrace t → (p : Its) → p.start ≡ start_of
 team_run t trace p start ds many dones end ls settled =
     team_run_of t t (λ k s e. (all_at (ScriptFits t.clients) t.scripts k s trace.scripts e).client) trace.apart p start ds many dones end ls settled refl
 
--- what follows of what is answered
-pub ok_then : {A E : Type 0} (P Q : A → Type 0) (r : Result A E) → ((x : A) → P x → Q x) → IfOk r P → IfOk r Q
-ok_then P Q (Ok x) f h = f x h
-ok_then P Q (Err e) f h = h
+-- and so is what is handed out of it, if it could be settled
+pub settled_run : {E : Type 0} (t : Traced) → IsTrace t → (p : Its) → p.start ≡ start_of t → (ds : List Done) → length ds ≡ t.clients → AreDones t p 0 ds → (r : Result Ran E)
+    → IfOk r (λ (x : Ran). HasSettled t p ds x.closed x.logs.items) → IfOk r (λ (x : Ran). (turns : List Move) × IsTeamRun t (pool x.closed.start x.closed.words x.closed.accounts turns) x.logs.items)
+settled_run t trace p start ds many dones r = IfOk-weaker r _ _ (λ x. team_run t trace p start ds many dones x.closed x.logs.items)

@@ -1,4 +1,4 @@
--- what clients on threads leave of a trace
+-- what clients leave of a trace, whether threads ran them, others recovered the dead, or they were polled
 use Rattle.std.specs.Prelude.{◌≡◌, ℕ, ◌==◌, ◌<◌, Bool, false, if◌then◌else◌, Option, Some, None, List, [], ◌∷◌, ◌++◌, length, slice_index_or}
 use Rattle.std.specs.List.{AllByRecursion}
 use Rattle.std.specs.FinMap as finmap
@@ -36,16 +36,24 @@ abbrev pub entries_in : List Logged → ℕ → List LogEntry
 entries_in [] c = []
 entries_in (l ∷ ls) c = if l.client == c then l.entries else entries_in ls c
 
--- The closed pool p is what clients on threads leave of the trace, and these are its logs: the turns of p, in whatever lawful order they came, lead from the first state to its words and accounts; each log is that of its client; no command was refused for a spent era; the agents of each identity are those of its script, and then those of a visit; what was told of its commands is the entries of its log, and besides no command but one that was cut without effect; and each map of the table that the words hold is the fold of the identity's log
+-- the closed pool p is what clients leave of the trace, and these are its logs
 pub record IsTeamRun (t : Traced) (p : Pool) (ls : List Logged) : Type 0 where
+  -- it was made of the sizes and the format of the trace
   pub start : p.start ≡ start_of t
+  -- its turns, in whatever lawful order they came, lead from the first state to its words and accounts, and it is closed
   pub closed : IsClosedRun p
+  -- each log is that of its client
   pub logs : AreLogs p t.scripts ls
+  -- no command was refused for a spent era
   pub unspent : AllByRecursion (λ (l : Logged). AreUnspent l.entries) ls
+  -- the agents of each identity are those of its script, and then those of a visit
   pub agents : (c : ℕ) → c < t.clients → HasAgents (script_in t.scripts c) (account_at p.accounts c)
+  -- what was told of its commands is the entries of its log, and besides no command but one that was cut without effect
   pub told : (c : ℕ) → c < t.clients → AreCommandsTold (member p.start.geometry c) (account_at p.accounts c).told (entries_in ls c)
+  -- the words hold this table
   pub table : ℕ → ℕ → List Entry
   pub is : IsTable p.start.geometry (see p.start.geometry p.words) table
+  -- and each map of it is the fold of the log of its identity
   pub fold : (c key : ℕ) → c < t.clients → map_of (table c) key ≡ finmap.get (fold_in ls c) key
 
 -- the pool was closed with these tokens, one for each identity: what is accounted for of each is what its token had

@@ -261,6 +261,10 @@ pub put_done : {T : Type 0} (r k : ℕ) (f g h : Registers) (F : List Tree → T
 put_done r k f g h F (Ok u) on put = λ ts v. (let w = on ts v in put ts (F ts) w.0 w.1)
 put_done r k f g h F (Err e) on put = tt
 
+pub got_same : {T : Type 0} (f : Registers) (q : Pool) (b : Bool) (o : Result T Stop) → IfOk o (λ v. IsStill f.pool q) → IfOk o (λ v. KeepsRegisters f (record { pool = q; roots = f.roots; tidy = b }))
+got_same f q b (Ok v) s = registers_over f q b (λ r low. root_still (root_at f r) s)
+got_same f q b (Err e) s = tt
+
 pub got_versions : (f : Registers) (q : Pool) (b : Bool) (at key : ℕ) (o : Result (Option ℕ) Stop) → at < 12 → IfOk o (λ v. (t : Tree) → TreeStands f.pool (block_in f.pool (root_at f at)) t → v ≡ found key t) → IfOk o (λ v. IsStill f.pool q) → IfOk o (λ v. (ts : List Tree) → HasVersions f ts → (v ≡ found key (version ts at)) × HasVersions (record { pool = q; roots = f.roots; tidy = b }) ts)
 got_versions f q b at key (Ok v) lt is s = λ ts w. (is (version ts at) (w.each at lt).stands, versions_over f q b (λ r l. root_still (root_at f r) s) ts w)
 got_versions f q b at key (Err e) lt is s = tt

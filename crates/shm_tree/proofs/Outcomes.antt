@@ -4,7 +4,7 @@ use Rattle.shm_tree.specs.declared.{line.TreeTurn.TreeTurn, registers.Registers.
 use Rattle.shm_tree.specs.{CutShort.{IsCutShort, IsWordless}, Falling.AreFalling, ForestCalls.RanLine}
 use Rattle.shm_tree.specs.Forests.{DoesLine, DoesTurn, HasVersions, IsCaused, IsForest, IsInRange, IsLost, IsOwn, IsReading, IsSwept, IsUnspent, KeepsRegisters, Moves, CallStopped, is_died, turn_by, turn_of}
 use Rattle.shm_tree.specs.{Keeping.AreSameLives, Living.{AreFewNew, AreLivesTrees}, Trees.Tree}
-use Rattle.shm_tree.specs.Costing.{Costs, CostsLine, EndsLine, FewLine, FewSet, IfEnded, IfStopped, SpendsLine, call_steps, line_steps, made_most, new_most, sweep_steps}
+use Rattle.shm_tree.specs.Costing.{Costs, CostsLine, EndsLine, FewLine, FewSet, IfEnded, SpendsLine, UnlessOk, call_steps, line_steps, made_most, new_most, sweep_steps}
 use Rattle.shm_tree.specs.Working.{IfAlive, IfRefused, Went}
 use Rattle.shm_tree.specs.declared.line.TreeAnswer.TheVariants as answers
 use Rattle.shm_tree.specs.declared.line.TreeTurn.TheVariants as turns
@@ -95,12 +95,12 @@ outcome_ended P (Err (stop.Full s b)) h = h
 outcome_ended P (Err (stop.CountFull b c)) h = h
 outcome_ended P (Err (stop.EraSpent e)) h = h
 
-pub outcome_stopped : (P : Type 0) (o : Result TreeAnswer Stop) → IfOk o IsOwn → IfRefused o P → IfStopped (turn_by o) P
-outcome_stopped P (Ok a) own h = λ other. absurd (other own)
-outcome_stopped P (Err stop.Died) own h = tt
-outcome_stopped P (Err (stop.Full s b)) own h = λ other. h
-outcome_stopped P (Err (stop.CountFull b c)) own h = λ other. h
-outcome_stopped P (Err (stop.EraSpent e)) own h = λ other. h
+pub outcome_other : (P : Type 0) (o : Result TreeAnswer Stop) → IfOk o (λ a. a ≢ answers.Ok → P) → IfRefused o P → UnlessOk (turn_by o) P
+outcome_other P (Ok a) same h = same
+outcome_other P (Err stop.Died) same h = tt
+outcome_other P (Err (stop.Full s b)) same h = λ other. h
+outcome_other P (Err (stop.CountFull b c)) same h = λ other. h
+outcome_other P (Err (stop.EraSpent e)) same h = λ other. h
 
 few_made : {n c x y : ℕ} (f g : Registers) → IsForest f → Went f.pool g.pool x y → Costs n c f.pool g.pool x y → AreFewNew n f.pool g.pool
 few_made {n = n} f g xf w h = made_few n f.pool g.pool xf.working.run w.run w.start h.made
@@ -136,8 +136,15 @@ module _ {hints : Hints} {x y : ℕ} (line : TreeLine) (f g : Registers) (o : Re
   stays : IfRefused o (IsUnspent g → AreSameLives f.pool g.pool)
   stays = refused_three o (λ xg s kept. same_after xg (s sf) kept) m.forest swept m.kept
 
-  pub outcome_same : IfOk o IsOwn → IfStopped (turn_by o) (IsUnspent g → AreSameLives f.pool g.pool)
-  outcome_same own = outcome_stopped (IsUnspent g → AreSameLives f.pool g.pool) o own stays
+  looked : IfOk o (λ a. a ≢ answers.Ok → KeepsRegisters f g) → IfOk o (λ a. a ≢ answers.Ok → IsUnspent g → AreSameLives f.pool g.pool)
+  looked = by o m.forest swept
+    where
+      by : (r : Result TreeAnswer Stop) → IfAlive r (IsForest g) → IfAlive r (IsSwept f → IsSwept g) → IfOk r (λ a. a ≢ answers.Ok → KeepsRegisters f g) → IfOk r (λ a. a ≢ answers.Ok → IsUnspent g → AreSameLives f.pool g.pool)
+      by (Ok a) xg s k = λ other. same_after xg (s sf) (k other)
+      by (Err e) xg s k = tt
+
+  pub outcome_same : IfOk o (λ a. a ≢ answers.Ok → KeepsRegisters f g) → UnlessOk (turn_by o) (IsUnspent g → AreSameLives f.pool g.pool)
+  outcome_same same = outcome_other (IsUnspent g → AreSameLives f.pool g.pool) o (looked same) stays
 
   pub outcome_few : IfOk o (λ a. CostsLine line f g x y) → IfOk o (λ a. FewSet line f g) → IfEnded (turn_by o) (IsUnspent g → FewLine line f g)
   outcome_few costs few = by o m.forest m.went stays costs few
@@ -150,16 +157,16 @@ module _ {hints : Hints} {x y : ℕ} (line : TreeLine) (f g : Registers) (o : Re
       by (Err (stop.EraSpent e)) xg w s c d = λ calm. few_same line f g (s calm)
 
 -- all of it, where the client lived
-pub outcome_ran : {hints : Hints} {x y : ℕ} (line : TreeLine) (f g : Registers) (a b : Bool) (o : Result TreeAnswer Stop) (t : TreeTurn) → IsForest f → IsSwept f → AreFalling f.pool → AreFalling g.pool → IsInRange line → t ≡ turn_by o → b ≡ is_died t → Moves hints o f g x y → IfAlive o (IsSwept f → IsSwept g) → IfOk o (λ a. DoesLine line f g a) → IfErr o (λ e. IsReading line → e ≡ stop.Died) → IfOk o (λ a. CostsLine line f g x y) → IfOk o (λ a. FewSet line f g) → IfRefused o (EndsLine line f g x y) → IfOk o IsOwn → IfErr o (λ e. e ≡ stop.Died → f.tidy ≡ true → 0 < x → IsUnspent g → IsCutShort hints line f g) → (f.tidy ≡ true → (ts : List Tree) → HasVersions f ts → IsWordless line ts → is_ok o ≡ true)
+pub outcome_ran : {hints : Hints} {x y : ℕ} (line : TreeLine) (f g : Registers) (a b : Bool) (o : Result TreeAnswer Stop) (t : TreeTurn) → IsForest f → IsSwept f → AreFalling f.pool → AreFalling g.pool → IsInRange line → t ≡ turn_by o → b ≡ is_died t → Moves hints o f g x y → IfAlive o (IsSwept f → IsSwept g) → IfOk o (λ a. DoesLine line f g a) → IfErr o (λ e. IsReading line → e ≡ stop.Died) → IfOk o (λ a. CostsLine line f g x y) → IfOk o (λ a. FewSet line f g) → IfRefused o (EndsLine line f g x y) → IfOk o IsOwn → IfOk o (λ a. a ≢ answers.Ok → KeepsRegisters f g) → IfErr o (λ e. e ≡ stop.Died → f.tidy ≡ true → 0 < x → IsUnspent g → IsCutShort hints line f g) → (f.tidy ≡ true → (ts : List Tree) → HasVersions f ts → IsWordless line ts → is_ok o ≡ true)
     → RanLine line (record { registers = f; hints = hints; died = a }) (record { registers = g; hints = hints; died = b }) x y t
-outcome_ran {hints = hints} {x = x} {y = y} line f g a b o t xf sf ff fg lt is died m swept does reading costs few ended own off idle =
+outcome_ran {hints = hints} {x = x} {y = y} line f g a b o t xf sf ff fg lt is died m swept does reading costs few ended own kept off idle =
     record {
       went = m.went;
       does = subst (DoesTurn line f g) (sym is) (outcome_does line f g o does reading m.kept);
       spends = subst (λ (u : TreeTurn). IfEnded u (SpendsLine line f g x y)) (sym is) (outcome_spends line f g x y o xf lt costs ended);
       lives = subst (λ (u : TreeTurn). IfEnded u (IsUnspent g → AreLivesTrees g.pool)) (sym is) (outcome_lives line f g o xf sf ff fg m swept);
       few = subst (λ (u : TreeTurn). IfEnded u (IsUnspent g → FewLine line f g)) (sym is) (outcome_few line f g o xf sf ff fg m swept costs few);
-      same = subst (λ (u : TreeTurn). IfStopped u (IsUnspent g → AreSameLives f.pool g.pool)) (sym is) (outcome_same line f g o xf sf ff fg m swept own);
+      same = subst (λ (u : TreeTurn). UnlessOk u (IsUnspent g → AreSameLives f.pool g.pool)) (sym is) (outcome_same line f g o xf sf ff fg m swept kept);
       cause = subst (IsCaused hints f.pool g.pool) (sym is) (outcome_caused hints f.pool g.pool o own m.cause);
       over = λ e. outcome_over (y ≡ 0) o m.died (sym is ∙ e);
       wordless = λ calm ts v none e. outcome_done o (idle (sf calm) ts v none) (sym is ∙ e);

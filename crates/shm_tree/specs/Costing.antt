@@ -1,12 +1,13 @@
 -- What the calls of a line make, how many word steps they take, and what they make live.
-use Rattle.std.specs.Prelude.{ℕ, ◌+◌, ◌*◌, List}
+use Rattle.std.specs.Prelude.{◌≢◌, ℕ, ◌+◌, ◌*◌, List}
 use Rattle.shm_words.specs.declared.geometry.Geometry.{Geometry}
 use Rattle.shm_plain.specs.Pools.{Pool, memo_of}
 use Rattle.shm_tree.specs.declared.{line.{TreeLine.TreeLine, TreeTurn.TreeTurn}, registers.Registers.Registers}
 use Rattle.shm_tree.specs.Bounds.{drop_steps, insert_steps, remove_steps, share_steps}
-use Rattle.shm_tree.specs.{Forests.{HasVersions, IsOwn, version}, Keeping.HasMade}
+use Rattle.shm_tree.specs.{Forests.{HasVersions, version}, Keeping.HasMade}
 use Rattle.shm_tree.specs.{Living.{AreFewNew, AreLivesTrees, KeepsLives}, Spending.HasSpent, Trees.{Tree, height}}
 use Rattle.shm_tree.specs.Working.{IsSpent}
+use Rattle.shm_tree.specs.declared.line.TreeAnswer.TheVariants as answers
 use Rattle.shm_tree.specs.declared.line.TreeLine.TheVariants as lines
 use Rattle.shm_tree.specs.declared.line.TreeTurn.TheVariants as turns
 
@@ -118,10 +119,10 @@ abbrev pub IfEnded : TreeTurn → Type 0 → Type 0
 IfEnded turns.Died P = Unit {0}
 IfEnded (turns.Done answer) P = P
 
--- where it was refused
-abbrev pub IfStopped : TreeTurn → Type 0 → Type 0
-IfStopped turns.Died P = Unit {0}
-IfStopped (turns.Done answer) P = (IsOwn answer → ⊥) → P
+-- where it was answered, but not by Ok
+abbrev pub UnlessOk : TreeTurn → Type 0 → Type 0
+UnlessOk turns.Died P = Unit {0}
+UnlessOk (turns.Done answer) P = answer ≢ answers.Ok → P
 
 -- how many blocks a line made at most, and how many word steps it took, refused or not
 abbrev pub SpendsLine : TreeLine → Registers → Registers → (x y : ℕ) → Type 0

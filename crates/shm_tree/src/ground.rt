@@ -1,14 +1,11 @@
 //! The pool that a forest stands on, and where its next node is likely to find room.
 
-ghost use Rattle.std.specs.Prelude.{◌≡◌, ◌≢◌, ℕ, ◌<◌, ◌↔◌, ◌⊎◌, true, false, length, is_err, IfErr, IfOk, IfSome};
+ghost use Rattle.std.specs.Prelude.{◌≡◌, ◌<◌, true, false, IfSome};
 ghost use Rattle.std.specs.Option.{is_some};
 ghost use Rattle.shm_words.specs.Layout.{GeometryFits};
 ghost use Rattle.shm_graph.specs.{Tells.happens_along, Whole.{fits_now, gives_now}};
 ghost use Rattle.shm_plain.specs.{Pools.{IsRun, memo_of, readied}, Calls.{Did, IsAtWork, Ran, TookSteps}};
-ghost use Rattle.shm_alloc.specs.{declared.point.AllocState.AllocState as AState, Alloc.Control.alloc_control};
-ghost use Rattle.shm_alloc.specs.Alloc.{Events.{alloc_event, own_events}, AllocGives};
-ghost use Rattle.shm_count.specs.Roots.{member, root_word};
-ghost use Rattle.shm_tree.specs.Asking.{BeginsBy, IsAskedBy};
+ghost use Rattle.shm_tree.specs.Asking.{Allocates, BeginsBy};
 
 use crate::hints::Hints;
 use plans::Begin;
@@ -120,15 +117,7 @@ fn allocate_by(
     life: &mut Life,
 ) -> Result<Option<Result<Made, AllocFault>>, TooLarge>
     requires at_work { IsAtWork 0 pool.old }
-    ensures refused { is_err result ≡ true ↔ ((16 < 2) ⊎ (8 < length plain.now)) }
-    ensures gives { IfOk result (λ o. IfSome o (λ a. (m : AState) × IsAskedBy hints pool.old.start.geometry plain.now m × AllocGives m (memo_of pool.old 0) (memo_of pool.new 0) (memo_of pool.new 0).call a)) }
-    ensures number { IfOk result (λ o. IfSome o (λ a. IfOk a (λ made. made.root < 16))) }
-    ensures root { IfOk result (λ o. IfSome o (λ a. IfOk a (λ made. root_word 0 (memo_of pool.new 0) made.root ≡ made.block))) }
-    ensures roots { IfOk result (λ o. IfSome o (λ a. IfOk a (λ made. (k : ℕ) → k ≢ made.root → root_word 0 (memo_of pool.new 0) k ≡ root_word 0 (memo_of pool.old 0) k))) }
-    ensures at_work { IfOk result (λ o. IfSome o (λ a. IsAtWork 0 pool.new)) }
-    ensures ran { IfOk result (λ o. Ran 0 true (is_some o) pool.old pool.new life.old.left life.new.left) }
-    ensures events { IfOk result (λ o. IfSome o (λ a. Did 0 pool.old pool.new (own_events (member pool.old.start.geometry 0) a))) }
-    ensures told { IfOk result (λ o. 0 < life.old.left → (m : AState) × IsAskedBy hints pool.old.start.geometry plain.now m × Did 0 pool.old pool.new (happens_along alloc_control alloc_event m (memo_of pool.new 0).call)) }
+    ensures { Allocates hints plain.now result pool.old pool.new life.old.left life.new.left }
 {
     let near = begins(hint, hints);
     let made = allocate_near(pool, 0, 2, plain, near, life)?;
@@ -148,15 +137,7 @@ pub fn allocate(
     life: &mut Life,
 ) -> Result<Option<Result<Made, AllocFault>>, TooLarge>
     requires at_work { IsAtWork 0 pool.old }
-    ensures refused { is_err result ≡ true ↔ ((16 < 2) ⊎ (8 < length plain.now)) }
-    ensures gives { IfOk result (λ o. IfSome o (λ a. (m : AState) × IsAskedBy hints pool.old.start.geometry plain.now m × AllocGives m (memo_of pool.old 0) (memo_of pool.new 0) (memo_of pool.new 0).call a)) }
-    ensures number { IfOk result (λ o. IfSome o (λ a. IfOk a (λ made. made.root < 16))) }
-    ensures root { IfOk result (λ o. IfSome o (λ a. IfOk a (λ made. root_word 0 (memo_of pool.new 0) made.root ≡ made.block))) }
-    ensures roots { IfOk result (λ o. IfSome o (λ a. IfOk a (λ made. (k : ℕ) → k ≢ made.root → root_word 0 (memo_of pool.new 0) k ≡ root_word 0 (memo_of pool.old 0) k))) }
-    ensures at_work { IfOk result (λ o. IfSome o (λ a. IsAtWork 0 pool.new)) }
-    ensures ran { IfOk result (λ o. Ran 0 true (is_some o) pool.old pool.new life.old.left life.new.left) }
-    ensures events { IfOk result (λ o. IfSome o (λ a. Did 0 pool.old pool.new (own_events (member pool.old.start.geometry 0) a))) }
-    ensures told { IfOk result (λ o. 0 < life.old.left → (m : AState) × IsAskedBy hints pool.old.start.geometry plain.now m × Did 0 pool.old pool.new (happens_along alloc_control alloc_event m (memo_of pool.new 0).call)) }
+    ensures { Allocates hints plain.now result pool.old pool.new life.old.left life.new.left }
 {
     allocate_by(&mut pool.pool, &mut pool.hint, hints, plain, life)
 }

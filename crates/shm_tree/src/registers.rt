@@ -11,6 +11,7 @@ ghost use Rattle.shm_tree.specs.{Keeping.IsStill, Looking.Looks, Releasing.Relea
 ghost use Rattle.shm_tree.specs.Trees.{Empty, Tree as ATree, found, height, inserted, removed};
 ghost use Rattle.shm_tree.specs.Working.{AreSameRoots, DiedBegun, IfAlive, IfRefused, IsInCall, IsOver, IsReached, IsRooted, IsSameLatch, IsSpent, IsUnderWay, IsWorking, Went};
 ghost use Rattle.shm_tree.specs.declared.hints.Hints.TheVariants.{Off};
+ghost use Rattle.shm_tree.specs.declared.line.TreeAnswer.TheVariants as answers;
 ghost use Rattle.shm_tree.specs.declared.line.TreeLine.TheVariants as lines;
 ghost use Rattle.shm_tree.specs.declared.stop.Stop.TheVariants as stop;
 
@@ -254,6 +255,7 @@ impl Registers {
         ensures moves { Moves Off result self.old self.new life.old.left life.new.left }
         ensures died { IfErr result (λ e. e ≡ stop.Died) }
         ensures is { IfOk result (λ o. (ts : List ATree) → HasVersions self.old ts → (o ≡ found key (version ts at)) × HasVersions self.new ts) }
+        ensures same { IfOk result (λ o. KeepsRegisters self.old self.new) }
         ensures costs { IfOk result (λ o. (ts : List ATree) → HasVersions self.old ts → Costs 0 (read_steps (height (version ts at))) self.old.pool self.new.pool life.old.left life.new.left) }
         ensures told { self.new.tidy ≡ self.old.tidy }
     {
@@ -347,6 +349,7 @@ impl Registers {
         ensures off { DiesHalfDone (lines.Del to from key) result self.old self.new life.old.left }
         ensures moves { Moves hints result self.old self.new life.old.left life.new.left }
         ensures missing { result ≡ Ok false → (ts : List ATree) → HasVersions self.old ts → (found key (version ts from) ≡ None) × HasVersions self.new ts }
+        ensures absent { result ≡ Ok false → KeepsRegisters self.old self.new }
         ensures done { result ≡ Ok true → (ts : List ATree) → HasVersions self.old ts → (is_some (found key (version ts from)) ≡ true) × HasVersions self.new (slice_set ts to (removed key (version ts from))) }
         ensures costs { IfOk result (λ b. (ts : List ATree) → HasVersions self.old ts → Costs (3 * height (version ts from)) (del_steps (height (version ts from)) self.old.pool.start.geometry) self.old.pool self.new.pool life.old.left life.new.left) }
         ensures told { IfOk result (λ b. self.new.tidy ≡ true) }
@@ -388,6 +391,7 @@ impl Registers {
         ensures few { IfOk result (λ a. FewSet line.now self.old self.new) }
         ensures reading { IfErr result (λ e. IsReading line.now → e ≡ stop.Died) }
         ensures own { IfOk result (λ a. IsOwn a) }
+        ensures same { IfOk result (λ a. a ≢ answers.Ok → KeepsRegisters self.old self.new) }
         ensures told { IfOk result (λ a. self.old.tidy ≡ true → self.new.tidy ≡ true) }
         ensures refused { IfRefused result (StopsLine line.now self.old self.new life.old.left life.new.left) }
     {
@@ -461,6 +465,7 @@ impl Registers {
         ensures few { IfOk result (λ a. FewSet line.now self.old self.new) }
         ensures reading { IfErr result (λ e. IsReading line.now → e ≡ stop.Died) }
         ensures own { IfOk result (λ a. IsOwn a) }
+        ensures same { IfOk result (λ a. a ≢ answers.Ok → KeepsRegisters self.old self.new) }
         ensures swept { IfAlive result (IsSwept self.old → IsSwept self.new) }
         ensures refused { IfRefused result (EndsLine line.now self.old self.new life.old.left life.new.left) }
     {

@@ -1,7 +1,7 @@
 -- the text of a picture
 use Rattle.std.specs.{Prelude.{ℕ, ◌==◌, if◌then◌else◌, List, [], ◌∷◌, ◌++◌, codes}, Fmt.decimal, List.flat_map}
 use Rattle.std.specs.String.{string_bytes}
-use Rattle.shm_view.specs.declared.svg.{Colour.Colour, Picture.Picture, Shape.{Shape, TheVariants.{Rect, Label}}}
+use Rattle.shm_view.specs.declared.svg.{Colour.Colour, Picture.Picture, Shape.{Shape, TheVariants.{Rect, Label, Line}}}
 
 -- ---- texts
 
@@ -40,6 +40,18 @@ channels_text c = decimal c.red ++ codes "," ++ decimal c.green ++ codes "," ++ 
 unfoldable pub fill_text : Colour → List ℕ
 fill_text c = codes " fill=\"rgb(" ++ channels_text c ++ codes ")\""
 
+-- of the ends of a straight line
+unfoldable pub ends_text : ℕ → ℕ → ℕ → ℕ → List ℕ
+ends_text x y x' y' = attribute (codes "x1") x ++ attribute (codes "y1") y ++ attribute (codes "x2") x' ++ attribute (codes "y2") y'
+
+-- of its colour
+unfoldable pub paint_text : Colour → List ℕ
+paint_text c = codes " stroke=\"rgb(" ++ channels_text c ++ codes ")\""
+
+-- of its width and colour
+unfoldable pub stroke_text : ℕ → Colour → List ℕ
+stroke_text width c = attribute (codes "stroke-width") width ++ paint_text c
+
 -- ---- elements
 
 -- a rectangle, without anything in it
@@ -50,10 +62,15 @@ rect_text x y width height fill = codes "<rect" ++ place_text x y ++ size_text w
 unfoldable pub label_text : ℕ → ℕ → List ℕ → List ℕ
 label_text x y text = codes "<text" ++ place_text x y ++ codes ">" ++ escaped text ++ codes "</text>\n"
 
+-- a straight line
+unfoldable pub line_text : ℕ → ℕ → ℕ → ℕ → ℕ → Colour → List ℕ
+line_text x y x' y' width stroke = codes "<line" ++ ends_text x y x' y' ++ stroke_text width stroke ++ codes "/>\n"
+
 -- that of a shape
 abbrev pub shape_text : Shape → List ℕ
 shape_text (Rect x y width height fill) = rect_text x y width height fill
 shape_text (Label x y text) = label_text x y (string_bytes text)
+shape_text (Line from to width stroke) = line_text from.0 from.1 to.0 to.1 width stroke
 
 -- two numbers
 unfoldable pub pair_text : ℕ → ℕ → List ℕ

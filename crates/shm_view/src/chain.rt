@@ -62,8 +62,8 @@ fn chain_length(words: &[[u8; 8]], first: u64, most: u32) -> u32
     most
 }
 
-// the word so many words after an address, and 0 past the end of the pool
-fn word_after(words: &[[u8; 8]], block: u64, more: u32) -> u64
+/// The word so many words after an address, and 0 past the end of the pool.
+pub fn word_after(words: &[[u8; 8]], block: u64, more: u32) -> u64
     requires short { length words.now < 2 ^ 24 }
     requires more { more < 2 ^ 24 }
     ensures { result ≡ slice_index (numbers words.now) (block + more) }

@@ -1,12 +1,14 @@
 //! What an image of a pool shows: its segments, pages, blocks, counts and identities as figures and as a picture.
 #![tactic(auto)]
 
+mod arrows;
 mod cell;
 mod census;
 mod chain;
 mod histogram;
 mod identity;
 mod json;
+mod layout;
 mod looks;
 mod pool;
 mod stats;

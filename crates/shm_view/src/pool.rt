@@ -1,10 +1,12 @@
 //! A pool as a picture.
 
-ghost use Rattle.std.specs.Prelude.{◌≡◌, ◌<◌, ◌≤◌, ◌^◌, IfErr, IfOk, None};
-ghost use Rattle.shm_words.specs.Layout.{GeometryFits};
+ghost use Rattle.std.specs.Prelude.{◌≡◌, ◌<◌, ◌≤◌, ◌^◌, length, IfErr, IfOk, None};
+ghost use Rattle.shm_words.specs.Layout.{GeometryFits, total_of};
 ghost use Rattle.shm_audit.specs.{Faults.image_fault_of, Stops.StopsBy};
 ghost use Rattle.shm_view.specs.{Svg.picture_text, declared.svg.Picture.Picture as APicture};
 
+use crate::arrows::draw_table;
+use crate::layout::{LEFT, LINE, PAGE, ROW, TOP, WIDTH, rect};
 use crate::svg::{Colour, Picture, Shape, svg_text};
 use shm_audit::{AuditStop, audit, open_image, word};
 use shm_words::{Geometry, Header};
@@ -12,20 +14,6 @@ use std::alloc::{AllocError, Global};
 
 /// How many segments a picture shows at most.
 const MOST: u16 = 64;
-
-/// Where the pages of a segment begin, and the space of a page: 16 words in a line, and a gap.
-const LEFT: u32 = 250;
-
-const PAGE: u32 = 136;
-
-const WIDTH: u32 = LEFT + 16 * PAGE + 16;
-
-/// Where the first segment begins, and the space of a segment: 8 lines of words, and a gap.
-const TOP: u32 = 130;
-
-const LINE: u32 = 10;
-
-const ROW: u32 = 8 * LINE + 16;
 
 const WHITE: Colour = Colour {
     red: 255,
@@ -42,21 +30,29 @@ const GREY: Colour = Colour {
 /// The pool of an image as a picture, or the first fault of the image, as an audit finds it.
 ///
 /// It has a row for each of the first 64 segments, with its owner and its 16 pages, and a page has its 128 words in 8 lines. A block is as
-/// large as its class says, of the colour of its class, strong where it is live and pale where it is free; a page without a class is grey.
-pub fn pool_picture(alloc: Global, image: &[u8]) -> Result<Vec<u8>, AuditStop>
+/// large as its class says, of the colour of its class, strong where it is live and pale where it is free; a page without a class is grey. The references of the
+/// table of `client` are drawn as lines, where one is named.
+pub fn pool_picture(alloc: Global, image: &[u8], client: Option<u8>) -> Result<Vec<u8>, AuditStop>
     ensures none { IfOk result (λ _. image_fault_of image.now ≡ None) }
     ensures drawn { IfOk result (λ text. (p : APicture) × (text.items ≡ picture_text p)) }
     ensures err { IfErr result (StopsBy (image_fault_of image.now)) }
 {
     let _verdict = audit(alloc, image)?;
     let (geometry, words) = open_image(image).map_err(AuditStop::Fault)?;
-    let picture = draw(alloc, geometry, words)?;
+    let picture = draw(alloc, geometry, words, client)?;
     Ok(svg_text(alloc, &picture)?)
 }
 
 // the picture of a pool with these words
-fn draw(alloc: Global, geometry: Geometry, words: &[[u8; 8]]) -> Result<Picture, AllocError>
-    requires { GeometryFits geometry }
+#[tactic(auto, using(shm_words::proofs::Placing::total_small))]
+fn draw(
+    alloc: Global,
+    geometry: Geometry,
+    words: &[[u8; 8]],
+    client: Option<u8>,
+) -> Result<Picture, AllocError>
+    requires fits { GeometryFits geometry }
+    requires whole { length words.now ≡ total_of geometry }
 {
     let rows = geometry.segments().min(MOST);
     let bottom = TOP + ROW * u32::from(rows);
@@ -65,6 +61,15 @@ fn draw(alloc: Global, geometry: Geometry, words: &[[u8; 8]]) -> Result<Picture,
     draw_legend(alloc, &mut shapes)?;
     for s in 0..rows {
         draw_segment(alloc, &mut shapes, geometry, words, s)?;
+    }
+    if let Some(client) = client {
+        draw_table(&mut shapes, geometry, words, rows, client)?;
+        let text = format!(in alloc; "lines: the table of client {client}")?;
+        shapes.push(Shape::Label {
+            x: 1000,
+            y: bottom + 36,
+            text,
+        })?;
     }
     let rest = geometry.segments() - rows;
     if rest > 0 {
@@ -80,17 +85,6 @@ fn draw(alloc: Global, geometry: Geometry, words: &[[u8; 8]]) -> Result<Picture,
         height: bottom + 60,
         shapes,
     })
-}
-
-// a rectangle
-fn rect(place: (u32, u32), size: (u32, u32), fill: Colour) -> Shape {
-    Shape::Rect {
-        x: place.0,
-        y: place.1,
-        width: size.0,
-        height: size.1,
-        fill,
-    }
 }
 
 // what the colours mean

@@ -1,7 +1,7 @@
 //! Pictures as SVG: a few shapes, and the text of a picture made of them.
 
 ghost use Rattle.std.specs.{Prelude.{◌≡◌, ◌++◌, IfOk, OnOk}, List.flat_map};
-ghost use Rattle.shm_view.specs.Svg.{attribute, channels_text, escaped, escaped_byte, fill_text, label_text, opening_text, pair_text, picture_text, place_text, rect_text, shape_text, size_text};
+ghost use Rattle.shm_view.specs.Svg.{attribute, channels_text, ends_text, escaped, escaped_byte, fill_text, label_text, line_text, opening_text, paint_text, pair_text, picture_text, place_text, rect_text, shape_text, size_text, stroke_text};
 
 use shm_script::{push_number, push_text};
 use std::alloc::{AllocError, Global};
@@ -30,6 +30,13 @@ pub enum Shape {
         x: u32,
         y: u32,
         text: String,
+    },
+    /// A straight line of this width from one place to another.
+    Line {
+        from: (u32, u32),
+        to: (u32, u32),
+        width: u32,
+        stroke: Colour,
     },
 }
 
@@ -100,6 +107,12 @@ fn push_shape(text: &mut Vec<u8>, shape: &Shape) -> Result<(), AllocError>
             fill,
         } => push_rect(text, (*x, *y), (*width, *height), *fill),
         Shape::Label { x, y, text: word } => push_label(text, *x, *y, word.as_str()),
+        Shape::Line {
+            from,
+            to,
+            width,
+            stroke,
+        } => push_line(text, *from, *to, *width, *stroke),
     }
 }
 
@@ -130,6 +143,54 @@ fn push_label(text: &mut Vec<u8>, x: u32, y: u32, word: &str) -> Result<(), Allo
     push_text(text, ">")?;
     push_escaped(text, word.as_bytes())?;
     push_text(text, "</text>\n")
+}
+
+// adds the element of a straight line
+#[tactic(auto, unfolding(crate::specs::Svg::line_text))]
+fn push_line(
+    text: &mut Vec<u8>,
+    from: (u32, u32),
+    to: (u32, u32),
+    width: u32,
+    stroke: Colour,
+) -> Result<(), AllocError>
+    ensures { OnOk result (text.new.items ≡ text.old.items ++ line_text from.0 from.1 to.0 to.1 width stroke) }
+{
+    push_text(text, "<line")?;
+    push_ends(text, from, to)?;
+    push_stroke(text, width, stroke)?;
+    push_text(text, "/>\n")
+}
+
+// adds the four attributes of the ends of a line
+#[tactic(auto, unfolding(crate::specs::Svg::ends_text))]
+fn push_ends(text: &mut Vec<u8>, from: (u32, u32), to: (u32, u32)) -> Result<(), AllocError>
+    ensures { OnOk result (text.new.items ≡ text.old.items ++ ends_text from.0 from.1 to.0 to.1) }
+{
+    push_attribute(text, "x1", from.0)?;
+    push_attribute(text, "y1", from.1)?;
+    push_attribute(text, "x2", to.0)?;
+    push_attribute(text, "y2", to.1)
+}
+
+// adds the attributes of a line's width and colour
+#[tactic(auto, unfolding(crate::specs::Svg::stroke_text))]
+fn push_stroke(text: &mut Vec<u8>, width: u32, stroke: Colour) -> Result<(), AllocError>
+    ensures { OnOk result (text.new.items ≡ text.old.items ++ stroke_text width stroke) }
+{
+    push_attribute(text, "stroke-width", width)?;
+    push_paint(text, stroke)
+}
+
+// adds the attribute of a line's colour
+#[tactic(auto, unfolding(crate::specs::Svg::paint_text))]
+fn push_paint(text: &mut Vec<u8>, stroke: Colour) -> Result<(), AllocError>
+    ensures { OnOk result (text.new.items ≡ text.old.items ++ paint_text stroke) }
+{
+    push_text(text, " stroke=\"rgb(")?;
+    push_channels(text, stroke)?;
+    push_text(text, ")\"")?;
+    Ok(())
 }
 
 // adds the two attributes of a place

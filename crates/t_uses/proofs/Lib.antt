@@ -6,3 +6,4 @@ mod Auditing
 mod Attempts
 mod Quiet
 mod Polls
+mod Having

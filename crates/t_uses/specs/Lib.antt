@@ -3,3 +3,4 @@ pub mod Compare
 pub mod Images
 pub mod Polling
 pub mod Sharing
+pub mod Singles

@@ -1,13 +1,14 @@
 //! Callers of the library, each with the contract that its user would want, and what comes of them by the lines of standard input.
 //!
-//! A line is a name and how many word steps there are: `memory STEPS`, `table STEPS`, `machine STEPS`, `threads STEPS`; or `polled TURNS`, how many turns there are.
-//! Lines that begin with `#` are printed again. docs/CALLING.md reads the callers aloud.
+//! A line is a name and how many word steps there are: `memory STEPS`, `table STEPS`, `machine STEPS`, `single STEPS`, `stepped STEPS`, `threads STEPS`; or
+//! `polled TURNS`, how many turns there are. Lines that begin with `#` are printed again. docs/CALLING.md reads the callers aloud.
 #![tactic(auto)]
 
 mod image;
 mod machine;
 mod memory;
 mod polled;
+mod single;
 mod stop;
 mod table;
 mod threads;
@@ -20,6 +21,7 @@ use shm_audit::verdict_text;
 use shm_graph::Life;
 use shm_script::{Answer, End};
 use shm_words::Geometry;
+use single::{called_and_closed, left_and_closed};
 use std::alloc::AllocGlobal;
 use std::process::ExitCode;
 use std::random::RandomSource;
@@ -77,6 +79,41 @@ fn tell_machine(rt: &HostRuntime, steps: u64) -> io::Result<()> {
     match shared_root(rt.alloc(), geometry, &mut Life::of(steps)) {
         Ok(same) => println!(rt; "same {same}"),
         Err(stop) => println!(rt; "{stop:?}"),
+    }
+}
+
+/// `single STEPS`: whether a client finds in its home, in a root and in the reference word of a block what it made them name, and the verdict on the image of
+/// the closed pool.
+fn tell_single(rt: &HostRuntime, steps: u64) -> io::Result<()> {
+    let geometry = Geometry::new(1, 1).map_err(|_| refusal())?;
+    match called_and_closed(rt.alloc(), geometry, steps)? {
+        Some((found, closed)) => {
+            let (root, home) = (found.root == found.block, found.home == found.block);
+            let (set, emptied) = (found.set == found.block, found.emptied == 0);
+            let verdict = judged_shared(rt.alloc(), &closed).map_err(|_| refusal())?;
+            let text = verdict_text(rt.alloc(), &verdict)?;
+            print!(rt;
+                "root {root} home {home} set {set} emptied {emptied} {}",
+                str::from_utf8(text.as_slice()).map_err(|_| refusal())?
+            )
+        }
+        None => println!(rt; "not called"),
+    }
+}
+
+/// `stepped STEPS`: a join and a leaving in single word steps, and the verdict on the image of the closed pool.
+fn tell_stepped(rt: &HostRuntime, steps: u64) -> io::Result<()> {
+    let geometry = Geometry::new(1, 1).map_err(|_| refusal())?;
+    match left_and_closed(rt.alloc(), geometry, steps)? {
+        Some(closed) => {
+            let verdict = judged_shared(rt.alloc(), &closed).map_err(|_| refusal())?;
+            let text = verdict_text(rt.alloc(), &verdict)?;
+            print!(rt;
+                "left {}",
+                str::from_utf8(text.as_slice()).map_err(|_| refusal())?
+            )
+        }
+        None => println!(rt; "not left"),
     }
 }
 
@@ -148,6 +185,8 @@ fn answer<R: Threads + Sync + Wait + RandomSource + AllocGlobal>(
         "memory" => tell_memory(rt, steps),
         "table" => tell_table(rt, steps),
         "machine" => tell_machine(rt, steps),
+        "single" => tell_single(rt, steps),
+        "stepped" => tell_stepped(rt, steps),
         "threads" => tell_threads(rt, threads, steps),
         "polled" => tell_polled(rt, threads, steps),
         _ => Err(refusal()),

@@ -116,7 +116,7 @@ fn vacated<R: Wait + RandomSource + AllocGlobal>(
 }
 
 /// Takes the token of a pool of one identity.
-fn take_one(pool: &SharedPool, all: &mut Vec<Vacant>) -> Option<Vacant>
+pub fn take_one(pool: &SharedPool, all: &mut Vec<Vacant>) -> Option<Vacant>
     requires { all.old.items ≡ first_tokens pool.now 0 1 }
     ensures token { IfSome result (λ t. t ≡ token_first pool.now 0) }
     ensures none { IfSome result (λ _. all.new.items ≡ []) }

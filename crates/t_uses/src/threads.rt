@@ -95,7 +95,7 @@ fn read_and_drop(client: &mut Client, pool: &SharedPool, life: &mut Life, made: 
 }
 
 /// Recovers a corpse.
-fn bury(pool: &SharedPool, corpse: Corpse) -> Option<Vacant>
+pub fn bury(pool: &SharedPool, corpse: Corpse) -> Option<Vacant>
     requires { corpse.of ≡ pool.now }
     ensures { IfSome result (λ v. v.of ≡ pool.now) }
 {

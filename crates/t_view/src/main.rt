@@ -2,13 +2,13 @@
 //!
 //! A row `# TITLE` is told as it is, and an empty input begins. `image F N G` begins the input anew as the image of a pool of format F with N
 //! clients and G segments, whose words are 0; `set AT WORD` sets a word of the pool, `byte AT B` a byte of the input, and `cut LEN` keeps its
-//! first LEN bytes. `read K` and `write K` have the read or the write of number K fail in the next call. `view WORD ..` makes the call with
-//! these words: it tells the status, what goes to standard error, and what is written.
+//! first LEN bytes. `+ LINE` adds a line to it, and `lines K LINE` K of them. `read K` and `write K` have the read or the write of number K fail in the
+//! next call. `view WORD ..` makes the call with these words: it tells the status, what goes to standard error, and what is written.
 #![tactic(auto)]
 
 mod input;
 
-use crate::input::{new_image, set_byte, set_word};
+use crate::input::change;
 use shm_io::{MemorySink, MemorySource};
 use std::alloc::{AllocError, Global};
 use std::io;
@@ -65,49 +65,30 @@ fn tell_call(rt: &HostRuntime, desk: &Desk, rest: &str) -> io::Result<()> {
     rt.print(std::str::from_utf8(sink.bytes()).unwrap_or("bytes that are no text\n"))
 }
 
-/// The two numbers of a row, 0 where there is none.
-fn numbers(rest: &str) -> (u64, u64) {
-    let (first, second) = rest.split_once(' ').unwrap_or((rest, ""));
-    (first.parse().unwrap_or(0), second.parse().unwrap_or(0))
-}
-
 /// Does what a row says.
 fn run_row(rt: &HostRuntime, desk: &mut Desk, row: &str) -> io::Result<()> {
     let (kind, rest) = row.split_once(' ').unwrap_or((row, ""));
-    let (first, second) = numbers(rest);
     match kind {
         "#" => {
             *desk = Desk::new(rt.alloc());
             println!(rt; "# {rest}")
         }
-        "image" => {
-            desk.input = new_image(rt.alloc(), rest)?;
-            Ok(())
-        }
-        "set" => {
-            set_word(desk.input.as_mut_slice(), first, second);
-            Ok(())
-        }
-        "byte" => {
-            set_byte(desk.input.as_mut_slice(), first, second);
-            Ok(())
-        }
-        "cut" => {
-            desk.input.truncate(usize::try_from(first).unwrap_or(0));
-            Ok(())
-        }
         "read" => {
-            desk.read_fails = u32::try_from(first).unwrap_or(0);
+            desk.read_fails = rest.parse().unwrap_or(0);
             Ok(())
         }
         "write" => {
-            desk.write_fails = u32::try_from(first).unwrap_or(0);
+            desk.write_fails = rest.parse().unwrap_or(0);
             Ok(())
         }
-        _ => {
+        "view" => {
             tell_call(rt, desk, rest)?;
             desk.read_fails = 0;
             desk.write_fails = 0;
+            Ok(())
+        }
+        _ => {
+            change(rt.alloc(), &mut desk.input, kind, rest)?;
             Ok(())
         }
     }

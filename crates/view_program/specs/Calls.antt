@@ -2,36 +2,68 @@
 use Rattle.std.specs.Prelude.{◌≡◌, ℕ, ◌⊎◌, List, Option, Some, None}
 use Rattle.shm_audit.specs.{declared.fault.ImageFault.ImageFault, Faults.image_fault_of}
 use Rattle.shm_io.specs.{Faults.Rose, Reading.TakesFront, Writing.Appends}
+use Rattle.shm_script.specs.{declared.fault.TraceFault.TraceFault, Faults.fault_of}
 
--- how many bytes are read at most: one more than the image of the largest pool has
+-- how many bytes of an image are read at most: one more than that of the largest pool has
 abbrev pub image_limit : ℕ
 image_limit = 132185377
 
--- the image has a fault
-abbrev pub HasFault : List ℕ → Type 0
-HasFault image = (fault : ImageFault) × (image_fault_of image ≡ Some fault)
+-- and of a trace: one more than the longest one has
+abbrev pub trace_limit : ℕ
+trace_limit = 1048577
 
--- the image has none, and a text was written
-pub record IsWritten (image : List ℕ) (held held' : Option (List ℕ)) : Type 0 where
-  pub faultless : image_fault_of image ≡ None
-  pub text : List ℕ
-  pub written : Appends held held' text
+-- ---- inputs
 
--- an image without a fault was read, and a text was written
+-- an image without a fault, and one with a fault
+abbrev pub IsFaultless : List ℕ → Type 0
+IsFaultless image = image_fault_of image ≡ None
+
+abbrev pub HasImageFault : List ℕ → Type 0
+HasImageFault image = (fault : ImageFault) × (image_fault_of image ≡ Some fault)
+
+-- a trace without a fault, and one with a fault
+abbrev pub IsFaultlessTrace : List ℕ → Type 0
+IsFaultlessTrace trace = fault_of trace ≡ None
+
+abbrev pub HasTraceFault : List ℕ → Type 0
+HasTraceFault trace = (fault : TraceFault) × (fault_of trace ≡ Some fault)
+
+-- an image of which this holds was read to its end, or to the limit; or a trace
+abbrev pub ReadsImage : Option (List ℕ) → Option (List ℕ) → (List ℕ → Type 0) → Type 0
+ReadsImage left left' holds = (image : List ℕ) × TakesFront left left' image_limit image × holds image
+
+abbrev pub ReadsTrace : Option (List ℕ) → Option (List ℕ) → (List ℕ → Type 0) → Type 0
+ReadsTrace left left' holds = (trace : List ℕ) × TakesFront left left' trace_limit trace × holds trace
+
+-- ---- what is done
+
+-- a text was written
+abbrev pub IsWritten : Option (List ℕ) → Option (List ℕ) → Type 0
+IsWritten held held' = (text : List ℕ) × Appends held held' text
+
+-- an image or a trace without a fault was read, and a text was written
 abbrev pub IsShown : Option (List ℕ) → Option (List ℕ) → Option (List ℕ) → Option (List ℕ) → Type 0
-IsShown left left' held held' = (image : List ℕ) × TakesFront left left' image_limit image × IsWritten image held held'
+IsShown left left' held held' = (ReadsImage left left' IsFaultless ⊎ ReadsTrace left left' IsFaultlessTrace) × IsWritten held held'
 
--- an image with a fault was read
+-- an image or a trace with a fault was read
 abbrev pub IsRefused : Option (List ℕ) → Option (List ℕ) → Type 0
-IsRefused left left' = (image : List ℕ) × TakesFront left left' image_limit image × HasFault image
+IsRefused left left' = ReadsImage left left' HasImageFault ⊎ ReadsTrace left left' HasTraceFault
 
--- no image was read, for want of memory or since a read failed
+-- no input was read, for want of memory or since a read failed
 abbrev pub IsStop : ℕ → ℕ → ℕ → Type 0
 IsStop faults faults' status = (status ≡ 6) ⊎ ((status ≡ 4) × Rose faults faults')
 
--- an image was read: it was shown or refused, a write failed, or memory was wanting
+-- a text was written, or a write failed
+abbrev pub IsSent : ℕ → Type 0
+IsSent status = (status ≡ 0) ⊎ (status ≡ 5)
+
+-- an input was read: it was shown or refused, a write failed, or memory was wanting
 abbrev pub IsAnswer : ℕ → Type 0
 IsAnswer status = (status ≡ 0) ⊎ ((status ≡ 3) ⊎ ((status ≡ 5) ⊎ (status ≡ 6)))
+
+-- the words were accepted: an input was read, or a read failed
+abbrev pub IsRead : ℕ → Type 0
+IsRead status = IsAnswer status ⊎ (status ≡ 4)
 
 -- the statuses of a call
 abbrev pub IsStatus : ℕ → Type 0

@@ -2,9 +2,11 @@
 #![tactic(auto)]
 
 mod job;
+mod misuse;
 mod said;
 mod top;
 
-pub use job::{Job, job_of, program_words};
-pub use said::{misuse_text, refusal_text};
+pub use job::{ImageForm, Job, TraceForm, job_of, program_words};
+pub use misuse::misuse_text;
+pub use said::{image_refusal, trace_refusal};
 pub use top::{Outcome, view};

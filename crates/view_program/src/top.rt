@@ -3,31 +3,38 @@
 ghost use Rattle.std.specs.Prelude.{◌≡◌, ◌≢◌, IfErr, IfOk, OnOk, None};
 ghost use Rattle.shm_audit.specs.{Faults.image_fault_of, Stops.StopsBy};
 ghost use Rattle.shm_io.specs.{Faults.Rose, Reading.TakesFront};
-ghost use Rattle.view_program.specs.Calls.{HasFault, IsAnswer, IsRefused, IsShown, IsStatus, IsStop, IsWritten, image_limit};
+ghost use Rattle.shm_script.specs.{Drafts.IsFault, Faults.fault_of};
+ghost use Rattle.view_program.specs.Calls.{HasImageFault, HasTraceFault, IsAnswer, IsFaultless, IsFaultlessTrace, IsRead, IsRefused, IsSent, IsShown, IsStatus, IsStop, IsWritten, ReadsImage, ReadsTrace};
 
-use crate::job::{Job, job_of};
-use crate::said::{misuse_text, refusal_text};
+use crate::job::{ImageForm, Job, TraceForm, job_of};
+use crate::misuse::misuse_text;
+use crate::said::{image_refusal, trace_refusal};
+use run_view::{Window, run_picture, run_steps, run_words};
 use shm_audit::AuditStop;
 use shm_io::{ReadStop, Sink, Source, read_to_limit, write_all};
+use shm_script::{ParseStop, parse};
 use shm_view::{image_stats, pool_picture, stats_json, stats_text};
 use std::alloc::{AllocError, Global};
 
 /// One byte more than the image of the largest pool has, which is of format 2.
 const IMAGE_LIMIT: usize = 132_185_377;
 
+/// One byte more than the longest trace has.
+const TRACE_LIMIT: usize = 1_048_577;
+
 /// What a call came to.
 #[derive(Drop)]
 pub struct Outcome {
-    /// 0 done, 2 words not accepted, 3 image refused, 4 a read failed, 5 a write failed, 6 want of memory.
+    /// 0 done, 2 words not accepted, 3 input refused, 4 a read failed, 5 a write failed, 6 want of memory.
     pub status: u8,
     /// What is to be said on standard error. It is empty where all was done, and where there is no memory for it.
     pub said: String,
 }
 
-/// Does what the words say: it reads an image to its end, makes the whole text or picture, and then writes it.
+/// Does what the words say: it reads an image or a trace to its end, makes the whole text or picture, and then writes it.
 ///
-/// At most 132,185,377 bytes are read. Where the words aren't accepted nothing is read, and where the status is neither 0 nor 5 nothing is
-/// written. After a write that failed the sink holds a front of the text.
+/// At most 132,185,377 bytes of an image are read, and 1,048,577 of a trace. Where the words aren't accepted nothing is read, and where the status is neither 0
+/// nor 5 nothing is written. After a write that failed the sink holds a front of the text.
 pub fn view<S: Source, K: Sink>(
     alloc: Global,
     words: &[String],
@@ -42,46 +49,116 @@ pub fn view<S: Source, K: Sink>(
     ensures read_fault { result.status ≡ 4 → Rose (S.faults source.old) (S.faults source.new) }
     ensures write_fault { result.status ≡ 5 → Rose (K.faults sink.old) (K.faults sink.new) }
 {
-    let job = match job_of(alloc, words) {
-        Ok(Some(job)) => job,
-        Ok(None) => return Outcome::new(alloc, 2, misuse_text(alloc, words)),
-        Err(_) => return stopped(alloc, 6),
-    };
-    match read_image(alloc, source) {
-        Ok(image) => show(alloc, job, image.as_slice(), sink),
+    match job_of(alloc, words) {
+        Ok(Some(Job::Image(form))) => view_image(alloc, form, source, sink),
+        Ok(Some(Job::Trace(form, window))) => view_trace(alloc, form, window, source, sink),
+        Ok(None) => Outcome::new(alloc, 2, misuse_text(alloc, words)),
+        Err(_) => stopped(alloc, 6),
+    }
+}
+
+/// Reads an image, and writes what is shown of it.
+fn view_image<S: Source, K: Sink>(
+    alloc: Global,
+    form: ImageForm,
+    source: &mut S,
+    sink: &mut K,
+) -> Outcome
+    ensures status { IsRead result.status }
+    ensures shown { result.status ≡ 0 → ReadsImage (S.left source.old) (S.left source.new) IsFaultless × IsWritten (K.held sink.old) (K.held sink.new) }
+    ensures refused { result.status ≡ 3 → ReadsImage (S.left source.old) (S.left source.new) HasImageFault }
+    ensures unwritten { result.status ≢ 0 → result.status ≢ 5 → sink.new ≡ sink.old }
+    ensures read_fault { result.status ≡ 4 → Rose (S.faults source.old) (S.faults source.new) }
+    ensures write_fault { result.status ≡ 5 → Rose (K.faults sink.old) (K.faults sink.new) }
+{
+    match read_input(alloc, source, IMAGE_LIMIT) {
+        Ok(image) => show_image(alloc, form, image.as_slice(), sink),
         Err(status) => stopped(alloc, status),
     }
 }
 
-/// Reads an image. Where a read fails it answers with the status 4, and where memory is wanting with 6.
-fn read_image<S: Source>(alloc: Global, source: &mut S) -> Result<Vec<u8>, u8>
-    ensures read { IfOk result (λ image. TakesFront (S.left source.old) (S.left source.new) image_limit image.items) }
+/// Reads a trace, and writes what is shown of its replay.
+fn view_trace<S: Source, K: Sink>(
+    alloc: Global,
+    form: TraceForm,
+    window: Window,
+    source: &mut S,
+    sink: &mut K,
+) -> Outcome
+    ensures status { IsRead result.status }
+    ensures shown { result.status ≡ 0 → ReadsTrace (S.left source.old) (S.left source.new) IsFaultlessTrace × IsWritten (K.held sink.old) (K.held sink.new) }
+    ensures refused { result.status ≡ 3 → ReadsTrace (S.left source.old) (S.left source.new) HasTraceFault }
+    ensures unwritten { result.status ≢ 0 → result.status ≢ 5 → sink.new ≡ sink.old }
+    ensures read_fault { result.status ≡ 4 → Rose (S.faults source.old) (S.faults source.new) }
+    ensures write_fault { result.status ≡ 5 → Rose (K.faults sink.old) (K.faults sink.new) }
+{
+    match read_input(alloc, source, TRACE_LIMIT) {
+        Ok(trace) => show_trace(alloc, form, window, trace.as_slice(), sink),
+        Err(status) => stopped(alloc, status),
+    }
+}
+
+/// Reads an input. Where a read fails it answers with the status 4, and where memory is wanting with 6.
+fn read_input<S: Source>(alloc: Global, source: &mut S, limit: usize) -> Result<Vec<u8>, u8>
+    ensures read { IfOk result (λ input. TakesFront (S.left source.old) (S.left source.new) limit input.items) }
     ensures stop { IfErr result (IsStop (S.faults source.old) (S.faults source.new)) }
 {
-    match read_to_limit(alloc, source, IMAGE_LIMIT) {
-        Ok(image) => Ok(image),
+    match read_to_limit(alloc, source, limit) {
+        Ok(input) => Ok(input),
         Err(ReadStop::Fault(_)) => Err(4),
         Err(ReadStop::Memory(_)) => Err(6),
     }
 }
 
-/// Writes what a job makes of an image.
-fn show<K: Sink>(alloc: Global, job: Job, image: &[u8], sink: &mut K) -> Outcome
+/// Writes what is shown of an image.
+fn show_image<K: Sink>(alloc: Global, form: ImageForm, image: &[u8], sink: &mut K) -> Outcome
     ensures status { IsAnswer result.status }
-    ensures shown { result.status ≡ 0 → IsWritten image.now (K.held sink.old) (K.held sink.new) }
-    ensures refused { result.status ≡ 3 → HasFault image.now }
+    ensures shown { result.status ≡ 0 → IsFaultless image.now × IsWritten (K.held sink.old) (K.held sink.new) }
+    ensures refused { result.status ≡ 3 → HasImageFault image.now }
     ensures unwritten { result.status ≢ 0 → result.status ≢ 5 → sink.new ≡ sink.old }
     ensures fault { result.status ≡ 5 → Rose (K.faults sink.old) (K.faults sink.new) }
 {
-    match answer(alloc, job, image) {
-        Ok(text) => match write_all(sink, text.as_slice()) {
-            Ok(()) => Outcome::new(alloc, 0, Ok(String::new(alloc))),
-            Err(_) => stopped(alloc, 5),
-        },
+    match image_text(alloc, form, image) {
+        Ok(text) => write(alloc, text.as_slice(), sink),
         Err(AuditStop::Fault(fault)) => {
-            Outcome::new(alloc, 3, refusal_text(alloc, image, fault))
+            Outcome::new(alloc, 3, image_refusal(alloc, image, fault))
         }
         Err(AuditStop::Memory(_)) => stopped(alloc, 6),
+    }
+}
+
+/// Writes what is shown of a trace's replay.
+fn show_trace<K: Sink>(
+    alloc: Global,
+    form: TraceForm,
+    window: Window,
+    trace: &[u8],
+    sink: &mut K,
+) -> Outcome
+    ensures status { IsAnswer result.status }
+    ensures shown { result.status ≡ 0 → IsFaultlessTrace trace.now × IsWritten (K.held sink.old) (K.held sink.new) }
+    ensures refused { result.status ≡ 3 → HasTraceFault trace.now }
+    ensures unwritten { result.status ≢ 0 → result.status ≢ 5 → sink.new ≡ sink.old }
+    ensures fault { result.status ≡ 5 → Rose (K.faults sink.old) (K.faults sink.new) }
+{
+    match trace_text(alloc, form, window, trace) {
+        Ok(text) => write(alloc, text.as_slice(), sink),
+        Err(ParseStop::Fault(fault)) => {
+            Outcome::new(alloc, 3, trace_refusal(alloc, trace, fault))
+        }
+        Err(ParseStop::Memory(_)) => stopped(alloc, 6),
+    }
+}
+
+/// Writes a whole text.
+fn write<K: Sink>(alloc: Global, text: &[u8], sink: &mut K) -> Outcome
+    ensures status { IsSent result.status }
+    ensures written { result.status ≡ 0 → IsWritten (K.held sink.old) (K.held sink.new) }
+    ensures fault { result.status ≡ 5 → Rose (K.faults sink.old) (K.faults sink.new) }
+{
+    match write_all(sink, text) {
+        Ok(()) => Outcome::new(alloc, 0, Ok(String::new(alloc))),
+        Err(_) => stopped(alloc, 5),
     }
 }
 
@@ -98,7 +175,7 @@ impl Outcome {
     }
 }
 
-/// What a call came to that stopped for another reason than its words or its image.
+/// What a call came to that stopped for another reason than its words or its input.
 fn stopped(alloc: Global, status: u8) -> Outcome
     ensures { result.status ≡ status }
 {
@@ -110,14 +187,32 @@ fn stopped(alloc: Global, status: u8) -> Outcome
     Outcome::new(alloc, status, format!(in alloc; "cxlview: {why}\n"))
 }
 
-/// What a job makes of an image.
-fn answer(alloc: Global, job: Job, image: &[u8]) -> Result<Vec<u8>, AuditStop>
+/// What is shown of an image.
+fn image_text(alloc: Global, form: ImageForm, image: &[u8]) -> Result<Vec<u8>, AuditStop>
     ensures ok { OnOk result (image_fault_of image.now ≡ None) }
     ensures err { IfErr result (StopsBy (image_fault_of image.now)) }
 {
-    match job {
-        Job::Text => Ok(stats_text(alloc, &image_stats(alloc, image)?)?),
-        Job::Json => Ok(stats_json(alloc, &image_stats(alloc, image)?)?),
-        Job::Pool => pool_picture(alloc, image),
+    match form {
+        ImageForm::Text => Ok(stats_text(alloc, &image_stats(alloc, image)?)?),
+        ImageForm::Json => Ok(stats_json(alloc, &image_stats(alloc, image)?)?),
+        ImageForm::Pool(client) => pool_picture(alloc, image, client),
+    }
+}
+
+/// What is shown of a trace's replay.
+fn trace_text(
+    alloc: Global,
+    form: TraceForm,
+    window: Window,
+    trace: &[u8],
+) -> Result<Vec<u8>, ParseStop>
+    ensures ok { OnOk result (fault_of trace.now ≡ None) }
+    ensures err { IfErr result (λ e. IsFault e (fault_of trace.now)) }
+{
+    let trace = parse(alloc, trace)?;
+    match form {
+        TraceForm::Steps => Ok(run_steps(alloc, &trace, window)?),
+        TraceForm::Words => Ok(run_words(alloc, &trace, window)?),
+        TraceForm::Run => Ok(run_picture(alloc, &trace, window)?),
     }
 }

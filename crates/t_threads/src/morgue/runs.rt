@@ -2,7 +2,7 @@
 
 ghost use Rattle.std.specs.Prelude.{◌≤◌};
 
-use shm_morgue::{NoGate, Rescued, run_morgue};
+use shm_morgue::{NoGate, Ran, run_morgue};
 use shm_replay::replay;
 use shm_report::report;
 use shm_script::{Trace, parse};
@@ -19,7 +19,7 @@ const TWO_CLIENTS: &str =
     "pool 2 2\nclient 0\nlife 1 3 40\nput 5 77\nput 6 78\nclient 1\nlife 150 1 1\nput 7 79\nput 8 80\n";
 
 /// The report of what was left.
-fn told(alloc: Global, rescued: &Rescued) -> Result<Vec<u8>, AllocError> {
+fn told(alloc: Global, rescued: &Ran) -> Result<Vec<u8>, AllocError> {
     let closed = &rescued.closed;
     let words = closed.words();
     report(alloc, closed.geometry(), words, rescued.logs.as_slice())

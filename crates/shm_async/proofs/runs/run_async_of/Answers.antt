@@ -1,6 +1,6 @@
 use Rattle.std.proofs.Common.{ap}
 use Rattle.shm_graph.specs.declared.run.Start.{Start}
-use Rattle.shm_team.proofs.{Gathering.dones_back, Settled.team_run}
+use Rattle.shm_team.proofs.{Gathering.dones_back, Settled.settled_run}
 use Rattle.shm_async.proofs.runs.run_async_of.Goals as goal
 
 pub settle-requires-clause-clients : goal.settle-requires-clause-clients
@@ -11,5 +11,4 @@ settle-requires-clause-back g c = dones_back c.args.trace.now c.in_ok-pool.pool 
 
 pub returns : goal.returns
 returns g c =
-    let ran = c.in_ok-closed.field-0 in
-    team_run c.args.trace.now c.in_grammar.ensures c.in_ok-pool.pool c.in_ok-pool.ensures.start c.in_ok-dones.dones.items c.in_ok-dones.ensures.many c.in_ok-dones.ensures.dones ran.closed ran.logs.items c.in_ok-closed.ensures
+    settled_run c.args.trace.now c.in_grammar.ensures c.in_ok-pool.pool c.in_ok-pool.ensures.start c.in_ok-dones.dones.items c.in_ok-dones.ensures.many c.in_ok-dones.ensures.dones c.settle.result c.settle.ensures

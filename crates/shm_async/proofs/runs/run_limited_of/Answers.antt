@@ -1,4 +1,4 @@
-use Rattle.std.proofs.Common.{◌*◌, ap}
+use Rattle.std.proofs.{Common.{◌*◌, ap}, lemmas.Result.IfOk-weaker}
 use Rattle.shm_graph.specs.declared.run.Start.{Start}
 use Rattle.shm_async.proofs.LimitedRun.{limited_back, limited_run}
 use Rattle.shm_async.proofs.runs.run_limited_of.Goals as goal
@@ -11,5 +11,6 @@ settle-requires-clause-back g c = limited_back c.args.trace.now c.in_grammar.ens
 
 pub returns : goal.returns
 returns g c =
-    let ran = c.in_ok-closed.field-0 in
-    limited_run c.args.trace.now c.in_grammar.ensures c.in_ok-pool.pool c.in_ok-pool.ensures.start (c.args.q * c.args.limit) c.in_ok-dones.dones.items c.in_ok-dones.ensures.many c.in_ok-dones.ensures.dones ran.closed ran.logs.items c.in_ok-closed.ensures
+    IfOk-weaker c.settle.result _ _
+    (λ r. limited_run c.args.trace.now c.in_grammar.ensures c.in_ok-pool.pool c.in_ok-pool.ensures.start (c.args.q * c.args.limit) c.in_ok-dones.dones.items c.in_ok-dones.ensures.many c.in_ok-dones.ensures.dones r.closed r.logs.items)
+    c.settle.ensures

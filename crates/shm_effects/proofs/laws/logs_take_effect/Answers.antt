@@ -1,5 +1,11 @@
-use Rattle.shm_effects.proofs.Replays.{replay_takes}
+use Rattle.shm_effects.proofs.{Interleaved.interleaved_takes, Replays.{interleaved, replay_takes}}
 use Rattle.shm_effects.proofs.laws.logs_take_effect.Goals as goal
 
-pub returns : goal.returns
-returns c = record { replay = λ t p ls trace r. replay_takes c.command_maps.ensures.runs c.command_foretells.ensures t trace p ls r }
+pub returns-clause-replay : goal.returns-clause-replay
+returns-clause-replay c t p ls trace r = replay_takes c.command_maps.ensures.runs c.command_foretells.ensures t trace p ls r
+
+pub returns-clause-interleaved : goal.returns-clause-interleaved
+returns-clause-interleaved c t p ls trace r = interleaved_takes c.command_maps.ensures.runs c.command_foretells.ensures t trace p ls r
+
+pub returns-clause-one_such : goal.returns-clause-one_such
+returns-clause-one_such c t p ls trace r = interleaved c.command_maps.ensures.runs c.command_foretells.ensures t trace p ls r

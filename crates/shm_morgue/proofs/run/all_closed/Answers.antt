@@ -1,10 +1,10 @@
 use Rattle.std.proofs.Common.{◌≡◌, List, length, sym, ap, ◌∙◌, subst, arith}
+use Rattle.std.proofs.lemmas.Result.{IfOk-weaker}
 use Rattle.std.specs.{Prelude.slice_index_or, List.Contains}
 use Rattle.shm_pool.specs.Tokens.{Its}
 use Rattle.shm_morgue.specs.{Entries.all_taken, Slots.{AreEnough, AreRescued}}
 use Rattle.shm_morgue.proofs.{Loops.take_front, Slotting.{enough, single, worked_long, worked_of}}
 use Rattle.shm_morgue.proofs.run.all_closed.Goals as goal
-use Rattle.shm_team.proofs.Settled.{ok_then}
 
 pub close-requires-clause-porters : goal.close-requires-clause-porters
 close-requires-clause-porters g c = worked_of c.args.trace.now c.args.pool.now c.args.morgue 0 c.in_ok-porters.porters.items c.in_ok-porters.outcomes.items c.in_ok-porters.ensures.worked
@@ -58,4 +58,4 @@ returns-clause-many g c =
     let porters = c.in_ok-porters.ensures.many in
     let long = worked_long c.args.trace.now c.args.pool.now c.args.morgue 0 c.in_ok-porters.porters.items c.in_ok-porters.outcomes.items c.in_ok-porters.ensures.worked in
     let all : length c.in_ok-porters.outcomes.items ≡ c.args.trace.now.clients = omega arith in
-    ok_then (λ v. length v.items ≡ length c.in_ok-porters.outcomes.items) (λ v. length v.items ≡ c.args.trace.now.clients) c.all_done.result (λ v e. e ∙ all) c.all_done.ensures.many
+    IfOk-weaker c.all_done.result _ _ (λ v e. e ∙ all) c.all_done.ensures.many

@@ -1,8 +1,7 @@
-use Rattle.std.proofs.Common.{List, ap, ◌∙◌}
-use Rattle.shm_graph.specs.declared.run.{Move.Move, Start.Start}
-use Rattle.shm_plain.specs.Pools.{pool}
-use Rattle.shm_team.specs.{declared.team.Ran.Ran, Dones.AreDones, Rans.{HasSettled, IsTeamRun}}
-use Rattle.shm_team.proofs.{Gathering.{dones_back, dones_of, job_there}, Settled.{ok_then, team_run}}
+use Rattle.std.proofs.Common.{ap, ◌∙◌}
+use Rattle.shm_graph.specs.declared.run.Start.{Start}
+use Rattle.shm_team.specs.Dones.{AreDones}
+use Rattle.shm_team.proofs.{Gathering.{dones_back, dones_of, job_there}, Settled.settled_run}
 use Rattle.shm_team.proofs.team.run_team_of.Goals as goal
 
 pub work_all-requires : goal.work_all-requires
@@ -27,5 +26,4 @@ returns g c =
     let p = c.in_ok-pool.pool in
     let ds = c.in_ok-dones.dones.items in
     let dones : AreDones t p 0 ds = dones_of t p c.in_ok-pool.jobs.items ds c.in_ok-pool.ensures.jobs c.in_ok-dones.ensures in
-    ok_then (λ (r : Ran). HasSettled t p ds r.closed r.logs.items) (λ (r : Ran). (turns : List Move) × IsTeamRun t (pool r.closed.start r.closed.words r.closed.accounts turns) r.logs.items) c.settle.result
-    (λ r h. team_run t c.in_grammar.ensures p c.in_ok-pool.ensures.start ds (c.in_ok-dones.ensures.many ∙ c.in_ok-pool.ensures.many) dones r.closed r.logs.items h) c.settle.ensures
+    settled_run t c.in_grammar.ensures p c.in_ok-pool.ensures.start ds (c.in_ok-dones.ensures.many ∙ c.in_ok-pool.ensures.many) dones c.settle.result c.settle.ensures

@@ -1,5 +1,8 @@
-use Rattle.std.proofs.Common.{arith}
+use Rattle.std.proofs.Common.{arith, inr}
 use Rattle.view_program.proofs.top.view.Goals as goal
+
+pub returns-in-Ok-Some-Trace-clause-refused : goal.returns-in-Ok-Some-Trace-clause-refused
+returns-in-Ok-Some-Trace-clause-refused g c h = inr (c.view_trace.ensures.refused h)
 
 -- a call whose words aren't accepted, or that was stopped for want of memory, has another status
 

@@ -69,6 +69,9 @@ gone c = subst (λ (o : Option Removed). IsPruned c.args.key (root_at c.sweep.ne
 keeps_none : (c : In_ok-pruned) → KeepsRegisters c.args.self.now (record { pool = c.pruned.new.pool; roots = c.sweep.new.self.roots; tidy = true })
 keeps_none c = registers_then c.in_ok-sweep.ensures.same (same_kept c.sweep.new.self c.pruned.new.pool c.in_ok-sweep.ensures.moves.forest c.in_ok-pruned.ensures.calls)
 
+pub returns-in-None-clause-absent : goal.returns-in-None-clause-absent
+returns-in-None-clause-absent c = λ e. keeps_none (goal.at.returns-in-None-clause-absent c).In_ok-pruned
+
 pub replace-requires-clause-forest : goal.replace-requires-clause-forest
 replace-requires-clause-forest c =
     let s = c.in_ok-sweep.ensures in

@@ -2,7 +2,7 @@ use Rattle.std.proofs.Common.{refl}
 use Rattle.shm_tree.specs.Forests.{version}
 use Rattle.shm_tree.specs.declared.line.TreeLine.TheVariants as lines
 use Rattle.shm_tree.proofs.{CutShort.{read_ended, read_off}, Costing.got_costs}
-use Rattle.shm_tree.proofs.Moving.{got_versions, read_died, read_moves}
+use Rattle.shm_tree.proofs.Moving.{got_same, got_versions, read_died, read_moves}
 use Rattle.shm_tree.proofs.registers.Registers.get.Goals as goal
 
 pub read-requires : goal.read-requires
@@ -22,6 +22,7 @@ returns c =
       moves = read_moves f q _ c.requires.forest r.went r.working r.latch r.still died;
       died = read_died c.read.new.life.left _ died;
       is = got_versions f q f.tidy c.args.at c.args.key _ c.requires.at r.is r.still;
+      same = got_same f q f.tidy _ r.still;
       costs = got_costs _ _ f q c.args.at _ c.requires.at r.costs;
       told = refl;
     }

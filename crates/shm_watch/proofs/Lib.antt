@@ -1,0 +1,4 @@
+mod Worked
+mod Giving
+mod Answering
+mod Showing
