@@ -5,6 +5,7 @@
     python3 tools/figures.py --json IMAGE    what `cxlview stats --json` writes
     python3 tools/figures.py --svg IMAGE     what `cxlview pool` writes
     python3 tools/figures.py --svg-of-0 IMAGE    what `cxlview pool --client 0` writes
+    python3 tools/figures.py --changes IMAGE IMAGE    what `cxlview pool --changes` writes of the two
 
 It reads the image as tools/audit.py does, by docs/IMAGE.md and docs/WORDS.md."""
 import html
@@ -173,6 +174,50 @@ def svg_of(pool, client=None):
     return "".join([*out, "</svg>\n"])
 
 
+CHANGES = {"came": (0, 158, 115), "went": (213, 94, 0), "changed": (0, 114, 178), "as before": (150, 150, 150), "free": (243, 236, 214), "no blocks": GREY}
+
+
+def page_of(pool, s, p):
+    """The class of a page, 0 where the pool doesn't have it, and the words of its live blocks by their places in it."""
+    size = pool.words[pool.pages + 16 * s + p] if s < pool.segments else 0
+    first = pool.bodies + 2048 * s + 128 * p
+    blocks = {k: pool.words[first + k : first + k + size] for k in range(0, 128, size or 128)} if size else {}
+    return size, {k: words for k, words in blocks.items() if header(words[0])}
+
+
+def page_changes(old, new, x, y):
+    """A page of which this is the old and the new state: free blocks, those that went, those as before, those that changed and those that came."""
+    (size, was), (now_size, now) = old, new
+    kept = was if size == now_size else {}
+    live = [(name, [k for k in now if name == ("came" if k not in kept else "as before" if kept[k] == now[k] else "changed")]) for name in ("as before", "changed", "came")]
+    free = [k for k in range(0, 128, now_size or 128) if k not in now and k not in kept] if now_size else []
+    went = [k for k in was if not (size == now_size and k in now)]
+    out = [] if now_size else [rect(x, y, 128, 8 * LINE, GREY)]
+    for name, places in [("free", free), ("went", went), *live]:
+        wide = size if name == "went" else now_size
+        out += [rect(x + 8 * (k % 16), y + LINE * (k // 16), 8 * min(wide, 16) - 2, LINE * max(wide // 16, 1) - 2, CHANGES[name]) for k in places]
+    return out
+
+
+def changes_of(before, after):
+    """The picture of what changed between two pools."""
+    segments = max(before.segments, after.segments)
+    rows = min(segments, MOST)
+    bottom = TOP + ROW * rows
+    out = [f'<svg xmlns="http://www.w3.org/2000/svg" viewBox="0 0 {WIDTH} {bottom + 60}" font-family="sans-serif" font-size="34">\n']
+    out.append(rect(0, 0, WIDTH, bottom + 60, (255, 255, 255)))
+    for x, name in zip((16, 286, 556, 886, 1246, 1516), CHANGES):
+        out += [rect(x, 32, 34, 34, CHANGES[name]), label(x + 46, 60, name)]
+    for s in range(rows):
+        y, owner = TOP + ROW * s, named(after.words[after.owners + s]) if s < after.segments else None
+        out.append(label(16, y + 52, f"{s}: nobody's" if owner is None else f"{s}: client {owner}"))
+        for p in range(16):
+            out += page_changes(page_of(before, s, p), page_of(after, s, p), LEFT + PAGE * p, y)
+    if rows < segments:
+        out.append(label(16, bottom + 36, f"and {segments - rows} more segments, not shown"))
+    return "".join([*out, "</svg>\n"])
+
+
 def shown_of(pool, form):
     """What is written of the pool: as text, as JSON or as SVG."""
     if form.startswith("--svg"):
@@ -181,6 +226,9 @@ def shown_of(pool, form):
 
 
 def main(words):
+    if words[:1] == ["--changes"] and len(words) == 3:
+        sys.stdout.write(changes_of(*(read(open(path, "rb").read()) for path in words[1:])))
+        return 0
     form = words[0] if words[:1] and (words[0] in ("--json", "--svg") or words[0].startswith("--svg-of-")) else ""
     if len(words) != 1 + bool(form):
         print(__doc__)

@@ -7,7 +7,7 @@ file. Run it at the top of the repository."""
 import glob, os, re, subprocess, sys
 
 tree = subprocess.run(["git", "ls-files"], capture_output=True, text=True).stdout.split()
-code = [f for f in tree if f.startswith("crates/") and f.endswith((".rt", ".antt")) or f in ("crates.txt", "HANDLES")]
+code = [f for f in tree if f.startswith("crates/") and f.endswith((".rt", ".antt")) or f.startswith("c/include/") or f in ("crates.txt", "HANDLES")]
 words = {w for f in code for w in re.findall(r"[A-Za-z_][A-Za-z0-9_]*", open(f, encoding="utf-8").read())}
 words |= {part for f in tree for part in re.split(r"[/.]", f)}
 # what the toolchain, its crates and the formats name, and a page may speak of

@@ -124,11 +124,10 @@ def steps_text(trace, turns, first, last):
     turns = list(turns)
     rows = [("client", "agent", "turn", "begins", "decides", "ends", "died", "work")]
     spans = {id(span): span for _, span, _ in course(trace, turns)}.values()
-    for c in sorted(trace.scripts):
-        for span in spans:
-            if span.who == c and span.first <= last and first <= span.last:
-                began = None if span.begins is None else span.first
-                rows.append((str(c), str(span.agent), shown(began), shown(span.begins), shown(span.decides), shown(span.ends), shown(span.died), span.work))
+    for span in sorted(spans, key=lambda span: span.last):
+        if span.first <= last and first <= span.last:
+            began = None if span.begins is None else span.first
+            rows.append((str(span.who), str(span.agent), shown(began), shown(span.begins), shown(span.decides), shown(span.ends), shown(span.died), span.work))
     widths = (6, 7, 9, 9, 9, 9, 9)
     lines = ["".join(cell.rjust(width) for cell, width in zip(row, widths)) + "  " + row[7] for row in rows]
     return "\n".join([*lines, "", f"turns {len(turns)}", ""])

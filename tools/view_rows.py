@@ -9,13 +9,15 @@ import os
 import sys
 
 from audit import read
-from figures import shown_of
+from figures import changes_of, shown_of
 from runs import shown_of as run_shown
 
 COMMANDS = """usage:
   cxlview stats < IMAGE           write the figures of an image as aligned text
   cxlview stats --json < IMAGE    write them as JSON
   cxlview pool < IMAGE > SVG      draw the pool of an image
+  cat IMAGE IMAGE | cxlview pool --changes > SVG
+                                  draw what changed from the first image to the second one
   cxlview steps < TRACE           write at which word steps each command of a trace's replay begins, decides and ends
   cxlview steps --words < TRACE   write each word step of it
   cxlview run < TRACE > SVG       draw the replay of a trace
@@ -56,6 +58,14 @@ class Rows:
     def set(self, at, word):
         self.rows.append(f"set {at} {word}")
         self.data = with_words(self.data, {at: word})
+
+    def images(self, before, after):
+        """Makes these images, the second one behind the first one."""
+        self.image(before)
+        pool = read(after)
+        self.rows.append(f"and {2 if pool.wide else 1} {pool.clients} {pool.segments}")
+        self.rows += [f"set {at + len(before) // 8} {word}" for at, word in enumerate(pool.words) if word]
+        self.data += after
 
     def cut(self, length):
         self.rows.append(f"cut {length}")
@@ -143,6 +153,15 @@ def busy(wide):
     return with_words(data, words)
 
 
+def later(data):
+    """Such an image later: a value has one reference more, a reference was taken back, and a page has another class and another block."""
+    pool = read(data)
+    value, page = pool.bodies + 2 * 128, pool.bodies + 2048 * 2 + 128 * 15
+    words = {value: live(0, 6), pool.roots + 1: value, pool.queues + 10 * (2 * 3 + 1) + 2: 0, page + 16: 0, page + 17: 0}
+    words |= {pool.pages + 16 * 2 + 15: 8, page + 8: live(1, 1), page + 9: tag(pool, 0, 2, 1), pool.roots + 16: page + 8}
+    return with_words(data, words)
+
+
 def words_rows(rows):
     rows.title("words that aren't accepted")
     for words, why in (
@@ -158,6 +177,12 @@ def words_rows(rows):
         ("pool --client=x", CLIENTS),
         ("pool --client 0 --client=1", "cxlview: `pool` doesn't take a word twice\n"),
         ("stats --client 0", "cxlview: `stats` doesn't take `--client`\n"),
+        ("pool --changes --changes", "cxlview: `pool` doesn't take a word twice\n"),
+        ("pool --changes --client 0", "cxlview: `pool` doesn't take `--changes` and `--client` together\n"),
+        ("pool --changes=1", "cxlview: `pool` doesn't take `--changes=1`\n"),
+        ("pool --changes one.image", "cxlview: `pool` doesn't take `one.image`: it reads two images from standard input: `cat IMAGE IMAGE | cxlview pool --changes`\n"),
+        ("pool one.image --changes", "cxlview: `pool` doesn't take `one.image`: it reads two images from standard input: `cat IMAGE IMAGE | cxlview pool --changes`\n"),
+        ("stats --changes", "cxlview: `stats` doesn't take `--changes`\n"),
         ("steps one.trace", "cxlview: `steps` doesn't take `one.trace`: it reads standard input: `cxlview steps < one.trace`\n"),
         ("steps --json", "cxlview: `steps` doesn't take `--json`\n"),
         ("steps --words --words", "cxlview: `steps` doesn't take a word twice\n"),
@@ -241,6 +266,38 @@ def fault_rows(rows):
     rows.refused("refused reference 185 307", "word 185 of the pool, at byte 1504 of the image, is 307: a reference is 0, or names a live block with a count above 0")
 
 
+def change_rows(rows):
+    put, wide, four, five = (open(f"examples/{name}.image", "rb").read() for name in ("one_put", "one_put.format_2", "four_puts", "five_puts"))
+    rows.title("what changed between two images")
+    pool, narrow, more = empty(False, 1, 1), busy(False), busy(True)
+    pairs = [(put, put), (four, five), (pool, put), (put, pool), (put, wide), (narrow, later(narrow)), (later(more), more)]
+    for before, after in [*pairs, (put, narrow), (narrow, put), (pool, empty(True, 2, 65))]:
+        rows.images(before, after)
+        rows.call("pool --changes", 0, "", changes_of(read(before), read(after)))
+    rows.title("two images of which one is refused")
+    frame = "and the first 24 say what it is: `CXLSHM01` or `CXLSHM02`, how many clients, and how many segments"
+    page = "word 34 of the pool, at byte 296 of the image, is 5: the word of a page is 0, 4, 8, 16 or 32"
+
+    def refused(line, why):
+        rows.call("pool --changes", 3, f"{line}\ncxlview: of the {why}\n")
+
+    refused("refused short 0", f"first image: the image has 0 bytes, {frame}")
+    rows.image(put)
+    refused("refused short 0", f"second image: the image has 0 bytes, {frame}")
+    rows.cut(16807)
+    refused("refused length 16807 want 16808", "first image: the image has 16807 bytes, and by its clients and segments it has 16808")
+    rows.images(put, put)
+    rows.byte(7, ord("3"))
+    refused(f"refused magic {int.from_bytes(b'CXLSHM03', 'little')}", "first image: an image begins with `CXLSHM01` or `CXLSHM02`, and this one with `CXLSHM03`")
+    for first, which in ((0, "first"), (len(put) // 8, "second")):
+        rows.images(put, put)
+        rows.set(34 + first, 5)
+        refused("refused page 34 5", f"{which} image: {page}")
+    rows.images(put, put)
+    rows.rows.append("and 1 1 1")
+    refused("refused length 33616 want 16808", "second image: the image has 33616 bytes, and by its clients and segments it has 16808")
+
+
 def replay_rows(rows):
     rows.replayed("examples/one_put", "steps", "steps --words", "run", "steps --words --from 80 --to=90", "run --from 80 --to 90")
     rows.replayed("examples/death", "steps", "run", "steps --words --from 235 --to 240", "run --from=100", "run --to 300", "steps --from 236 --to 237")
@@ -288,6 +345,13 @@ def stream_rows(rows):
     picture = shown_of(read(rows.data), "--svg")
     rows.rows.append("write 2")
     rows.call("pool", 5, "cxlview: standard output can't be written\n", picture[:4096])
+    rows.title("the same of two images")
+    put = open("examples/one_put.image", "rb").read()
+    rows.images(put, put)
+    rows.rows.append("read 2")
+    rows.call("pool --changes", 4, "cxlview: standard input can't be read\n")
+    rows.rows.append("write 2")
+    rows.call("pool --changes", 5, "cxlview: standard output can't be written\n", changes_of(read(put), read(put))[:4096])
     rows.title("the same of a trace")
     trace, turns = replay_of("examples/one_put")
     rows.trace(trace)
@@ -304,6 +368,7 @@ def files():
     words_rows(rows)
     shown_rows(rows)
     fault_rows(rows)
+    change_rows(rows)
     replay_rows(rows)
     trace_fault_rows(rows)
     stream_rows(rows)

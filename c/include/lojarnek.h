@@ -2,8 +2,9 @@
  *
  * A pool is a table of 64-bit words. The caller says where they lie: in mapped memory, on another machine, in an array, anywhere that has an
  * 8-byte load, store and compare-exchange, each of them atomic and all of them in one order (sequentially consistent). Up to 16 identities
- * work in a pool, each with a table of keys and numbers of its own that the others may read. A session is what one identity is at. It makes
- * no word step itself: it says which one is next, and is told the word that was found.
+ * work in a pool. In a pool for tables each has a table of keys and numbers of its own that the others may read; in a pool for single blocks
+ * each has 16 roots, which name blocks of words that name one another. A session is what one identity is at. It makes no word step
+ * itself: it says which one is next, and is told the word that was found.
  *
  *     lj_said s = lj_put(session, key, number);                the first word step, or a refusal
  *     while (lj_is_step(s)) s = lj_tell(session, make(s));     the next one, or the answer
@@ -21,6 +22,8 @@
  * 3. Nobody else writes the pool's words.
  * 4. A session is one of lj_open, isn't closed, and is in one call at a time. Any thread may make the call.
  * 5. Whoever opens a session read the status word after it had the identity.
+ * 6. All sessions of a pool are of its kind: lj_open in a pool for tables, lj_open_singles in one for single blocks. (lojarnek_map.h keeps the kind in
+ *    the file.)
  *
  * Everything else that can be done wrong is answered by a refusal, and changes nothing. No call waits, prints, starts a thread, opens a
  * file, or keeps anything outside of the session; lj_open and lj_close alone allocate and free, by malloc and free.
@@ -36,8 +39,8 @@ extern "C" {
 
 /* The version of this header: the first number changes where a program has to change. */
 #define LJ_VERSION_MAJOR 1
-#define LJ_VERSION_MINOR 0
-#define LJ_VERSION "1.0"
+#define LJ_VERSION_MINOR 1
+#define LJ_VERSION "1.1"
 
 /* What an identity is at. */
 typedef struct lj_session lj_session;
@@ -66,7 +69,13 @@ enum {
     LJ_QUEUE_FULL = 22, /* of send: the queue is full, its head `first`, its tail `second` */
     LJ_EMPTY = 23,      /* of recv: the queue is empty, its head `first` */
     LJ_ROOTS_FULL = 24, /* the identity has no empty root left */
-    LJ_ERA_SPENT = 25,  /* the identity's era, `first`, is the greatest one: it can change no count any more. A pool of usual age never says it */
+    LJ_ERA_SPENT = 25,  /* the identity's era, `first`, is spent: it can change no count any more. See "A spent era"; a pool of usual age never says it */
+    LJ_ROOT = 26,       /* of alloc, share, receive, follow: the own root `first` names the block `at` */
+    LJ_NO_BLOCK = 27,   /* the root, or of follow the reference word, names no block */
+    LJ_NO_WORD = 28,    /* the block has `first` words of that kind, and none of this index */
+    LJ_NOT_OWN = 29,    /* of set and clear: the block is of the identity `first`; references are set in own blocks alone */
+    LJ_NOT_HELD = 30,   /* the own latch was lost in the midst of it: somebody else wrote the pool's words */
+    LJ_COUNT = 31,      /* of send: `first` were sent to that identity before; of drain: `first` were let go */
 
     /* How an identity stands (lj_stage), and what is certain of what was given up (lj_fall). */
     LJ_VACANT = 32,     /* it is new or has left: it may join; `first` is 1 where an operation is in progress */
@@ -105,6 +114,9 @@ uint32_t lj_status_at(uint32_t format, uint32_t clients, uint32_t segments, uint
  * caller's, to be closed once. */
 uint32_t lj_open(uint32_t format, uint32_t clients, uint32_t segments, uint32_t who, uint64_t status, lj_session **out);
 
+/* The same in a pool for single blocks. */
+uint32_t lj_open_singles(uint32_t format, uint32_t clients, uint32_t segments, uint32_t who, uint64_t status, lj_session **out);
+
 /* Frees a session, in whatever it is at. The pool's words stay as they are: an identity that wasn't vacant is dead from then on. */
 void lj_close(lj_session *session);
 
@@ -117,27 +129,37 @@ lj_said lj_tell(lj_session *session, uint64_t found);
 enum {
     LJ_OP_JOIN = 1, LJ_OP_LEAVE = 2, LJ_OP_RECOVER = 3,
     LJ_OP_PUT = 4, LJ_OP_GET = 5, LJ_OP_DEL = 6, LJ_OP_COPY = 7, LJ_OP_SEND = 8, LJ_OP_RECV = 9,
-    LJ_OP_STAGE = 16, LJ_OP_ASK = 17, LJ_OP_FALL = 18
+    LJ_OP_STAGE = 16, LJ_OP_ASK = 17, LJ_OP_FALL = 18,
+    LJ_OP_ALLOC = 20, LJ_OP_SHARE = 21, LJ_OP_READ = 22, LJ_OP_SET = 23, LJ_OP_CLEAR = 24, LJ_OP_DROP = 25,
+    LJ_OP_SEND_BLOCK = 26, LJ_OP_RECV_BLOCK = 27, LJ_OP_DRAIN = 28, LJ_OP_FOLLOW = 29, LJ_OP_WORD = 30
 };
 
 /* Which of the three kinds something said is; what lj_stage says is none of them. */
 static inline int lj_is_step(lj_said s) { return s.code <= LJ_EXCHANGE; }
-static inline int lj_is_answer(lj_said s) { return s.code >= LJ_OK && s.code <= LJ_ERA_SPENT; }
+static inline int lj_is_answer(lj_said s) { return s.code >= LJ_OK && s.code <= LJ_COUNT; }
 static inline int lj_is_refusal(lj_said s) { return s.code >= LJ_OUT_OF_RANGE; }
+
+/* ---- A spent era
+ *
+ * Each change of a count takes an era of its identity, a number below 2^47 that only grows: at a million puts a second it lasts more than half a
+ * year. What is proved of sessions speaks of operations that begin while the own era is at most 2^47 - 4. So after LJ_ERA_SPENT begin nothing
+ * else: close the session, open one anew, which takes the identity for dead, and recover it. Where the recovery answers LJ_ERA_SPENT too the
+ * identity is used up: it stays dead and has no latch any more, and the others go on. */
 
 /* Each of these says the first word step of an operation, or a refusal. */
 
 /* A vacant identity becomes live; its table is as it left it. Answers LJ_OK. */
 static inline lj_said lj_join(lj_session *s) { return lj_call(s, LJ_OP_JOIN, 0, 0, 0); }
 
-/* A live identity becomes vacant; its table stays. Answers LJ_OK, or LJ_ERA_SPENT, and it stays live. */
+/* A live identity becomes vacant; its table stays, its roots come to name none. Answers LJ_OK; or LJ_ERA_SPENT, and it stays live, in a pool for single blocks
+ * it is dead then. */
 static inline lj_said lj_leave(lj_session *s) { return lj_call(s, LJ_OP_LEAVE, 0, 0, 0); }
 
 /* A dead identity becomes vacant; its table is as before or as after the command that it died in. Whoever has the identity may do this, and may
  * die in it: whoever has it next does it again. Answers LJ_OK, or LJ_ERA_SPENT, and it stays dead. */
 static inline lj_said lj_recover(lj_session *s) { return lj_call(s, LJ_OP_RECOVER, 0, 0, 0); }
 
-/* Commands of a live identity. Keys are any 32-bit numbers, numbers any 64-bit ones; `author` is any identity of the pool, oneself too. A table
+/* Commands of a live identity, in a pool for tables. Keys are any 32-bit numbers, numbers any 64-bit ones; `author` is any identity of the pool, oneself too. A table
  * has a latch: a command goes on asking for word steps while somebody else has the latch that it needs. Where that one has died it does so until
  * somebody has recovered it, so whoever has made some thousand word steps in vain looks whether somebody is dead (lojarnek_map.h does so).
  * Each of them may answer LJ_ERA_SPENT, and each but get LJ_COUNT_FULL: a block would have more than 1,023 references. Where a command isn't
@@ -163,6 +185,52 @@ static inline lj_said lj_send_key(lj_session *s, uint32_t to, uint32_t key) { re
 
 /* The key gets the next value of the queue from another identity. Answers LJ_VALUE; LJ_EMPTY, LJ_FULL, LJ_ROOTS_FULL. */
 static inline lj_said lj_recv_key(lj_session *s, uint32_t from, uint32_t key) { return lj_call(s, LJ_OP_RECV, from, key, 0); }
+
+/* ---- Single blocks: of a live identity in a pool for them, and refused as LJ_OUT_OF_RANGE in a pool for tables, as the commands above are here.
+ *
+ * A block has up to 16 reference words, each of which names a block or none, and up to 8 plain words, which stay as they were made. It is freed once no
+ * root, no reference word and no queue names it. It is named by a root, 0 to 15, of the identity that calls. A reference word is set in blocks that
+ * the identity made itself, under its own latch, and followed under the latch of whoever made the block: where somebody else has the latch the
+ * call goes on asking for word steps, as commands do. Each of them may answer LJ_ERA_SPENT, and then the identity is dead from then on. */
+
+/* A plain word of the block that is made next, by its index, 0 to 7. Says LJ_OK at once, and asks for no word step. Words are 0 at first, and stay for the
+ * blocks after the next one. */
+static inline lj_said lj_word(lj_session *s, uint32_t index, uint64_t word) { return lj_call(s, LJ_OP_WORD, index, word, 0); }
+
+/* Where a search for a free block begins: so many segments, pages and blocks behind the first ones. 0 is no hint; any other numbers will do. */
+static inline uint64_t lj_near(uint16_t segment, uint8_t page, uint8_t index) { return segment | (uint64_t)page << 16 | (uint64_t)index << 24; }
+
+/* A new block of so many reference words, which name none, and so many plain words gets the least empty root. `near` is of lj_near, or 0.
+ * Answers LJ_ROOT; LJ_FULL, LJ_ROOTS_FULL. */
+static inline lj_said lj_alloc(lj_session *s, uint32_t refs, uint32_t plain, uint64_t near) { return lj_call(s, LJ_OP_ALLOC, refs, plain, near); }
+
+/* The block that a root names gets the least empty root too. Answers LJ_ROOT; LJ_NO_BLOCK, LJ_ROOTS_FULL, LJ_COUNT_FULL. */
+static inline lj_said lj_share(lj_session *s, uint32_t root) { return lj_call(s, LJ_OP_SHARE, root, 0, 0); }
+
+/* A plain word of the block that a root names. Answers LJ_VALUE; LJ_NO_BLOCK, LJ_NO_WORD. */
+static inline lj_said lj_read(lj_session *s, uint32_t root, uint32_t word) { return lj_call(s, LJ_OP_READ, root, word, 0); }
+
+/* A reference word of the own block that a root names comes to name the block that the root `to` names. Answers LJ_OK; LJ_NO_BLOCK, LJ_NO_WORD, LJ_NOT_OWN,
+ * LJ_COUNT_FULL. */
+static inline lj_said lj_set(lj_session *s, uint32_t root, uint32_t word, uint32_t to) { return lj_call(s, LJ_OP_SET, root, word, to); }
+
+/* The same word comes to name none. Answers LJ_OK; LJ_NO_BLOCK, LJ_NO_WORD, LJ_NOT_OWN. */
+static inline lj_said lj_clear(lj_session *s, uint32_t root, uint32_t word) { return lj_call(s, LJ_OP_CLEAR, root, word, 0); }
+
+/* A root comes to name none, and what only it named is freed. Answers LJ_OK; LJ_NO_BLOCK. */
+static inline lj_said lj_drop(lj_session *s, uint32_t root) { return lj_call(s, LJ_OP_DROP, root, 0, 0); }
+
+/* The block that a root names goes into the queue to another identity; the root stays. Answers LJ_COUNT; LJ_NO_BLOCK, LJ_QUEUE_FULL, LJ_COUNT_FULL. */
+static inline lj_said lj_send_block(lj_session *s, uint32_t to, uint32_t root) { return lj_call(s, LJ_OP_SEND_BLOCK, to, root, 0); }
+
+/* The next block of the queue from another identity gets the least empty root. Answers LJ_ROOT; LJ_EMPTY, LJ_ROOTS_FULL, LJ_COUNT_FULL. */
+static inline lj_said lj_recv_block(lj_session *s, uint32_t from) { return lj_call(s, LJ_OP_RECV_BLOCK, from, 0, 0); }
+
+/* All blocks in all queues to the identity are let go. Answers LJ_COUNT. */
+static inline lj_said lj_drain(lj_session *s) { return lj_call(s, LJ_OP_DRAIN, 0, 0, 0); }
+
+/* The block that a reference word of the block of a root names gets the least empty root. Answers LJ_ROOT; LJ_NO_BLOCK, LJ_NO_WORD, LJ_ROOTS_FULL, LJ_COUNT_FULL. */
+static inline lj_said lj_follow(lj_session *s, uint32_t root, uint32_t word) { return lj_call(s, LJ_OP_FOLLOW, root, word, 0); }
 
 /* These say something at once, and ask for no word step. */
 

@@ -78,12 +78,17 @@ public:
     lj_said recv(std::uint32_t from, std::uint32_t key) { return run(lj_recv_key(at.get(), from, key)); }
 };
 
-/// A pool in a mapped file.
+/// A pool for tables in a mapped file.
 class Pool {
     lj_pool pool{};
 
 public:
-    explicit Pool(const std::string &path) { check(lj_pool_attach(&pool, path.c_str())); }
+    explicit Pool(const std::string &path) {
+        check(lj_pool_attach(&pool, path.c_str()));
+        if (pool.kind == LJ_FOR_TABLES) return;
+        lj_pool_close(&pool);
+        check(LJ_OTHER_KIND);
+    }
     Pool(const std::string &path, Sizes sizes) { check(lj_pool_open(&pool, path.c_str(), sizes.format, sizes.clients, sizes.segments)); }
     ~Pool() { lj_pool_close(&pool); }
     Pool(const Pool &) = delete;

@@ -5,8 +5,8 @@
  *     if (lj_client_ready(&client).code == LJ_OK) lj_run(&client, lj_put(client.session, 7, 42));
  *     lj_run(&client, lj_leave(client.session)); lj_detach(&client); lj_pool_close(&pool);
  *
- * The file is a page of sizes and then the pool's words: 8 numbers (the mark, this layout's version, format, clients, segments, first era, how many
- * words there are, and where they begin in bytes), each of 8 bytes in the machine's order. It outlives processes, and on a disk the machine's orderly
+ * The file is a page of sizes and then the pool's words: 9 numbers (the mark, this layout's version, format, clients, segments, first era, how many
+ * words there are, where they begin in bytes, and the kind: 0 for tables, 1 for single blocks), each of 8 bytes in the machine's order. It outlives processes, and on a disk the machine's orderly
  * end. It doesn't outlive the loss of power: pages reach a disk in any order. After that judge it by `lojarnek image` and `cxlshm audit`, and throw
  * it away where it isn't clean.
  *
@@ -38,6 +38,8 @@
 #define LJ_MARK 0x4b454e52414a4f4cULL        /* "LOJARNEK" */
 #define LJ_MARK_BEGUN 0x4b454e52414a4f6cULL  /* "lOJARNEK": the file's creation was begun, and isn't done */
 #define LJ_FILE_VERSION 1
+#define LJ_FOR_TABLES 0
+#define LJ_FOR_SINGLES 1
 #define LJ_WORDS_AT 4096
 #define LJ_LOCK_CREATION 64                  /* the byte that is locked by whoever makes the pool or looks whether it is one */
 
@@ -49,12 +51,13 @@ enum {
     LJ_BAD_SIZES = 1004,    /* a mark, but no pool has such sizes, or as many words as the page says */
     LJ_BAD_LENGTH = 1005,   /* the file is longer or shorter than its pool */
     LJ_OTHER_SIZES = 1006,  /* of lj_pool_open: a pool of other sizes than were asked for */
-    LJ_REPLACED = 1007      /* of lj_attach: another file stands at the path by now */
+    LJ_REPLACED = 1007,     /* of lj_attach: another file stands at the path by now */
+    LJ_OTHER_KIND = 1008    /* of lj_pool_open: a pool for single blocks, or the other way round */
 };
 
 /* A pool that this process has mapped. One for all threads; the fields are to be read only. */
 typedef struct {
-    uint32_t format, clients, segments, total;
+    uint32_t format, clients, segments, total, kind;
     uint64_t *words;
     void *base;
     size_t bytes;
@@ -96,6 +99,7 @@ static inline const char *lj_map_text(int error) {
     case LJ_BAD_SIZES: return "no pool has such sizes";
     case LJ_BAD_LENGTH: return "the file is longer or shorter than its pool";
     case LJ_OTHER_SIZES: return "a pool of other sizes";
+    case LJ_OTHER_KIND: return "a pool of the other kind";
     case LJ_REPLACED: return "another file has taken the pool's place";
     case EAGAIN: return "somebody has this identity";
     default: return strerror(error);
@@ -117,7 +121,8 @@ static inline int lj_lock_byte(int fd, long byte, short type, int wait) {
 }
 
 /* (inner) Sets the fields by the sizes, and maps the file. 0, or what is wrong. */
-static inline int lj_pool_map(lj_pool *pool, uint32_t format, uint32_t clients, uint32_t segments) {
+static inline int lj_pool_map(lj_pool *pool, uint32_t kind, uint32_t format, uint32_t clients, uint32_t segments) {
+    pool->kind = kind;
     pool->format = format;
     pool->clients = clients;
     pool->segments = segments;
@@ -132,27 +137,27 @@ static inline int lj_pool_map(lj_pool *pool, uint32_t format, uint32_t clients, 
 
 /* (inner) Whether the file, of this length, has a pool; then it is mapped. 0, or what is wrong. */
 static inline int lj_pool_judge(lj_pool *pool, uint64_t length) {
-    uint64_t page[8];
+    uint64_t page[9];
     if (length < LJ_WORDS_AT) return LJ_NO_POOL;
     if (pread(pool->fd, page, sizeof page, 0) != (ssize_t)sizeof page) return EIO;
     if (page[0] != LJ_MARK) return LJ_NO_POOL;
     if (page[1] != LJ_FILE_VERSION) return LJ_OTHER_VERSION;
-    if (page[2] > UINT32_MAX || page[3] > UINT32_MAX || page[4] > UINT32_MAX || page[7] != LJ_WORDS_AT) return LJ_BAD_SIZES;
+    if (page[2] > UINT32_MAX || page[3] > UINT32_MAX || page[4] > UINT32_MAX || page[7] != LJ_WORDS_AT || page[8] > LJ_FOR_SINGLES) return LJ_BAD_SIZES;
     uint32_t total = lj_total((uint32_t)page[2], (uint32_t)page[3], (uint32_t)page[4]);
     if (!total || page[6] != total) return LJ_BAD_SIZES;
     if (length != LJ_WORDS_AT + 8 * (uint64_t)total) return LJ_BAD_LENGTH;
-    return lj_pool_map(pool, (uint32_t)page[2], (uint32_t)page[3], (uint32_t)page[4]);
+    return lj_pool_map(pool, (uint32_t)page[8], (uint32_t)page[2], (uint32_t)page[3], (uint32_t)page[4]);
 }
 
 /* (inner) Writes a new pool, its mark last. The file is empty, or its creation was cut short. 0, or what is wrong. */
-static inline int lj_pool_write(lj_pool *pool, uint32_t format, uint32_t clients, uint32_t segments) {
-    uint64_t page[8] = { LJ_MARK_BEGUN, LJ_FILE_VERSION, format, clients, segments, 1, lj_total(format, clients, segments), LJ_WORDS_AT };
+static inline int lj_pool_write(lj_pool *pool, uint32_t kind, uint32_t format, uint32_t clients, uint32_t segments) {
+    uint64_t page[9] = { LJ_MARK_BEGUN, LJ_FILE_VERSION, format, clients, segments, 1, lj_total(format, clients, segments), LJ_WORDS_AT, kind };
     off_t bytes = (off_t)(LJ_WORDS_AT + 8 * page[6]);
     if (!page[6]) return LJ_BAD_SIZES;
     if (pwrite(pool->fd, page, sizeof page, 0) != (ssize_t)sizeof page) return errno ? errno : ENOSPC;
     /* (the blocks are taken now, so that no store can find the disk full) */
     int e = ftruncate(pool->fd, bytes) ? errno : posix_fallocate(pool->fd, 0, bytes);
-    if (e || (e = lj_pool_map(pool, format, clients, segments))) return e;
+    if (e || (e = lj_pool_map(pool, kind, format, clients, segments))) return e;
     for (uint32_t at = 0; at < pool->total; at++) pool->words[at] = lj_first_word(format, clients, segments, 1, at);
     __atomic_store_n((uint64_t *)pool->base, LJ_MARK, __ATOMIC_SEQ_CST);
     return 0;
@@ -169,7 +174,7 @@ static inline int lj_pool_look(lj_pool *pool) {
 }
 
 /* (inner) What the three calls below do, by `make`: 0 there has to be a pool, 1 it is made anew, 2 it is made where there is none. */
-static inline int lj_pool_begin(lj_pool *pool, const char *path, int make, uint32_t format, uint32_t clients, uint32_t segments, mode_t mode) {
+static inline int lj_pool_begin(lj_pool *pool, const char *path, int make, uint32_t kind, uint32_t format, uint32_t clients, uint32_t segments, mode_t mode) {
     memset(pool, 0, sizeof *pool);
     pool->base = MAP_FAILED;
     pool->fd = -1;
@@ -178,9 +183,10 @@ static inline int lj_pool_begin(lj_pool *pool, const char *path, int make, uint3
     if ((pool->fd = open(path, O_RDWR | O_CLOEXEC | (make ? O_CREAT : 0), mode)) < 0) return errno;
     if (lj_lock_byte(pool->fd, LJ_LOCK_CREATION, F_WRLCK, 1)) return errno;
     int e = lj_pool_look(pool);
-    if (e == LJ_UNFINISHED && make) e = lj_pool_write(pool, format, clients, segments);
+    if (e == LJ_UNFINISHED && make) e = lj_pool_write(pool, kind, format, clients, segments);
     else if (!e && make == 1) e = EEXIST;
     else if (!e && make == 2 && (pool->format != format || pool->clients != clients || pool->segments != segments)) e = LJ_OTHER_SIZES;
+    else if (!e && make == 2 && pool->kind != kind) e = LJ_OTHER_KIND;
     return lj_lock_byte(pool->fd, LJ_LOCK_CREATION, F_UNLCK, 0) && !e ? errno : e;
 }
 
@@ -204,19 +210,27 @@ static inline int lj_pool_done(lj_pool *pool, int e) {
  * to the pool. 0; EEXIST where there is a pool, LJ_NO_POOL where there is another file (nothing is written then); LJ_BAD_SIZES; or an error number.
  * Two that make it at once wait for one another. */
 static inline int lj_pool_create(lj_pool *pool, const char *path, uint32_t format, uint32_t clients, uint32_t segments, mode_t mode) {
-    return lj_pool_done(pool, lj_pool_begin(pool, path, 1, format, clients, segments, mode));
+    return lj_pool_done(pool, lj_pool_begin(pool, path, 1, LJ_FOR_TABLES, format, clients, segments, mode));
 }
 
-/* Maps the pool that is in the file, of whatever sizes: `pool` has them then. 0; ENOENT, LJ_NO_POOL, LJ_UNFINISHED, LJ_OTHER_VERSION, LJ_BAD_SIZES, LJ_BAD_LENGTH;
+/* Maps the pool that is in the file, of whatever kind and sizes: `pool` has them then. 0; ENOENT, LJ_NO_POOL, LJ_UNFINISHED, LJ_OTHER_VERSION, LJ_BAD_SIZES, LJ_BAD_LENGTH;
  * or an error number. It waits while somebody makes the pool. */
 static inline int lj_pool_attach(lj_pool *pool, const char *path) {
-    return lj_pool_done(pool, lj_pool_begin(pool, path, 0, 0, 0, 0, 0));
+    return lj_pool_done(pool, lj_pool_begin(pool, path, 0, 0, 0, 0, 0, 0));
 }
 
 /* Maps the pool of these sizes that is in the file, and makes it first where there is none, with the permissions 0660. 0; LJ_OTHER_SIZES, or what the two
- * above answer. */
+ * above answer; LJ_OTHER_KIND. */
 static inline int lj_pool_open(lj_pool *pool, const char *path, uint32_t format, uint32_t clients, uint32_t segments) {
-    return lj_pool_done(pool, lj_pool_begin(pool, path, 2, format, clients, segments, 0660));
+    return lj_pool_done(pool, lj_pool_begin(pool, path, 2, LJ_FOR_TABLES, format, clients, segments, 0660));
+}
+
+/* The same for a pool for single blocks: in a new or empty file, and the pool that is there or a new one. A pool of the other kind is LJ_OTHER_KIND. */
+static inline int lj_pool_create_singles(lj_pool *pool, const char *path, uint32_t format, uint32_t clients, uint32_t segments, mode_t mode) {
+    return lj_pool_done(pool, lj_pool_begin(pool, path, 1, LJ_FOR_SINGLES, format, clients, segments, mode));
+}
+static inline int lj_pool_open_singles(lj_pool *pool, const char *path, uint32_t format, uint32_t clients, uint32_t segments) {
+    return lj_pool_done(pool, lj_pool_begin(pool, path, 2, LJ_FOR_SINGLES, format, clients, segments, 0660));
 }
 
 /* Writes the mapped pages to the disk, and waits for it: a copy that outlives the loss of power where nobody works meanwhile. 0, or an error number. */
@@ -295,7 +309,8 @@ static inline int lj_attach(lj_client *client, lj_pool *pool, uint32_t who) {
 #if LJ_SABOTAGE == 2 /* a dead identity is taken for one that has left */
     if (status == 1 || status == 2) status = 3;
 #endif
-    uint32_t code = lj_open(pool->format, pool->clients, pool->segments, who, status, &client->session);
+    uint32_t code = pool->kind == LJ_FOR_SINGLES ? lj_open_singles(pool->format, pool->clients, pool->segments, who, status, &client->session)
+                                                  : lj_open(pool->format, pool->clients, pool->segments, who, status, &client->session);
     if (!code) return 0;
     close(client->lock);
     client->lock = -1;

@@ -91,7 +91,7 @@ static int create(char **words, int count) {
 }
 
 static int status(lj_pool *pool) {
-    printf("format %u, %u clients, %u segments, %u words\n", pool->format, pool->clients, pool->segments, pool->total);
+    printf("format %u, %u clients, %u segments, %u words%s\n", pool->format, pool->clients, pool->segments, pool->total, pool->kind == LJ_FOR_SINGLES ? ", for single blocks" : "");
     for (uint32_t who = 0; who < pool->clients; who++) {
         uint64_t is = lj_status(pool, who);
         int taken = lj_is_taken(pool, who);
@@ -168,6 +168,7 @@ static const struct { const char *name; uint32_t op; int numbers; const char *wa
 static int work(lj_pool *pool, size_t which, char **words) {
     uint64_t who, given[3] = { 0, 0, 0 };
     lj_client client;
+    if (pool->kind != LJ_FOR_TABLES) return misused("a pool for single blocks has no tables");
     if (number(words[0], 15, &who)) return 2;
     for (int i = 0; i < commands[which].numbers; i++)
         if (number(words[1 + i], commands[which].most[i], &given[i])) return 2;

@@ -4,12 +4,16 @@
 uint32_t ljm_version(void) { return LJ_VERSION_MAJOR * 1000 + LJ_VERSION_MINOR; }
 const char *ljm_text(int error) { return lj_map_text(error); }
 
-/* `make`: 0 attach, 1 create, 2 either. */
+/* `make`: 0 attach, 1 create, 2 either. Sessions of these calls are for tables, so a pool for single blocks is LJ_OTHER_KIND. */
 int ljm_open(const char *path, int make, uint32_t format, uint32_t clients, uint32_t segments, uint32_t mode, lj_pool **out) {
     lj_pool *pool = malloc(sizeof *pool);
     if (!pool) return ENOMEM;
     int e = make == 0 ? lj_pool_attach(pool, path)
         : make == 1 ? lj_pool_create(pool, path, format, clients, segments, (mode_t)mode) : lj_pool_open(pool, path, format, clients, segments);
+    if (!e && pool->kind != LJ_FOR_TABLES) {
+        lj_pool_close(pool);
+        e = LJ_OTHER_KIND;
+    }
     if (e) free(pool);
     else *out = pool;
     return e;

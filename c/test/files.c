@@ -52,8 +52,8 @@ static void forged(void) {
     static const struct { int at; uint64_t is; int error; } forged[] = {
         { 0, LJ_MARK + 1, LJ_NO_POOL }, { 0, 0, LJ_NO_POOL }, { 0, LJ_MARK_BEGUN, LJ_UNFINISHED }, { 1, 2, LJ_OTHER_VERSION }, { 1, 0, LJ_OTHER_VERSION },
         { 2, 2, LJ_BAD_SIZES }, { 2, 3, LJ_BAD_SIZES }, { 3, 3, LJ_BAD_SIZES }, { 3, 0, LJ_BAD_SIZES }, { 3, 1ull << 32 | 2, LJ_BAD_SIZES }, { 4, 4, LJ_BAD_SIZES },
-        { 4, 1ull << 32 | 3, LJ_BAD_SIZES }, { 6, 1, LJ_BAD_SIZES }, { 7, 8192, LJ_BAD_SIZES } };
-    uint64_t page[8] = { LJ_MARK, LJ_FILE_VERSION, 1, 2, 3, 1, lj_total(1, 2, 3), LJ_WORDS_AT };
+        { 4, 1ull << 32 | 3, LJ_BAD_SIZES }, { 6, 1, LJ_BAD_SIZES }, { 7, 8192, LJ_BAD_SIZES }, { 8, 2, LJ_BAD_SIZES } };
+    uint64_t page[9] = { LJ_MARK, LJ_FILE_VERSION, 1, 2, 3, 1, lj_total(1, 2, 3), LJ_WORDS_AT, LJ_FOR_TABLES };
     for (size_t i = 0; i < sizeof forged / sizeof *forged; i++) {
         write_at(8 * forged[i].at, forged[i].is);
         expect("a forged page", attaches(), forged[i].error);
@@ -128,6 +128,34 @@ static void identities(void) {
     unlink(path);
 }
 
+/* A pool for single blocks is one from its creation on: the file says so to whoever attaches it. */
+static void kinds(void) {
+    lj_pool pool;
+    lj_client c;
+    unlink(path);
+    expect("a pool for single blocks", lj_pool_create_singles(&pool, path, 1, 2, 2, 0600), 0);
+    lj_pool_close(&pool);
+    expect("opened for tables", lj_pool_open(&pool, path, 1, 2, 2), LJ_OTHER_KIND);
+    expect("opened for single blocks", lj_pool_open_singles(&pool, path, 1, 2, 2), 0);
+    lj_pool_close(&pool);
+    expect("attached", lj_pool_attach(&pool, path), 0);
+    expect("its kind", pool.kind, LJ_FOR_SINGLES);
+    expect("an identity", lj_attach(&c, &pool, 1), 0);
+    expect("ready", (int)lj_client_ready(&c).code, LJ_OK);
+    expect("a put there", (int)lj_run(&c, lj_put(c.session, 1, 10)).code, LJ_OUT_OF_RANGE);
+    expect("a block", (int)lj_run(&c, lj_alloc(c.session, 1, 1, 0)).code, LJ_ROOT);
+    lj_detach(&c);
+    expect("recovered", lj_rescue(&pool, UINT32_MAX), 1);
+    lj_pool_close(&pool);
+    unlink(path);
+    expect("a pool for tables", creates(1, 2, 2), 0);
+    expect("opened for single blocks", lj_pool_open_singles(&pool, path, 1, 2, 2), LJ_OTHER_KIND);
+    expect("attached", lj_pool_attach(&pool, path), 0);
+    expect("its kind", pool.kind, LJ_FOR_TABLES);
+    lj_pool_close(&pool);
+    unlink(path);
+}
+
 /* A child makes a pool and puts until it is killed; everybody is dead then. Whoever comes next opens the file, and has the keys. */
 static void everybody_dies(void) {
     for (unsigned n = 0; n < 200; n++) {
@@ -186,6 +214,7 @@ int main(int argc, char **argv) {
     snprintf(path, sizeof path, "%s/files.pool", argc > 1 ? argv[1] : "/dev/shm");
     forged();
     identities();
+    kinds();
     everybody_dies();
     made_at_once();
     printf("files: %d of %d are as wanted\n", tests - bad, tests);

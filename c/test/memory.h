@@ -24,6 +24,13 @@ static inline lj_session *memory_open(memory *pool, uint32_t who) {
     return session;
 }
 
+static inline lj_session *memory_open_single(memory *pool, uint32_t who) {
+    lj_session *session = NULL;
+    uint32_t at = lj_status_at(pool->format, pool->clients, pool->segments, who);
+    if (!at || lj_open_singles(pool->format, pool->clients, pool->segments, who, pool->words[at], &session)) abort();
+    return session;
+}
+
 static inline uint64_t memory_make(memory *pool, lj_said said) {
     if (said.at >= pool->total) abort();
     uint64_t found = pool->words[said.at];

@@ -1,15 +1,16 @@
-/* steps.c: sessions beside recorded word steps of an independent implementation: steps < steps.vectors. */
+/* steps.c: sessions beside recorded word steps of an independent implementation: steps < steps.vectors, steps < singles.vectors. */
 #include "memory.h"
 
 typedef struct { lj_session *session; lj_said said; uint64_t sum; unsigned made; } seat;
 
 static memory pool;
 static seat seats[16];
+static int single; /* whether the pool is for single blocks */
 static unsigned line, operations, deaths;
 static unsigned long steps;
 
 static void wrong(const char *what, uint64_t is, uint64_t wanted) {
-    fprintf(stderr, "steps.vectors:%u: %s is %" PRIx64 ", %" PRIx64 " is wanted\n", line, what, is, wanted);
+    fprintf(stderr, "line %u: %s is %" PRIx64 ", %" PRIx64 " is wanted\n", line, what, is, wanted);
     exit(1);
 }
 
@@ -26,12 +27,13 @@ static uint64_t sum_of_words(void) {
     return sum;
 }
 
-static void new_pool(uint32_t format, uint32_t clients, uint32_t segments, uint32_t total, uint64_t sum) {
+static void new_pool(int is_single, uint32_t format, uint32_t clients, uint32_t segments, uint32_t total, uint64_t sum) {
     for (int who = 0; who < 16; who++) {
         if (seats[who].session) lj_close(seats[who].session);
         seats[who].session = NULL;
     }
     free(pool.words);
+    single = is_single;
     pool = memory_new(format, clients, segments);
     want("how many words", pool.total, total);
     want("the words of a new pool", sum_of_words(), sum);
@@ -66,8 +68,10 @@ int main(void) {
         uint64_t x = 0, y = 0, z = 0, sum;
         lj_said said;
         line++;
-        if (sscanf(text, "p %u %u %u %u %" SCNx64, &a, &b, &c, &d, &sum) == 5) new_pool(a, b, c, d, sum);
-        else if (sscanf(text, "o %u", &who) == 1) seats[who % 16].session = memory_open(&pool, who);
+        if (sscanf(text, "p %u %u %u %u %" SCNx64, &a, &b, &c, &d, &sum) == 5) new_pool(0, a, b, c, d, sum);
+        else if (sscanf(text, "b %u %u %u %u %" SCNx64, &a, &b, &c, &d, &sum) == 5) new_pool(1, a, b, c, d, sum);
+        else if (sscanf(text, "o %u", &who) == 1) seats[who % 16].session = single ? memory_open_single(&pool, who) : memory_open(&pool, who);
+        else if (sscanf(text, "k %u %u %" SCNu64, &who, &a, &x) == 3) want("a word that is kept", lj_word(seats[who % 16].session, a, x).code, LJ_OK);
         else if (sscanf(text, "x %u", &who) == 1) {
             lj_close(seats[who % 16].session);
             seats[who % 16].session = NULL;

@@ -70,7 +70,7 @@ def _check(error, path):
 
 
 class Pool:
-    """The pool in the file. With sizes it is made where there is none; without them there has to be one."""
+    """The pool for tables in the file. With sizes it is made where there is none; without them there has to be one."""
 
     def __init__(self, path, clients=None, segments=None, format=1):
         self._at, self.path = pointer(), os.fspath(path)

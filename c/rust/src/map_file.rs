@@ -26,7 +26,7 @@ impl MapFile {
         MapFile::begin(path.as_ref(), 2, sizes)
     }
 
-    /// The pool that is in the file, of whatever sizes.
+    /// The pool for tables that is in the file, of whatever sizes; one for single blocks is an error.
     pub fn attach(path: impl AsRef<Path>) -> Result<MapFile, Error> {
         MapFile::begin(path.as_ref(), 0, Sizes { format: 0, clients: 0, segments: 0 })
     }

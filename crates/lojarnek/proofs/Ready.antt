@@ -1,6 +1,7 @@
 -- clients that are ready for a call: how they come to be so, and stay so by commands
 use Rattle.std.proofs.{Common.{◌≡◌, ℕ, Bool, true, false, List, refl, sym, ◌∙◌}, lemmas.Bool.true≢false}
 use Rattle.shm_graph.specs.{declared.{ask.Me.Me, memo.Memo.Memo}, Agents.recovers, Asks.Trail, Events.Event, Runs.Stood}
+use Rattle.shm_count.specs.Waiting.{LeavesQueues}
 use Rattle.shm_recover.specs.Join.{JoinGives, join_fresh}
 use Rattle.shm_script.specs.{declared.{line.Line.Line, log.Answer.Answer}, Ranges.LineFits}
 use Rattle.shm_script.specs.declared.line.Line.TheVariants as line
@@ -57,6 +58,16 @@ ready_after l t t' before left (Done a) h at = by t.dead refl
           unsent = λ d j. k.rests.unsent j ∙ at.unsent alive j;
           untaken = λ d j. k.rests.untaken j ∙ at.untaken alive j;
         }
+
+-- and by any call that leaves its queues
+pub ready_then : (t t' : Acting) → IsReadyForCall t → t.dead ≡ false → Rests t' → LeavesQueues t.account.memo t'.account.memo → IsReadyForCall t'
+ready_then t t' h alive rests left =
+    record {
+      rests = rests;
+      none = λ d. left.latch ∙ h.none alive;
+      unsent = λ d j. left.unsent j ∙ h.unsent alive j;
+      untaken = λ d j. left.untaken j ∙ h.untaken alive j;
+    }
 
 -- a client that may leave is so
 pub ready_joined : (me : Me) (m0 : Memo) (t : Acting) → me.who ≡ t.account.who → JoinGives (join_fresh me) m0 t.account.memo t.account.memo.call tt → ClientMayLeave t.of t.account → IsReadyForCall t

@@ -123,7 +123,7 @@ run_stays l c c' (Err e) h = same_stays c c' h.1
 
 -- ---- refusals before and in a command
 
-dead_before : (c c' : Acts) → c.token.dead ≡ true → c' ≡ c → IsDeadNow c c'
+pub dead_before : (c c' : Acts) → c.token.dead ≡ true → c' ≡ c → IsDeadNow c c'
 dead_before c c' dead e = record { dead = ap (λ (x : Acts). x.token.dead) e ∙ dead; spent = λ alive. absurd (true≢false (sym dead ∙ alive)) }
 
 dead_now : (l : Line) (c c' : Acts) → HasRunLine l c c' reply.Died → IsDeadNow c c'

@@ -4,7 +4,7 @@ use Rattle.std.specs.Prelude.{Option, Some, None, IfSome, IfOk}
 use Rattle.lojarnek.specs.{declared.error.Error.{Error, TheVariants.Died}, Standing.Acts, Tables.WasTested}
 
 -- a refusal, as an answer of this type
-abbrev failed : (A : Type 0) → Error → Result A Error
+abbrev pub failed : (A : Type 0) → Error → Result A Error
 failed A e = Err e
 
 ok≢err : {A : Type 0} {P : Type 0} (a : A) (e : Error) → Ok a ≡ Err e → P

@@ -2,13 +2,17 @@
 use Rattle.std.specs.Prelude.{◌≡◌, ℕ, ◌-◌, ◌^◌, false, Option, None, slice_index}
 use Rattle.shm_graph.specs.declared.{memo.Status.TheVariants.Gone, run.Account.Account}
 use Rattle.kind_parts.specs.Reparting.{map_in}
-use Rattle.shm_pool.specs.{Called.Rests, Tokens.{Acting, Its, Token}}
+use Rattle.shm_pool.specs.{Called.Rests, Tokens.{Acting, Token}}
 use Rattle.lojarnek.specs.declared.{error.Error.{Error, TheVariants.{Died, EraSpent}}, stopped.Stopped.Stopped}
 
 -- a client, and how many word steps are left of its budget
 pub record Acts : Type 0 where
   pub token : Acting
   pub left : ℕ
+
+-- this client, with so many word steps left
+abbrev pub acts_of : Acting → ℕ → Acts
+acts_of t n = record { token = t; left = n }
 
 -- where the client hasn't died it is between two calls, holds no latch, and nothing waits for a tail or a head
 pub record IsReadyForCall (t : Acting) : Type 0 where
@@ -48,8 +52,9 @@ IsStop (Died d) = d ≡ false
 IsStop (EraSpent e) = Unit {0}
 IsStop e = ⊥
 
--- identity c of this pool is still there
-pub record IsStopped (p : Its) (c : ℕ) (s : Stopped) : Type 0 where
-  pub of : s.corpse.of ≡ p
-  pub who : s.corpse.account.who ≡ c
+-- the identity is still there, and its map is what it was
+pub record IsStopped (c : Token) (s : Stopped) : Type 0 where
+  pub of : s.corpse.of ≡ c.of
+  pub who : s.corpse.account.who ≡ c.account.who
+  pub map : KeepsMap c.account s.corpse.account
   pub why : IsStop s.error

@@ -1,11 +1,13 @@
 //! An identity that somebody works for.
 
-ghost use Rattle.std.specs.Prelude.{◌≡◌, ◌<◌, ◌^◌, ◌-◌, true, false, IfOk, IfErr};
-ghost use Rattle.lojarnek.specs.{Homes.IsHome, Standing.{IsRecovered, IsReadyForCall, IsStopped, corpse_of}};
+ghost use Rattle.std.specs.Prelude.{◌≡◌, ◌<◌, ◌^◌, ◌-◌, ℕ, true, false, IfOk, IfErr};
+ghost use Rattle.lojarnek.specs.{Homes.IsHome, Roots.account_root};
+ghost use Rattle.lojarnek.specs.Standing.{IsRecovered, IsReadyForCall, IsStopped, corpse_of};
 
 use crate::corpse::Corpse;
 use crate::desk::Rest;
 use crate::place::Place;
+use crate::roots::Roots;
 use crate::stopped::Stopped;
 use crate::vacant::Vacant;
 use shm_graph::Life;
@@ -17,19 +19,20 @@ use std::marker::Model;
 pub struct Client<'p> {
     pub(crate) place: Place<'p>,
     pub(crate) token: shm_pool::Client,
+    pub(crate) roots: Roots,
     pub(crate) dead: bool,
     pub(crate) life: Life,
 }
 
 impl<'p> Model for Client<'p> {
     ghost use Rattle.std.specs.Prelude.{◌≡◌};
-    ghost use Rattle.lojarnek.specs.{Homes.IsHome, Standing.{Acts, IsReadyForCall}};
+    ghost use Rattle.lojarnek.specs.{Homes.IsHome, Roots.KnowsRoots, Standing.{Acts, IsReadyForCall}};
 
     ghost Value = { Acts };
 
     ghost view = { λ c. record { token = c.token; left = c.life.left } };
 
-    ghost invariant = { λ c. IsHome c.place c.token.of c.token.account.who × (c.dead ≡ c.token.dead) × IsReadyForCall c.token };
+    ghost invariant = { λ c. IsHome c.place c.token.of c.token.account.who × (c.dead ≡ c.token.dead) × IsReadyForCall c.token × KnowsRoots c.token c.roots.named };
 }
 
 impl<'p> Client<'p> {
@@ -38,11 +41,13 @@ impl<'p> Client<'p> {
         requires home { IsHome place token.of token.account.who }
         requires alive { token.dead ≡ false }
         requires ready { IsReadyForCall token }
+        requires empty { (k : ℕ) → account_root token.account k ≡ 0 }
         ensures { result ≡ record { token = token; left = u64.MAX } }
     {
         Client {
             place,
             token,
+            roots: Roots::none(),
             dead: false,
             life: Life::of(u64::MAX),
         }
@@ -84,6 +89,7 @@ impl<'p> Client<'p> {
         let Client {
             place,
             token,
+            roots: _,
             dead: _,
             life: _,
         } = self;
@@ -97,7 +103,7 @@ impl<'p> Client<'p> {
     /// `EraSpent`, with the corpse: the identity is used up, and its pool can't be closed.
     pub fn leave(self) -> Result<Vacant<'p>, Stopped<'p>>
         ensures ok { IfOk result (IsRecovered (corpse_of self.entry)) }
-        ensures err { IfErr result (IsStopped self.entry.token.of self.entry.token.account.who) }
+        ensures err { IfErr result (IsStopped (corpse_of self.entry)) }
     {
         self.fall().recover()
     }
@@ -108,6 +114,7 @@ impl Drop for Client<'_> {
         let Client {
             place,
             token,
+            roots: _,
             dead: _,
             life: _,
         } = self;

@@ -1,7 +1,7 @@
 //! An identity whose client died.
 
 ghost use Rattle.std.specs.Prelude.{◌≡◌, ◌<◌, IfOk, IfErr};
-ghost use Rattle.lojarnek.specs.{Homes.IsHome, Standing.{IsRecovered, IsStopped}};
+ghost use Rattle.lojarnek.specs.{Homes.IsHome, Standing.{IsRecovered, IsStop, IsStopped}};
 
 use crate::desk::Rest;
 use crate::error::Error;
@@ -31,6 +31,16 @@ impl<'p> Model for Corpse<'p> {
     ghost invariant = { λ c. IsHome c.place c.token.of c.token.account.who };
 }
 
+/// Why an identity wasn't recovered.
+fn stop_error(cause: Cause) -> Error
+    ensures { IsStop result }
+{
+    match cause {
+        Cause::Died => Error::Died { done: false },
+        Cause::EraSpent { era } => Error::EraSpent { era },
+    }
+}
+
 impl<'p> Corpse<'p> {
     pub(crate) fn at(place: Place<'p>, token: shm_pool::Corpse) -> Corpse<'p>
         requires { IsHome place token.of token.account.who }
@@ -55,7 +65,7 @@ impl<'p> Corpse<'p> {
     /// `EraSpent`, with the corpse: the identity is used up, and its pool can't be closed.
     pub fn recover(self) -> Result<Vacant<'p>, Stopped<'p>>
         ensures ok { IfOk result (IsRecovered self.entry) }
-        ensures err { IfErr result (IsStopped self.entry.of self.entry.account.who) }
+        ensures err { IfErr result (IsStopped self.entry) }
     {
         self.recover_within(u64::MAX)
     }
@@ -67,18 +77,17 @@ impl<'p> Corpse<'p> {
     /// `Died` too, with the corpse, where the recoverer had no word step left. What it did stays done, and another one may recover the identity.
     pub fn recover_within(self, steps: u64) -> Result<Vacant<'p>, Stopped<'p>>
         ensures ok { IfOk result (IsRecovered self.entry) }
-        ensures err { IfErr result (IsStopped self.entry.of self.entry.account.who) }
+        ensures err { IfErr result (IsStopped self.entry) }
     {
         let Corpse { place, token } = self;
+        // for the proof: its account stood
+        token.client();
         let mut life = Life::of(steps);
         match token.recover(place.pool, &mut life) {
             Ok(vacant) => Ok(Vacant::at(place, vacant)),
             Err(stopped) => Err(Stopped {
                 corpse: Corpse::at(place, stopped.corpse),
-                error: match stopped.cause {
-                    Cause::Died => Error::Died { done: false },
-                    Cause::EraSpent { era } => Error::EraSpent { era },
-                },
+                error: stop_error(stopped.cause),
             }),
         }
     }

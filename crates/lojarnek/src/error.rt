@@ -14,6 +14,21 @@ pub enum Bound {
     /// The number of segments of a pool of format 2.
     #[error("a pool of format 2 has 1 to 8,000 segments")]
     WideSegments,
+    /// The number of a root of a client.
+    #[error("the roots of a client are numbered 0 to 15")]
+    Root,
+    /// The number of a reference word of a block.
+    #[error("the reference words of a block are numbered 0 to 15")]
+    Reference,
+    /// The number of a plain word of a block.
+    #[error("the plain words of a block are numbered 0 to 7")]
+    Plain,
+    /// How many reference words a block has.
+    #[error("a block has at most 16 reference words")]
+    References,
+    /// How many plain words a block has.
+    #[error("a block has at most 8 plain words")]
+    Plains,
 }
 
 /// Why a call was refused, and the number that it was refused for.
@@ -31,6 +46,18 @@ pub enum Error {
     /// The pool was made for tables and not for blocks, or the other way round.
     #[error("the pool wasn't made for this call: pools are for tables or for blocks")]
     WrongKind,
+    /// The root names no block.
+    #[error("root {root} of the client is empty")]
+    EmptyRoot { root: u8 },
+    /// The block has no such word: so many of its kind it has.
+    #[error("the block has no word {word}: it has {words} of them, and the first one is 0")]
+    NoSuchWord { word: u8, words: u8 },
+    /// Only the client that made a block sets its reference words.
+    #[error("only client {author}, which made the block, sets its reference words")]
+    NotAuthor { author: u8 },
+    /// The block was made by another client than the one that was named.
+    #[error("client {author} didn't make the block")]
+    WrongAuthor { author: u8 },
     /// Each segment is another client's or has no room: so many segments are others', and of so many blocks none was free.
     #[error("the pool is full: {segments} segments are other clients', and of {blocks} blocks none is free")]
     Full { segments: u16, blocks: u32 },

@@ -5,15 +5,23 @@
 //! refused with an `Error`.
 #![tactic(auto)]
 
+mod blocks;
 mod builder;
 mod client;
 mod corpse;
 mod desk;
 mod desks;
 mod error;
+mod follow;
+mod known;
+mod latch;
 mod place;
 mod pool;
 pub mod prelude;
+mod queues;
+mod references;
+mod refused;
+mod roots;
 mod run;
 mod sole;
 mod stopped;
@@ -25,6 +33,7 @@ pub use client::Client;
 pub use corpse::Corpse;
 pub use error::{Bound, Error};
 pub use pool::{NotClosed, Pool};
+pub use shm_alloc::Hint;
 pub use shm_pool::Closed;
 pub use stopped::Stopped;
 pub use vacant::Vacant;

@@ -45,7 +45,7 @@ impl Client<'_> {
     }
 
     /// Tests the number of a client.
-    fn unknown(&self, client: u8) -> Option<Error>
+    pub(crate) fn unknown(&self, client: u8) -> Option<Error>
         ensures is { result ≡ unknown_of self.now client }
         ensures why { IfSome result (IsWrong self.now) }
         ensures known { IsNone result → client < self.now.token.of.start.geometry.clients }
@@ -58,7 +58,7 @@ impl Client<'_> {
     }
 
     /// Tests whether it is the number of another client.
-    fn no_peer(&self, client: u8) -> Option<Error>
+    pub(crate) fn no_peer(&self, client: u8) -> Option<Error>
         ensures is { result ≡ (if client == self.now.token.account.who then Some (Error.ToItself client) else unknown_of self.now client) }
         ensures why { IfSome result (IsWrong self.now) }
         ensures known { IsNone result → client < self.now.token.of.start.geometry.clients }

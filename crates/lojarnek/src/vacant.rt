@@ -49,6 +49,8 @@ impl<'p> Vacant<'p> {
         ensures { HasJoined self.entry result }
     {
         let Vacant { place, token } = self;
+        // for the proof: nobody has joined it, or it is gone
+        token.client();
         match token.join(place.pool, &mut Life::of(1)) {
             Ok(client) => Client::joined(place, client),
             // one word step is all that a join needs

@@ -3,12 +3,11 @@
 ghost use Rattle.std.specs.Prelude.{◌≤◌};
 
 use crate::events::{Events, Message, Wait};
-use crate::follower::{Fate, Point, Span, Work};
 use crate::sheet::{BAR, Sheet, WIDTH, rect};
-use crate::text::push_work;
-use shm_agents::piece::Piece;
+use crate::text::push_task;
 use shm_script::{Line, Trace};
 use shm_view::{Colour, Picture};
+use shm_watch::{Fate, Point, Span, Task};
 use std::alloc::{AllocError, Global};
 
 const GREY: Colour = Colour {
@@ -48,9 +47,9 @@ const PURPLE: Colour = Colour {
 };
 
 /// The picture of what happens in the turns of a run: a lane for each identity with a script, from above in order of number.
-pub fn draw<P: Piece>(alloc: Global, events: &Events<'_, P>) -> Result<Picture, AllocError> {
-    let trace = events.course.trace;
-    let mut sheet = Sheet::new(alloc, trace, events.window, events.course.turns);
+pub fn draw(alloc: Global, events: &Events<'_>) -> Result<Picture, AllocError> {
+    let trace = events.trace;
+    let mut sheet = Sheet::new(alloc, trace, events.window, events.turns);
     draw_frame(alloc, &mut sheet, trace)?;
     for span in &events.spans {
         draw_span(alloc, &mut sheet, *span)?;
@@ -104,7 +103,7 @@ fn draw_span(alloc: Global, sheet: &mut Sheet, span: Span) -> Result<(), AllocEr
     let behind = sheet.x(span.last.turn.saturating_add(1));
     if let Fate::Dies { turn } = span.fate {
         let width = sheet.x(turn).saturating_sub(behind);
-        sheet.push(rect((behind, y + 43), (width, 6), colour(span.work)))?;
+        sheet.push(rect((behind, y + 43), (width, 6), colour(span.task)))?;
     }
     let width = behind.saturating_sub(x).saturating_sub(2).max(3);
     draw_bar(alloc, sheet, span, (x, y), width)
@@ -133,14 +132,14 @@ fn draw_bar(
     requires y { place.1 ≤ 10000 }
 {
     let (x, y) = place;
-    sheet.push(rect((x, y + 16), (width, BAR), colour(span.work)))?;
+    sheet.push(rect((x, y + 16), (width, BAR), colour(span.task)))?;
     if let Some(Point { turn, .. }) = span.decides {
         if sheet.has(turn) {
             sheet.push(rect((sheet.x(turn), y), (5, 26), BLACK))?;
         }
     }
     let mut text = Vec::new(alloc);
-    push_work(&mut text, span.work)?;
+    push_task(&mut text, span.task)?;
     let gap = gap_of(span);
     match std::str::from_utf8(text.as_slice()) {
         Ok(name) if name.len() <= room(width, gap) => {
@@ -172,16 +171,16 @@ fn draw_cross(sheet: &mut Sheet, x: u32, y: u32) -> Result<(), AllocError>
 }
 
 // the colour of a piece of work
-fn colour(work: Work) -> Colour {
-    let (red, green, blue) = match work {
-        Work::Join | Work::Leave => return GREY,
-        Work::Command(Line::Put { .. }) => (166, 206, 240),
-        Work::Command(Line::Copy { .. }) => (190, 225, 170),
-        Work::Command(Line::Del { .. }) => (248, 205, 170),
-        Work::Command(Line::Get { .. }) => (240, 232, 170),
-        Work::Command(Line::Send { .. }) => (220, 195, 232),
-        Work::Command(Line::Recv { .. }) => (170, 225, 215),
-        Work::Recovery => (244, 170, 180),
+fn colour(task: Task) -> Colour {
+    let (red, green, blue) = match task {
+        Task::Join | Task::Leave => return GREY,
+        Task::Command(Line::Put { .. }) => (166, 206, 240),
+        Task::Command(Line::Copy { .. }) => (190, 225, 170),
+        Task::Command(Line::Del { .. }) => (248, 205, 170),
+        Task::Command(Line::Get { .. }) => (240, 232, 170),
+        Task::Command(Line::Send { .. }) => (220, 195, 232),
+        Task::Command(Line::Recv { .. }) => (170, 225, 215),
+        Task::Recovery => (244, 170, 180),
     };
     Colour { red, green, blue }
 }
@@ -259,9 +258,9 @@ fn draw_legend(alloc: Global, sheet: &mut Sheet) -> Result<(), AllocError> {
         (1306, Line::Recv { from: 0, key: 0 }, "recv"),
     ];
     for (x, line, name) in keys {
-        draw_key(alloc, sheet, (x, y), colour(Work::Command(line)), name)?;
+        draw_key(alloc, sheet, (x, y), colour(Task::Command(line)), name)?;
     }
-    draw_key(alloc, sheet, (1506, y), colour(Work::Recovery), "recover")?;
+    draw_key(alloc, sheet, (1506, y), colour(Task::Recovery), "recover")?;
     draw_signs(alloc, sheet, y + 56)
 }
 

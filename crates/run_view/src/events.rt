@@ -2,15 +2,12 @@
 
 ghost use Rattle.std.specs.Prelude.{List};
 
-use crate::course::Course;
-use crate::follower::{Fate, Span};
 use crate::sheet::MOST;
 use crate::spots::{at_of, place_at};
 use crate::window::Window;
-use shm_agents::piece::Piece;
 use shm_graph::Ask;
 use shm_script::Trace;
-use shm_watch::{Shown, Watcher};
+use shm_watch::{Listener, Shown, Span};
 use shm_words::Place;
 use std::alloc::{AllocError, Global};
 
@@ -38,8 +35,10 @@ pub struct Message {
 
 /// What happens in some turns of a run.
 #[derive(Drop)]
-pub struct Events<'a, P: Piece> {
-    pub course: Course<'a, P>,
+pub struct Events<'a> {
+    pub trace: &'a Trace,
+    /// How many turns there were.
+    pub turns: u64,
     pub window: Window,
     /// The pieces of work that were seen in them, as they ended.
     pub spans: Vec<Span>,
@@ -49,21 +48,18 @@ pub struct Events<'a, P: Piece> {
     pub is_short: bool,
 }
 
-impl<'a, P: Piece> Events<'a, P> {
+impl<'a> Events<'a> {
     /// Before the first turn. At most 2,100 turns are shown.
-    pub fn new(
-        alloc: Global,
-        trace: &'a Trace,
-        window: Window,
-    ) -> Result<Events<'a, P>, AllocError> {
-        Ok(Events {
-            course: Course::new(alloc, trace)?,
+    pub fn new(alloc: Global, trace: &'a Trace, window: Window) -> Events<'a> {
+        Events {
+            trace,
+            turns: 0,
             window: window.first(MOST),
             spans: Vec::new(alloc),
             waits: Vec::new(alloc),
             messages: Vec::new(alloc),
             is_short: false,
-        })
+        }
     }
 
     // a piece of work has ended, or its agent has died
@@ -119,7 +115,7 @@ impl<'a, P: Piece> Events<'a, P> {
     // a word step in the window
     fn word(&mut self, span: Span, ask: Ask, found: u64) -> Result<(), AllocError> {
         let (at, turn) = (at_of(ask), span.last.turn);
-        match (place_at(self.course.trace, at), ask) {
+        match (place_at(self.trace, at), ask) {
             (Some(Place::Latch { .. }), Ask::Exchange { .. }) => self.latch(span, found),
             (Some(Place::Tail { s, r }), Ask::Store { value, .. }) => self.send(s, r, value, turn),
             (Some(Place::Head { s, r }), Ask::Store { value, .. }) => {
@@ -132,7 +128,7 @@ impl<'a, P: Piece> Events<'a, P> {
 
     // a turn of which this is known
     fn keep(&mut self, shown: Shown, span: Span) -> Result<(), AllocError> {
-        if !matches!(span.fate, Fate::Goes) {
+        if span.is_over() {
             self.end(span)?;
         }
         match shown {
@@ -144,14 +140,13 @@ impl<'a, P: Piece> Events<'a, P> {
     }
 }
 
-impl<'a, P: Piece> Watcher for Events<'a, P> {
-    ghost saw = { λ _ _. Unit {0} };
+impl<'a> Listener for Events<'a> {
+    ghost told = { λ _ _. Unit {0} };
 
-    fn see(&mut self, shown: Shown) {
-        if let Some(span) = self.course.turn(shown) {
-            if self.keep(shown, span).is_err() {
-                self.is_short = true;
-            }
+    fn tell(&mut self, shown: Shown, span: Span) {
+        self.turns = span.now();
+        if self.keep(shown, span).is_err() {
+            self.is_short = true;
         }
     }
 }

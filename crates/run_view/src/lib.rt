@@ -1,11 +1,11 @@
 //! What the turns of a trace's replay show: its word steps by command as a table, each of them by its name, and the run as a picture.
 #![tactic(auto)]
 
-mod course;
 mod draw;
 mod events;
-mod follower;
+mod out;
 mod page;
+mod pipe;
 mod sheet;
 mod spots;
 mod steps;
@@ -13,7 +13,6 @@ mod text;
 mod window;
 mod words;
 
-pub use course::Course;
-pub use follower::{Fate, Point, Span, Work};
 pub use page::{run_picture, run_steps, run_words};
+pub use pipe::Stop;
 pub use window::Window;

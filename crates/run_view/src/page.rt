@@ -1,53 +1,166 @@
 //! The replay of a trace as a table, as lines of word steps and as a picture.
 
-ghost use Rattle.std.specs.Prelude.{◌≡◌, IfOk};
+ghost use Rattle.std.specs.Prelude.{◌≡◌, Err, IfOk, List, None, OnOk, Some, ℕ};
+ghost use Rattle.shm_io.specs.{Faults.Rose, Writing.Appends};
 ghost use Rattle.shm_view.specs.{Svg.picture_text, declared.svg.Picture.Picture as APicture};
+ghost use Rattle.run_view.specs.Piped.{IsTold};
+ghost use Rattle.run_view.specs.declared.pipe.Stop.TheVariants as stop;
 
 use crate::draw::draw;
 use crate::events::Events;
+use crate::out::{Out, ROOM};
+use crate::pipe::{Begun, Pipe, Stop, Writer};
+use crate::spots::Classes;
 use crate::steps::Steps;
 use crate::window::Window;
 use crate::words::Words;
-use shm_agents::machine::WorkMachine;
-use shm_agents::piece::Piece;
+use shm_io::Sink;
 use shm_script::Trace;
 use shm_view::svg_text;
-use shm_watch::watch;
+use shm_watch::tell;
 use std::alloc::{AllocError, Global};
+use std::marker::Brand;
 
-/// The pieces of work that a trace's replay shows in these turns, as a table: a row for each join, command, leaving and recovery, by identity. It says at
-/// which of its agent's word steps each one begins, decides and ends, and where its agent died.
-pub fn run_steps(alloc: Global, trace: &Trace, window: Window) -> Result<Vec<u8>, AllocError> {
-    steps_by::<WorkMachine>(alloc, trace, window)
+/// Writes the pieces of work that a trace's replay shows in these turns, as a table: a row for each join, command, leaving and recovery, as they end. It says at
+/// which of its agent's word steps each one begins, decides and ends, and where its agent died. After a write that failed the sink holds a front of the table.
+pub fn run_steps<K: Sink>(
+    alloc: Global,
+    trace: &Trace,
+    window: Window,
+    sink: &mut K,
+) -> Result<(), Stop>
+    ensures written { OnOk result ((text : List ℕ) × Appends (K.held sink.old) (K.held sink.new) text) }
+    ensures memory { result ≡ Err stop.Memory → sink.new ≡ sink.old }
+    ensures fault { result ≡ Err stop.Fault → Rose (K.faults sink.old) (K.faults sink.new) }
+{
+    let writer = Writer { sink, stop: None };
+    let writer = steps_by::<K, Brand>(alloc, trace, window, writer);
+    match writer.stop {
+        None => Ok(()),
+        Some(stop) => Err(stop),
+    }
 }
 
-// whatever the work is made of
-fn steps_by<P: Piece>(alloc: Global, trace: &Trace, window: Window) -> Result<Vec<u8>, AllocError> {
-    watch(alloc, trace, Steps::<P>::new(alloc, trace, window)?)?.text()
+// whatever the sink held before
+fn steps_by<'a, K: Sink, B: Begun<K>>(
+    alloc: Global,
+    trace: &Trace,
+    window: Window,
+    writer: Writer<'a, K>,
+) -> Writer<'a, K>
+    requires sink { B.sink ≡ Some writer.sink }
+    requires fresh { writer.stop ≡ None }
+    ensures name { result.sink.ghost_name ≡ writer.entry.sink.ghost_name }
+    ensures told { IsTold K.held K.faults writer.entry.sink.now result.stop result.sink.now }
+{
+    let kept = match Vec::with_capacity(alloc, ROOM) {
+        Ok(kept) => kept,
+        Err(_) => return short(writer),
+    };
+    let steps = Steps {
+        out: Out::new(Pipe::<K, B>::new(writer), kept),
+        window,
+        turns: 0,
+    };
+    match tell(alloc, trace, steps) {
+        Ok(steps) => {
+            let mut steps = steps;
+            steps.end();
+            let Steps { out, .. } = steps;
+            out.end().writer()
+        }
+        Err(steps) => {
+            let Steps { out, .. } = steps;
+            short(out.pipe().writer())
+        }
+    }
 }
 
-/// The word steps and deaths of these turns of a trace's replay, a line each, with the names of their words.
-pub fn run_words(alloc: Global, trace: &Trace, window: Window) -> Result<Vec<u8>, AllocError> {
-    words_by::<WorkMachine>(alloc, trace, window)
+/// Writes the word steps and deaths of these turns of a trace's replay, a line each, with the names of their words. After a write that failed the sink holds a
+/// front of the lines.
+pub fn run_words<K: Sink>(
+    alloc: Global,
+    trace: &Trace,
+    window: Window,
+    sink: &mut K,
+) -> Result<(), Stop>
+    ensures written { OnOk result ((text : List ℕ) × Appends (K.held sink.old) (K.held sink.new) text) }
+    ensures memory { result ≡ Err stop.Memory → sink.new ≡ sink.old }
+    ensures fault { result ≡ Err stop.Fault → Rose (K.faults sink.old) (K.faults sink.new) }
+{
+    let writer = Writer { sink, stop: None };
+    let writer = words_by::<K, Brand>(alloc, trace, window, writer);
+    match writer.stop {
+        None => Ok(()),
+        Some(stop) => Err(stop),
+    }
 }
 
-// whatever the work is made of
-fn words_by<P: Piece>(alloc: Global, trace: &Trace, window: Window) -> Result<Vec<u8>, AllocError> {
-    watch(alloc, trace, Words::<P>::new(alloc, trace, window)?)?.text()
+// for want of memory nothing was written
+fn short<'a, K: Sink>(writer: Writer<'a, K>) -> Writer<'a, K>
+    ensures sink { result.sink ≡ writer.entry.sink }
+    ensures stop { result.stop ≡ Some stop.Memory }
+{
+    let Writer { sink, .. } = writer;
+    Writer {
+        sink,
+        stop: Some(Stop::Memory),
+    }
+}
+
+// memory for the classes of pages and for what is kept of the lines
+fn room(alloc: Global, trace: &Trace) -> Result<(Classes, Vec<u8>), AllocError> {
+    Ok((
+        Classes::new(alloc, trace)?,
+        Vec::with_capacity(alloc, ROOM)?,
+    ))
+}
+
+// whatever the sink held before
+fn words_by<'a, 't, K: Sink, B: Begun<K>>(
+    alloc: Global,
+    trace: &'t Trace,
+    window: Window,
+    writer: Writer<'a, K>,
+) -> Writer<'a, K>
+    requires sink { B.sink ≡ Some writer.sink }
+    requires fresh { writer.stop ≡ None }
+    ensures name { result.sink.ghost_name ≡ writer.entry.sink.ghost_name }
+    ensures told { IsTold K.held K.faults writer.entry.sink.now result.stop result.sink.now }
+{
+    let (classes, kept) = match room(alloc, trace) {
+        Ok(room) => room,
+        Err(_) => return short(writer),
+    };
+    let words = Words {
+        out: Out::new(Pipe::<K, B>::new(writer), kept),
+        trace,
+        classes,
+        window,
+        turns: 0,
+    };
+    match tell(alloc, trace, words) {
+        Ok(words) => {
+            let mut words = words;
+            words.end();
+            let Words { out, .. } = words;
+            out.end().writer()
+        }
+        Err(words) => {
+            let Words { out, .. } = words;
+            short(out.pipe().writer())
+        }
+    }
 }
 
 /// These turns of a trace's replay as a picture, 2,100 of them at most.
 pub fn run_picture(alloc: Global, trace: &Trace, window: Window) -> Result<Vec<u8>, AllocError>
     ensures { IfOk result (λ text. (p : APicture) × (text.items ≡ picture_text p)) }
 {
-    picture_by::<WorkMachine>(alloc, trace, window)
-}
-
-// whatever the work is made of
-fn picture_by<P: Piece>(alloc: Global, trace: &Trace, window: Window) -> Result<Vec<u8>, AllocError>
-    ensures { IfOk result (λ text. (p : APicture) × (text.items ≡ picture_text p)) }
-{
-    let events = watch(alloc, trace, Events::<P>::new(alloc, trace, window)?)?;
+    let events = match tell(alloc, trace, Events::new(alloc, trace, window)) {
+        Ok(events) if !events.is_short => events,
+        _ => return Err(AllocError),
+    };
     let picture = draw(alloc, &events)?;
     Ok(svg_text(alloc, &picture)?)
 }

@@ -1,8 +1,11 @@
 //! The names of a pool's words, as they are during a run.
 
+use crate::out::Out;
+use crate::pipe::Begun;
 use shm_graph::Ask;
+use shm_io::Sink;
 use shm_replay::replaying::geometry_of;
-use shm_script::{Trace, push_number, push_text};
+use shm_script::Trace;
 use shm_words::Place;
 use std::alloc::{AllocError, Global};
 
@@ -44,12 +47,17 @@ impl Classes {
         self.by_page.get(page_number(g, p)).copied().unwrap_or(0)
     }
 
-    /// Adds the name of the word at an address.
-    pub fn push_name(&self, text: &mut Vec<u8>, trace: &Trace, at: u32) -> Result<(), AllocError> {
+    /// A text goes on with the name of the word at an address.
+    pub fn write_name<K: Sink, B: Begun<K>>(
+        &self,
+        out: &mut Out<'_, K, B>,
+        trace: &Trace,
+        at: u32,
+    ) {
         match place_at(trace, at) {
-            Some(Place::Body { g, p, k }) => push_in_block(text, self.class(g, p), at, k),
-            Some(place) => push_place(text, place),
-            None => push_text(text, "none"),
+            Some(Place::Body { g, p, k }) => out.in_block(self.class(g, p), at, k),
+            Some(place) => out.place(place),
+            None => out.text("none"),
         }
     }
 }
@@ -66,71 +74,63 @@ pub fn place_at(trace: &Trace, at: u32) -> Option<Place> {
     geometry_of(trace).place(at)
 }
 
-// adds the name of a word of a page of this class, which stands `k` words behind the page's first one
-fn push_in_block(text: &mut Vec<u8>, class: u8, at: u32, k: u8) -> Result<(), AllocError> {
-    if class == 0 {
-        return push_text(text, "unused");
+impl<'a, K: Sink, B: Begun<K>> Out<'a, K, B> {
+    // goes on with the name of a word of a page of this class, which stands `k` words behind the page's first one
+    fn in_block(&mut self, class: u8, at: u32, k: u8) {
+        if class == 0 {
+            self.text("unused");
+            return;
+        }
+        let behind = k % class;
+        let block = at.saturating_sub(u32::from(behind));
+        match behind {
+            0 => self.text("header"),
+            1 => self.text("tag"),
+            _ => {
+                self.text("word ");
+                self.number(u64::from(behind - 2));
+            }
+        }
+        self.text(" of ");
+        self.number(u64::from(block));
     }
-    let behind = k % class;
-    let block = at.saturating_sub(u32::from(behind));
-    match behind {
-        0 => push_text(text, "header")?,
-        1 => push_text(text, "tag")?,
-        _ => {
-            push_text(text, "word ")?;
-            push_number(text, u64::from(behind - 2))?;
+
+    // goes on with a name and its numbers
+    fn named(&mut self, name: &str, numbers: &[u64]) {
+        self.text(name);
+        let mut sign = "(";
+        for number in numbers {
+            self.text(sign);
+            self.number(*number);
+            sign = ",";
         }
+        self.text(")");
     }
-    push_text(text, " of ")?;
-    push_number(text, u64::from(block))
-}
 
-// adds a name and one number
-fn push_one(text: &mut Vec<u8>, name: &str, number: u8) -> Result<(), AllocError> {
-    push_text(text, name)?;
-    push_text(text, "(")?;
-    push_number(text, u64::from(number))?;
-    push_text(text, ")")
-}
+    // the same with two numbers
+    fn pair(&mut self, name: &str, first: u8, second: u8) {
+        self.named(name, &[u64::from(first), u64::from(second)]);
+    }
 
-// adds a name and two numbers
-fn push_two(text: &mut Vec<u8>, name: &str, first: u16, second: u8) -> Result<(), AllocError> {
-    push_text(text, name)?;
-    push_text(text, "(")?;
-    push_number(text, u64::from(first))?;
-    push_text(text, ",")?;
-    push_number(text, u64::from(second))?;
-    push_text(text, ")")
-}
-
-// adds the name of a word that is in no page
-fn push_place(text: &mut Vec<u8>, place: Place) -> Result<(), AllocError> {
-    match place {
-        Place::Spare | Place::Body { .. } => push_text(text, "spare"),
-        Place::Status { c } => push_one(text, "status", c),
-        Place::Redo { c } => push_one(text, "redo", c),
-        Place::RedoMore { c } => push_one(text, "redo_more", c),
-        Place::Hold { c } => push_one(text, "hold", c),
-        Place::Latch { c } => push_one(text, "latch", c),
-        Place::Home { c } => push_one(text, "home", c),
-        Place::Era { i, j } => push_two(text, "era", u16::from(i), j),
-        Place::Root { c, k } => push_two(text, "root", u16::from(c), k),
-        Place::Tail { s, r } => push_two(text, "tail", u16::from(s), r),
-        Place::Head { s, r } => push_two(text, "head", u16::from(s), r),
-        Place::Slot { s, r, k } => {
-            push_text(text, "slot(")?;
-            push_number(text, u64::from(s))?;
-            push_text(text, ",")?;
-            push_number(text, u64::from(r))?;
-            push_text(text, ",")?;
-            push_number(text, u64::from(k))?;
-            push_text(text, ")")
+    // goes on with the name of a word that is in no page
+    fn place(&mut self, place: Place) {
+        match place {
+            Place::Spare | Place::Body { .. } => self.text("spare"),
+            Place::Status { c } => self.named("status", &[u64::from(c)]),
+            Place::Redo { c } => self.named("redo", &[u64::from(c)]),
+            Place::RedoMore { c } => self.named("redo_more", &[u64::from(c)]),
+            Place::Hold { c } => self.named("hold", &[u64::from(c)]),
+            Place::Latch { c } => self.named("latch", &[u64::from(c)]),
+            Place::Home { c } => self.named("home", &[u64::from(c)]),
+            Place::Era { i, j } => self.pair("era", i, j),
+            Place::Root { c, k } => self.pair("root", c, k),
+            Place::Tail { s, r } => self.pair("tail", s, r),
+            Place::Head { s, r } => self.pair("head", s, r),
+            Place::Slot { s, r, k } => {
+                self.named("slot", &[u64::from(s), u64::from(r), u64::from(k)]);
+            }
+            Place::Segment { g } => self.named("segment", &[u64::from(g)]),
+            Place::Page { g, p } => self.named("page", &[u64::from(g), u64::from(p)]),
         }
-        Place::Segment { g } => {
-            push_text(text, "segment(")?;
-            push_number(text, u64::from(g))?;
-            push_text(text, ")")
-        }
-        Place::Page { g, p } => push_two(text, "page", g, p),
     }
 }

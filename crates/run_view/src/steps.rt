@@ -2,111 +2,72 @@
 
 ghost use Rattle.std.specs.Prelude.{List};
 
-use crate::course::Course;
-use crate::follower::{Fate, Span};
-use crate::text::{push_right, push_word_right, push_work};
+use crate::out::Out;
+use crate::pipe::Begun;
 use crate::window::Window;
-use shm_agents::piece::Piece;
-use shm_script::{Trace, push_number, push_text};
-use shm_watch::{Shown, Watcher};
-use std::alloc::{AllocError, Global};
+use shm_io::Sink;
+use shm_watch::{Fate, Listener, Shown, Span};
 
-/// A table of the pieces of work that a run shows, by identity.
+/// A table of the pieces of work that a run shows in some turns, a row each as they end.
 #[derive(Drop)]
-pub struct Steps<'a, P: Piece> {
-    alloc: Global,
-    course: Course<'a, P>,
-    window: Window,
-    /// The rows of each identity.
-    rows: Vec<Vec<u8>>,
-    /// Whether there was no memory for a row.
-    is_short: bool,
+pub(crate) struct Steps<'a, K: Sink, B: Begun<K>> {
+    pub out: Out<'a, K, B>,
+    pub window: Window,
+    /// How many turns there were.
+    pub turns: u64,
 }
 
-impl<'a, P: Piece> Steps<'a, P> {
-    /// Before the first turn.
-    pub fn new(
-        alloc: Global,
-        trace: &'a Trace,
-        window: Window,
-    ) -> Result<Steps<'a, P>, AllocError> {
-        let mut rows = Vec::new(alloc);
-        for _ in 0..trace.clients {
-            rows.push(Vec::new(alloc))?;
+impl<'a, K: Sink, B: Begun<K>> Steps<'a, K, B> {
+    // the names of the columns
+    fn heads(&mut self) {
+        self.out.text("client  agent");
+        for head in ["turn", "begins", "decides", "ends", "died"] {
+            self.out.right(head, 9);
         }
-        Ok(Steps {
-            alloc,
-            course: Course::new(alloc, trace)?,
-            window,
-            rows,
-            is_short: false,
-        })
+        self.out.text("  work\n");
     }
 
-    // a piece of work has ended, or its agent has died
-    fn end(&mut self, span: Span) -> Result<(), AllocError> {
-        if !self.window.meets(span.first(), span.now()) {
-            return Ok(());
-        }
-        match self.rows.get_mut(span.who as usize) {
-            Some(text) => push_row(text, span),
-            None => Ok(()),
-        }
+    // the row of a piece of work
+    fn row(&mut self, span: Span) {
+        let out = &mut self.out;
+        let last = Some(span.last.step);
+        let (ends, died) = match span.fate {
+            Fate::Dies { .. } => (None, last),
+            _ => (last, None),
+        };
+        out.number_right(Some(u64::from(span.who)), 6);
+        out.number_right(Some(span.agent), 7);
+        out.number_right(span.begins.map(|point| point.turn), 9);
+        out.number_right(span.begins.map(|point| point.step), 9);
+        out.number_right(span.decides.map(|point| point.step), 9);
+        out.number_right(ends, 9);
+        out.number_right(died, 9);
+        out.text("  ");
+        out.task(span.task);
+        out.text("\n");
     }
 
-    /// The whole table, and below it how many turns there were.
-    pub fn text(self) -> Result<Vec<u8>, AllocError> {
-        if self.is_short {
-            return Err(AllocError);
+    /// Ends the table with how many turns there were.
+    pub fn end(&mut self) {
+        if self.turns == 0 {
+            self.heads();
         }
-        let mut text = Vec::new(self.alloc);
-        push_heads(&mut text)?;
-        for rows in &self.rows {
-            text.extend_from_slice(rows.as_slice())?;
-        }
-        push_text(&mut text, "\nturns ")?;
-        push_number(&mut text, self.course.turns)?;
-        push_text(&mut text, "\n")?;
-        Ok(text)
+        self.out.text("\nturns ");
+        self.out.number(self.turns);
+        self.out.text("\n");
     }
 }
 
-impl<'a, P: Piece> Watcher for Steps<'a, P> {
-    ghost saw = { λ _ _. Unit {0} };
+impl<'a, K: Sink, B: Begun<K>> Listener for Steps<'a, K, B> {
+    ghost told = { λ _ _. Unit {0} };
 
-    fn see(&mut self, shown: Shown) {
-        if let Some(span) = self.course.turn(shown) {
-            if !matches!(span.fate, Fate::Goes) && self.end(span).is_err() {
-                self.is_short = true;
-            }
+    fn tell(&mut self, _shown: Shown, span: Span) {
+        if self.turns == 0 {
+            self.heads();
+        }
+        self.turns = span.now();
+        if span.is_over() && self.window.meets(span.first(), span.now()) {
+            self.row(span);
         }
     }
-}
-
-// adds the names of the columns
-fn push_heads(text: &mut Vec<u8>) -> Result<(), AllocError> {
-    push_text(text, "client  agent")?;
-    for head in ["turn", "begins", "decides", "ends", "died"] {
-        push_word_right(text, head, 9)?;
-    }
-    push_text(text, "  work\n")
-}
-
-// adds the row of a piece of work
-fn push_row(text: &mut Vec<u8>, span: Span) -> Result<(), AllocError> {
-    let last = Some(span.last.step);
-    let (ends, died) = match span.fate {
-        Fate::Dies { .. } => (None, last),
-        _ => (last, None),
-    };
-    push_right(text, Some(u64::from(span.who)), 6)?;
-    push_right(text, Some(u64::from(span.agent)), 7)?;
-    push_right(text, span.begins.map(|point| point.turn), 9)?;
-    push_right(text, span.begins.map(|point| point.step), 9)?;
-    push_right(text, span.decides.map(|point| point.step), 9)?;
-    push_right(text, ends, 9)?;
-    push_right(text, died, 9)?;
-    push_text(text, "  ")?;
-    push_work(text, span.work)?;
-    push_text(text, "\n")
 }

@@ -1,58 +1,58 @@
-//! Pieces of text.
+//! Pieces of work as text.
 
-use crate::follower::Work;
-use shm_script::{line_text, push_number, push_text};
+use crate::out::Out;
+use crate::pipe::Begun;
+use shm_io::Sink;
+use shm_script::{Line, line_text, push_text};
+use shm_watch::Task;
 use std::alloc::AllocError;
 
-/// Adds blanks up to so many bytes behind a place.
-pub fn pad(text: &mut Vec<u8>, from: usize, width: usize) -> Result<(), AllocError> {
-    let reach = from.saturating_add(width);
-    for _ in text.len()..reach {
-        text.push(b' ')?;
-    }
-    Ok(())
-}
-
-// how many digits a number has
-fn digits(number: u64) -> usize {
-    let mut limit = 10u64;
-    for count in 1..20 {
-        if number < limit {
-            return count;
-        }
-        limit = limit.saturating_mul(10);
-    }
-    20
-}
-
-/// Adds a number at the right of a column of this width, or `-` where there is none.
-pub fn push_right(text: &mut Vec<u8>, number: Option<u64>, width: usize) -> Result<(), AllocError> {
-    let from = text.len();
-    match number {
-        Some(number) => {
-            pad(text, from, width.saturating_sub(digits(number)))?;
-            push_number(text, number)
-        }
-        None => {
-            pad(text, from, width.saturating_sub(1))?;
-            push_text(text, "-")
+impl<'a, K: Sink, B: Begun<K>> Out<'a, K, B> {
+    /// Goes on with what a piece of work is.
+    pub fn task(&mut self, task: Task) {
+        match task {
+            Task::Join => self.text("join"),
+            Task::Command(line) => self.line(line),
+            Task::Leave => self.text("leave"),
+            Task::Recovery => self.text("recover"),
         }
     }
-}
 
-/// Adds a word at the right of a column of this width.
-pub fn push_word_right(text: &mut Vec<u8>, word: &str, width: usize) -> Result<(), AllocError> {
-    let from = text.len();
-    pad(text, from, width.saturating_sub(word.len()))?;
-    push_text(text, word)
+    // goes on with a command
+    fn line(&mut self, line: Line) {
+        match line {
+            Line::Put { key, number } => self.command("put", &[u64::from(key), number]),
+            Line::Del { key } => self.command("del", &[u64::from(key)]),
+            Line::Get { author, key } => {
+                self.command("get", &[u64::from(author), u64::from(key)]);
+            }
+            Line::Copy { key, author, other } => {
+                self.command(
+                    "copy",
+                    &[u64::from(key), u64::from(author), u64::from(other)],
+                );
+            }
+            Line::Send { to, key } => self.command("send", &[u64::from(to), u64::from(key)]),
+            Line::Recv { from, key } => self.command("recv", &[u64::from(from), u64::from(key)]),
+        }
+    }
+
+    // goes on with the name of a command and its numbers
+    fn command(&mut self, name: &str, numbers: &[u64]) {
+        self.text(name);
+        for number in numbers {
+            self.text(" ");
+            self.number(*number);
+        }
+    }
 }
 
 /// Adds what a piece of work is.
-pub fn push_work(text: &mut Vec<u8>, work: Work) -> Result<(), AllocError> {
-    match work {
-        Work::Join => push_text(text, "join"),
-        Work::Command(line) => line_text(text, line),
-        Work::Leave => push_text(text, "leave"),
-        Work::Recovery => push_text(text, "recover"),
+pub fn push_task(text: &mut Vec<u8>, task: Task) -> Result<(), AllocError> {
+    match task {
+        Task::Join => push_text(text, "join"),
+        Task::Command(line) => line_text(text, line),
+        Task::Leave => push_text(text, "leave"),
+        Task::Recovery => push_text(text, "recover"),
     }
 }

@@ -2,133 +2,85 @@
 
 ghost use Rattle.std.specs.Prelude.{List};
 
-use crate::course::Course;
-use crate::follower::{Fate, Point, Span};
+use crate::out::Out;
+use crate::pipe::Begun;
 use crate::spots::{Classes, at_of};
-use crate::text::{pad, push_right, push_word_right, push_work};
 use crate::window::Window;
-use shm_agents::piece::Piece;
 use shm_graph::Ask;
-use shm_script::{Trace, push_number, push_text};
-use shm_watch::{Shown, Watcher};
-use std::alloc::{AllocError, Global};
+use shm_io::Sink;
+use shm_script::Trace;
+use shm_watch::{Fate, Listener, Point, Shown, Span};
 
-/// A line for each word step and each death that a run shows.
+/// A line for each word step and each death that a run shows in some turns, as they come.
 #[derive(Drop)]
-pub struct Words<'a, P: Piece> {
-    course: Course<'a, P>,
-    classes: Classes,
-    window: Window,
-    text: Vec<u8>,
-    /// Whether there was no memory for a line.
-    is_short: bool,
+pub(crate) struct Words<'a, 't, K: Sink, B: Begun<K>> {
+    pub out: Out<'a, K, B>,
+    pub trace: &'t Trace,
+    pub classes: Classes,
+    pub window: Window,
+    /// How many turns there were.
+    pub turns: u64,
 }
 
-impl<'a, P: Piece> Words<'a, P> {
-    /// Before the first turn.
-    pub fn new(
-        alloc: Global,
-        trace: &'a Trace,
-        window: Window,
-    ) -> Result<Words<'a, P>, AllocError> {
-        let mut text = Vec::new(alloc);
-        push_heads(&mut text)?;
-        Ok(Words {
-            course: Course::new(alloc, trace)?,
-            classes: Classes::new(alloc, trace)?,
-            window,
-            text,
-            is_short: false,
-        })
+impl<'a, 't, K: Sink, B: Begun<K>> Words<'a, 't, K, B> {
+    // the names of the columns
+    fn heads(&mut self) {
+        self.out.right("turn", 8);
+        self.out.right("client", 8);
+        self.out.right("agent", 7);
+        self.out.right("step", 8);
+        self.out.text("  word step                   word\n");
     }
 
-    // adds the line of a turn
-    fn push_turn(&mut self, shown: Shown, span: Span) -> Result<(), AllocError> {
-        let text = &mut self.text;
-        push_right(text, Some(span.now()), 8)?;
-        push_right(text, Some(u64::from(span.who)), 8)?;
-        push_right(text, Some(u64::from(span.agent)), 7)?;
-        push_right(text, Some(span.last.step), 8)?;
-        push_text(text, "  ")?;
+    // the line of a turn
+    fn line(&mut self, shown: Shown, span: Span) {
+        let out = &mut self.out;
+        out.number_right(Some(span.now()), 8);
+        out.number_right(Some(u64::from(span.who)), 8);
+        out.number_right(Some(span.agent), 7);
+        out.number_right(Some(span.last.step), 8);
+        out.text("  ");
         match shown {
             Shown::Word { ask, found, .. } => {
-                let from = text.len();
-                push_ask(text, ask, found)?;
-                pad(text, from, 26)?;
-                push_text(text, "  ")?;
-                let from = text.len();
-                self.classes.push_name(text, self.course.trace, at_of(ask))?;
-                push_notes(text, span, from)?;
+                let from = out.length();
+                out.ask(ask, found);
+                out.pad(from, 26);
+                out.text("  ");
+                let from = out.length();
+                self.classes.write_name(out, self.trace, at_of(ask));
+                out.notes(span, from);
             }
-            Shown::Death { .. } => push_death(text, span)?,
+            Shown::Death { .. } => out.death(span),
         }
-        push_text(text, "\n")
+        out.text("\n");
     }
 
-    /// All lines, and below them how many turns there were.
-    pub fn text(self) -> Result<Vec<u8>, AllocError> {
-        if self.is_short {
-            return Err(AllocError);
+    /// Ends the lines with how many turns there were.
+    pub fn end(&mut self) {
+        if self.turns == 0 {
+            self.heads();
         }
-        let mut text = self.text;
-        push_text(&mut text, "\nturns ")?;
-        push_number(&mut text, self.course.turns)?;
-        push_text(&mut text, "\n")?;
-        Ok(text)
+        self.out.text("\nturns ");
+        self.out.number(self.turns);
+        self.out.text("\n");
     }
 }
 
-impl<'a, P: Piece> Watcher for Words<'a, P> {
-    ghost saw = { λ _ _. Unit {0} };
+impl<'a, 't, K: Sink, B: Begun<K>> Listener for Words<'a, 't, K, B> {
+    ghost told = { λ _ _. Unit {0} };
 
-    fn see(&mut self, shown: Shown) {
+    fn tell(&mut self, shown: Shown, span: Span) {
+        if self.turns == 0 {
+            self.heads();
+        }
+        self.turns = span.now();
         if let Shown::Word { ask, found, .. } = shown {
-            self.classes.see(self.course.trace, ask, found);
+            self.classes.see(self.trace, ask, found);
         }
-        if let Some(span) = self.course.turn(shown) {
-            if self.window.has(span.now()) && self.push_turn(shown, span).is_err() {
-                self.is_short = true;
-            }
+        if self.window.has(span.now()) {
+            self.line(shown, span);
         }
     }
-}
-
-// adds the names of the columns
-fn push_heads(text: &mut Vec<u8>) -> Result<(), AllocError> {
-    push_word_right(text, "turn", 8)?;
-    push_word_right(text, "client", 8)?;
-    push_word_right(text, "agent", 7)?;
-    push_word_right(text, "step", 8)?;
-    push_text(text, "  word step                   word\n")
-}
-
-// adds a word step and what it found: `L6=1`, `S12=77`, `X50:0>9`, and `X50:0>9!8` of an exchange that found another word
-fn push_ask(text: &mut Vec<u8>, ask: Ask, found: u64) -> Result<(), AllocError> {
-    match ask {
-        Ask::Load { at } => push_word(text, "L", at, found),
-        Ask::Store { at, value } => push_word(text, "S", at, value),
-        Ask::Exchange { at, from, to } => {
-            push_text(text, "X")?;
-            push_number(text, u64::from(at))?;
-            push_text(text, ":")?;
-            push_number(text, from)?;
-            push_text(text, ">")?;
-            push_number(text, to)?;
-            if found != from {
-                push_text(text, "!")?;
-                push_number(text, found)?;
-            }
-            Ok(())
-        }
-    }
-}
-
-// adds a load or a store
-fn push_word(text: &mut Vec<u8>, sign: &str, at: u32, word: u64) -> Result<(), AllocError> {
-    push_text(text, sign)?;
-    push_number(text, u64::from(at))?;
-    push_text(text, "=")?;
-    push_number(text, word)
 }
 
 // whether a word step is the last one of a piece of work so far
@@ -139,30 +91,59 @@ fn is_now(point: Option<Point>, span: Span) -> bool {
     }
 }
 
-// adds that a piece of work begins, decides or ends with its last word step
-fn push_notes(text: &mut Vec<u8>, span: Span, from: usize) -> Result<(), AllocError> {
-    if is_now(span.begins, span) {
-        pad(text, from, 14)?;
-        push_text(text, "  begins ")?;
-        push_work(text, span.work)?;
+impl<'a, K: Sink, B: Begun<K>> Out<'a, K, B> {
+    // goes on with a word step and what it found: `L6=1`, `S12=77`, `X50:0>9`, and `X50:0>9!8` of an exchange that found another word
+    fn ask(&mut self, ask: Ask, found: u64) {
+        match ask {
+            Ask::Load { at } => self.word("L", at, found),
+            Ask::Store { at, value } => self.word("S", at, value),
+            Ask::Exchange { at, from, to } => {
+                self.text("X");
+                self.number(u64::from(at));
+                self.text(":");
+                self.number(from);
+                self.text(">");
+                self.number(to);
+                if found != from {
+                    self.text("!");
+                    self.number(found);
+                }
+            }
+        }
     }
-    if is_now(span.decides, span) {
-        pad(text, from, 14)?;
-        push_text(text, "  decides")?;
-    }
-    if matches!(span.fate, Fate::Ends) {
-        pad(text, from, 14)?;
-        push_text(text, "  ends")?;
-    }
-    Ok(())
-}
 
-// adds where an agent died
-fn push_death(text: &mut Vec<u8>, span: Span) -> Result<(), AllocError> {
-    if span.begins.is_some() {
-        push_text(text, "died in ")?;
-    } else {
-        push_text(text, "died before ")?;
+    // goes on with a load or a store
+    fn word(&mut self, sign: &str, at: u32, word: u64) {
+        self.text(sign);
+        self.number(u64::from(at));
+        self.text("=");
+        self.number(word);
     }
-    push_work(text, span.work)
+
+    // goes on with whether a piece of work begins, decides or ends with its last word step
+    fn notes(&mut self, span: Span, from: u64) {
+        if is_now(span.begins, span) {
+            self.pad(from, 14);
+            self.text("  begins ");
+            self.task(span.task);
+        }
+        if is_now(span.decides, span) {
+            self.pad(from, 14);
+            self.text("  decides");
+        }
+        if matches!(span.fate, Fate::Ends) {
+            self.pad(from, 14);
+            self.text("  ends");
+        }
+    }
+
+    // goes on with where an agent died
+    fn death(&mut self, span: Span) {
+        if span.begins.is_some() {
+            self.text("died in ");
+        } else {
+            self.text("died before ");
+        }
+        self.task(span.task);
+    }
 }

@@ -2,6 +2,7 @@ pub mod Giving
 pub mod Making
 pub mod Cuts
 pub mod Cancelling
+pub mod Joined
 pub mod Ongoing
 pub mod Recovering
 pub mod Gathering

@@ -1,16 +1,14 @@
 -- the steps of one call, some of which were made before others
 use Rattle.std.proofs.Common.{◌≡◌, ℕ, Bool, true, false, List, [], ◌∷◌, ◌++◌, append_assoc, length, length-append, refl, sym, ap, ◌∙◌, subst, arith}
+use Rattle.plans.specs.CallsFit.{CallsFits}
 use Rattle.shm_graph.specs.{declared.{memo.Step.Step, run.Account.Account}, Runs.account_after}
-use Rattle.shm_pool.specs.Calls.{CallSteps, Ending, Going, IsBy, Ongoing, Shown, accounts_by, fresh_after}
+use Rattle.shm_pool.specs.Calls.{CallSteps, Ending, Going, IsBy, IsDriven, Ongoing, Shown, accounts_by, fresh_after}
 use Rattle.shm_pool.specs.Rescues.{Rescuing}
-use Rattle.shm_async.specs.Rescued.{CallsOn}
+use Rattle.shm_recover.specs.{Machines.Recovering.recover, Recover.{Control.recover_parts, recover_plan}}
+use Rattle.shm_async.specs.Rescued.{CallsOn, account_by, made_steps}
+use Rattle.shm_async.proofs.Joined.{driven_then, fresh_then}
 
 -- ---- steps
-
-fresh_then : (b : Bool) (ts us : List Step) → fresh_after b (ts ++ us) ≡ fresh_after (fresh_after b ts) us
-fresh_then b [] us = refl
-fresh_then b (t ∷ ts) [] = refl
-fresh_then b (t ∷ ts) (u ∷ us) = refl
 
 accounts_then : (r : Account) (ts us : List Step) → accounts_by r (ts ++ us) ≡ accounts_by (accounts_by r ts) us
 accounts_then r [] us = refl
@@ -79,3 +77,18 @@ module _ (s : Shown) (r : Account) (z : Shown) (r1 r2 : Account) (a b c : ℕ) (
 pub calls_then : (over : Bool) (u v w : Rescuing) (a b c : ℕ) → CallsOn false u v a b → CallsOn over v w b c → CallsOn over u w a c
 calls_then false u v w a b c o k = ongoing_then _ _ _ _ _ a b c o _ k
 calls_then true u v w a b c o k = whole_then _ _ _ _ _ a b c o k
+
+-- ---- what their machine asked for
+
+-- the recovery u asked for these steps, and is v then
+abbrev pub Driven : Rescuing → Rescuing → List Step → Type 0
+Driven u v ts = IsDriven recover (CallsFits recover_parts recover_plan) u.machine v.machine (account_by u) (account_by v) ts
+
+module _ (u v w : Rescuing) (a b c : ℕ) (o : CallsOn false u v a b) (d : Driven u v o.steps) where
+  both_driven : (ts : List Step) → Driven v w ts → Driven u w (o.steps ++ ts)
+  both_driven ts e = driven_then recover (CallsFits recover_parts recover_plan) u.machine v.machine w.machine (account_by u) (account_by v) (account_by w) o.steps ts d e o.account o.first
+
+  pub driven_both : (over : Bool) (k : CallsOn over v w b c) → Driven v w (made_steps over v w b c k) → Driven u w (made_steps over u w a c (calls_then over u v w a b c o k))
+  unfolding calls_then ongoing_then whole_then
+  driven_both false k e = both_driven k.steps e
+  driven_both true k e = subst (Driven u w) (sym (append_assoc o.steps k.steps k.last)) (both_driven (k.steps ++ k.last) e)

@@ -1,13 +1,13 @@
 -- word steps of a recovery that is polled
-use Rattle.std.proofs.Common.{◌≡◌, ℕ, zero, suc, ◌+◌, ◌<◌, ◌≤◌, ◌⊎◌, Bool, true, false, [], ◌∷◌, inl, inr, refl, sym, ap, ◌∙◌, subst, arith, true≢false}
+use Rattle.std.proofs.Common.{◌≡◌, ℕ, zero, suc, ◌+◌, ◌<◌, ◌≤◌, ◌⊎◌, Bool, true, false, [], inl, inr, refl, sym, ap, ◌∙◌, subst, arith, true≢false}
 use Rattle.std.specs.Prelude.{None, Some, Ok, Err}
 use Rattle.plans.specs.{CallsFit.{CallsFits, CallsGives}, Proved.CallsKeep.calls_laws}
 use Rattle.shm_count.specs.{declared.answer.EraSpent.EraSpent, Steady.SameMap}
 use Rattle.shm_graph.specs.declared.{ask.{Life.Life, Me.Me, Turn.{Turn, TheVariants.{More, Done}}}, memo.Memo.Memo}
 use Rattle.shm_graph.specs.declared.{memo.{Status.TheVariants.Gone, Step.Step}, run.Account.Account}
 use Rattle.shm_graph.specs.{declared.spot.Spot.TheVariants.Era, Agents.{acts, steps_made}, Asks.call_before}
-use Rattle.shm_graph.specs.{Changes.asked_spot, Laws.{Laws, Stays, is_died, is_some, step_of}}
-use Rattle.shm_graph.specs.{Runs.{account_after, account_at}, Views.own_word, Whole.{fits_now, gives_now}}
+use Rattle.shm_graph.specs.{Changes.asked_spot, Laws.{Laws, Stays, is_died, step_of}, Runs.{account_after, account_at}}
+use Rattle.shm_graph.specs.{Views.own_word, Whole.{fits_now, gives_now}}
 use Rattle.shm_graph.proofs.{Machines.Composing.{none_of, some_of}, Memos.MemoSteps.steps_on}
 use Rattle.shm_ref.specs.Proved.DropRoots.Laws.{roots_laws}
 use Rattle.shm_recover.specs.Proved.{FinishTakes.Laws.finish_laws, GiveUp.Laws.give_laws, Mend.Laws.mend_laws}
@@ -15,16 +15,23 @@ use Rattle.shm_recover.specs.Proved.{Recover.Laws.recover_laws, Scan.Laws.scan_l
 use Rattle.shm_recover.specs.{Machines.Recovering.recover, Recover.{Control.recover_parts, recover_plan}}
 use Rattle.shm_recover.proofs.Steady.{recover_steady}
 use Rattle.shm_replay.specs.Closings.{SameTable}
-use Rattle.shm_pool.specs.{Calls.ClientStepped, Endings.Answer, Rescues.{RecoverMachine, Rescuing, account_of}}
-use Rattle.shm_pool.specs.Tokens.{Its}
-use Rattle.shm_pool.proofs.{Calling.{goes_on, is_over}, Rescuing.account_who}
-use Rattle.shm_async.specs.Rescued.{CallsOn, GoesOn, HasSpent, HasStepped, account_by}
-use Rattle.shm_async.proofs.Ongoing.{calls_then}
+use Rattle.shm_pool.specs.{Calls.{ClientStepped, Drives, IsDriven, Ongoing, shown}, Endings.Answer}
+use Rattle.shm_pool.specs.{Rescues.{RecoverMachine, Rescuing, account_of}, Tokens.Its}
+use Rattle.shm_pool.proofs.{Calling.{goes_on, is_over}, Driving.{driven_none, more, whole}, Rescuing.account_who}
+use Rattle.shm_async.specs.Rescued.{CallsOn, GoesOn, HasSpent, HasStepped, account_by, made_steps}
+use Rattle.shm_async.proofs.Ongoing.{Driven, calls_then, driven_both}
 
 recovery_laws : Laws recover (CallsFits recover_parts recover_plan) (CallsGives recover_parts recover_plan)
 recovery_laws = calls_laws recover_parts recover_plan (recover_laws mend_laws roots_laws back_laws finish_laws scan_laws give_laws)
 
--- before the first of them
+-- ---- before the first of them
+
+abbrev none_yet : (u : Rescuing) (left : ℕ) → CallsOn false u u left left
+none_yet u left = record { steps = []; going = tt; account = refl; life = omega arith; me = refl; line = refl; first = refl }
+
+none_driven : (u : Rescuing) → Driven u u []
+none_driven u = driven_none recover (CallsFits recover_parts recover_plan) (CallsGives recover_parts recover_plan) recovery_laws u.machine (account_by u)
+
 pub none_stepped : (u : Rescuing) (l : Life) → HasStepped false 0 u u l l
 none_stepped u l =
     record {
@@ -33,7 +40,8 @@ none_stepped u l =
       life = omega arith;
       steps = omega arith;
       begun = λ h. elim h [ inl is ↦ is | inr some ↦ absurd (omega arith) ];
-      call = record { steps = []; going = tt; account = refl; life = omega arith; me = refl; line = refl; first = refl };
+      call = none_yet u l.left;
+      driven = none_driven u;
       table = record { map = λ key. refl; loose = refl };
     }
 
@@ -47,6 +55,7 @@ stepped_then over n m u v w a b c h k =
       steps = (let x = h.steps in let y = k.steps in omega arith);
       begun = λ z. k.begun (begun_then n m z (h.begun));
       call = calls_then over u v w a.left b.left c.left h.call k.call;
+      driven = driven_both u v w a.left b.left c.left h.call h.driven over k.call k.driven;
       table = record { map = λ key. k.table.map key ∙ h.table.map key; loose = k.table.loose ∙ h.table.loose };
     }
   where
@@ -66,9 +75,14 @@ begun_account false e h = absurd (true≢false (sym h))
 -- one more, of the recovery v that goes on, which leaves v2 and answers t
 module _ (p : Its) (v v2 : Rescuing) (l l2 : Life) (t : Turn Answer) (g : GoesOn p v) (same : (v2.of ≡ v.of) × (v2.seat.who ≡ v.seat.who)) (life : l2.left + 1 ≡ l.left) (begun : v2.begun ≡ true)
     (x : ClientStepped recover (fits_now recover (CallsFits recover_parts recover_plan)) (gives_now (CallsGives recover_parts recover_plan)) v.machine (account_by v) v2.seat t v2.machine) where
+  who : (recover.me v.machine).who ≡ (account_by v).who
+  who = ap (λ (m : Me). m.who) g.me ∙ sym (account_who v.begun v.seat)
+
+  below : (recover.me v.machine).who < (recover.me v.machine).geometry.clients
+  below = subst (λ (c : ℕ). c < (recover.me v.machine).geometry.clients) (sym who) (subst (λ (n : ℕ). (account_by v).who < n) x.made.held.accounts x.made.here.0)
+
   acting : acts (account_by v).memo ≡ true
   acting =
-      let who : (recover.me v.machine).who ≡ (account_by v).who = ap (λ (m : Me). m.who) g.me ∙ sym (account_who v.begun v.seat) in
       let here = subst (λ (c : ℕ). acts (account_at x.made.accounts c).memo ≡ true) who x.made.move.1 in
       subst (λ (e : Account). acts e.memo ≡ true) x.made.here.1 here
 
@@ -88,8 +102,8 @@ module _ (p : Its) (v v2 : Rescuing) (l l2 : Life) (t : Turn Answer) (g : GoesOn
   steps : steps_made (account_by v2).memo ≡ steps_made (account_by v).memo + 1
   steps = ap (λ (e : Account). steps_made e.memo) account ∙ steps_on (account_by v).memo its (asked_spot (account_by v).memo its) acting
 
-  stepped_by : (over : Bool) → CallsOn over v v2 l.left l2.left → SameTable (account_by v).memo (account_by v2).memo → HasStepped over 1 v v2 l l2
-  stepped_by over call table =
+  stepped_by : (over : Bool) (call : CallsOn over v v2 l.left l2.left) → Driven v v2 (made_steps over v v2 l.left l2.left call) → SameTable (account_by v).memo (account_by v2).memo → HasStepped over 1 v v2 l l2
+  stepped_by over call driven table =
       record {
         of = same.0;
         who = same.1;
@@ -97,6 +111,7 @@ module _ (p : Its) (v v2 : Rescuing) (l l2 : Life) (t : Turn Answer) (g : GoesOn
         steps = steps;
         begun = λ h. begun;
         call = call;
+        driven = driven;
         table = table;
       }
 
@@ -138,21 +153,14 @@ module _ (p : Its) (v v2 : Rescuing) (l l2 : Life) (t : Turn Answer) (g : GoesOn
           fits = fits_on is;
         }
 
-    call_on : CallsOn false v v2 l.left l2.left
-    call_on =
-        record {
-          steps = its ∷ [];
-          going = (record { me = refl; line = refl; first = refl }, stays.ends ∙ ap is_some (none_by is), tt);
-          account = account;
-          life = life;
-          me = ap recover.me x.next ∙ stays.same_me;
-          line = ap recover.line x.next ∙ stays.same_line;
-          first = ap recover.fresh x.next ∙ stays.started;
-        }
+    more_by : (o : CallsOn false v v2 l.left l2.left) × Driven v v2 o.steps
+    more_by =
+        subst (λ (e : Account). (o : Ongoing (shown recover v.machine) (account_by v) (shown recover v2.machine) e l.left l2.left) × IsDriven recover (CallsFits recover_parts recover_plan) v.machine v2.machine (account_by v) e o.steps) (sym seat)
+        (more recover (CallsFits recover_parts recover_plan) (CallsGives recover_parts recover_plan) recovery_laws v.machine v.machine v2.machine (account_by v) (account_by v) v2.seat t g.start l.left l.left l2.left who below g.going g.fits (none_yet v l.left) (none_driven v) x (none_by is) life)
 
     pub goes_stepped : HasStepped false 1 v v2 l l2
     goes_stepped =
-        stepped_by false call_on (table_by (recover_steady v2.machine g.start (account_by v2).memo (call_before (recover.fresh v2.machine) (account_by v2).memo.call) going (fits_on is)))
+        stepped_by false more_by.0 more_by.1 (table_by (recover_steady v2.machine g.start (account_by v2).memo (call_before (recover.fresh v2.machine) (account_by v2).memo.call) going (fits_on is)))
 
   -- ---- its machine has answered
 
@@ -160,19 +168,13 @@ module _ (p : Its) (v v2 : Rescuing) (l l2 : Life) (t : Turn Answer) (g : GoesOn
     gave : Gives v.machine g.start v2.seat.memo a
     gave = is_over recover Fits Gives v.machine (account_by v) v2.seat t v2.machine g.start a g.fits x (some_by a is)
 
-    call_over : CallsOn true v v2 l.left l2.left
-    call_over =
-        record {
-          steps = [];
-          last = its ∷ [];
-          going = tt;
-          ends = (record { me = refl; line = refl; first = refl }, stays.ends ∙ ap is_some (some_by a is));
-          account = account;
-          life = life;
-        }
+    over_by : Drives recover (CallsFits recover_parts recover_plan) v.machine v2.machine (account_by v) (account_by v2) true l.left l2.left
+    over_by =
+        subst (λ (e : Account). Drives recover (CallsFits recover_parts recover_plan) v.machine v2.machine (account_by v) e true l.left l2.left) (sym seat)
+        (whole recover (CallsFits recover_parts recover_plan) (CallsGives recover_parts recover_plan) recovery_laws v.machine v.machine v2.machine (account_by v) (account_by v) v2.seat t g.start l.left l.left l2.left a who below g.going g.fits (none_yet v l.left) (none_driven v) x (some_by a is) life)
 
     pub over_stepped : HasStepped true 1 v v2 l l2
-    over_stepped = stepped_by true call_over (table_by (subst (λ (e : Account). SameMap g.start e.memo) (sym seat) (table_left a gave)))
+    over_stepped = stepped_by true over_by.call over_by.driven (table_by (subst (λ (e : Account). SameMap g.start e.memo) (sym seat) (table_left a gave)))
       where
         table_left : (b : Answer) → Gives v.machine g.start v2.seat.memo b → SameMap g.start v2.seat.memo
         table_left (Ok u) h = (h.leaves.map, h.leaves.loose)
@@ -184,13 +186,13 @@ module _ (p : Its) (v v2 : Rescuing) (l l2 : Life) (t : Turn Answer) (g : GoesOn
   pub ends_spent : (n : EraSpent) → t ≡ Done (Err n) → HasSpent v2.seat n.era
   ends_spent n is =
       let left = (gave (Err n) is).leaves in
-      let who : (recover.me v.machine).who ≡ v2.seat.who = ap (λ (m : Me). m.who) g.me ∙ sym same.1 in
+      let same_who : (recover.me v.machine).who ≡ v2.seat.who = ap (λ (m : Me). m.who) g.me ∙ sym same.1 in
       record {
         machine = v.machine;
         start = g.start;
         gave = gave (Err n) is;
         high = left.spent;
-        own = subst (λ (c : ℕ). n.era ≤ own_word v2.seat.memo.own (Era c c)) who left.most;
+        own = subst (λ (c : ℕ). n.era ≤ own_word v2.seat.memo.own (Era c c)) same_who left.most;
       }
 
 -- a word step was left where the answer wasn't that none is

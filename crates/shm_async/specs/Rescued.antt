@@ -1,10 +1,10 @@
 -- the recovery of an identity that is polled, and what a poll of it leaves
-use Rattle.std.specs.Prelude.{◌≡◌, ℕ, ◌+◌, ◌-◌, ◌^◌, ◌<◌, ◌≤◌, ◌⊎◌, Bool, true, false, Option, Some, None, MatchOption, IfOk, Result, Ok, Err}
+use Rattle.std.specs.Prelude.{◌≡◌, ℕ, ◌+◌, ◌-◌, ◌^◌, ◌<◌, ◌≤◌, ◌⊎◌, Bool, true, false, Option, Some, None, MatchOption, IfOk, Result, Ok, Err, List, ◌++◌}
 use Rattle.plans.specs.{CallsControl.calls_of, CallsFit.{CallsFits, CallsGives}}
-use Rattle.shm_graph.specs.declared.{ask.Life.Life, memo.{Memo.Memo, Status.TheVariants.Gone}, run.Account.Account}
-use Rattle.shm_graph.specs.{declared.spot.Spot.TheVariants.Era, Agents.steps_made, Views.own_word}
-use Rattle.shm_graph.specs.Whole.{fits_now, gives_now}
-use Rattle.shm_pool.specs.{declared.token.{Cause.Cause, Stopped.Stopped}, Calls.{CallSteps, Ongoing, shown}}
+use Rattle.shm_graph.specs.declared.{ask.Life.Life, memo.{Memo.Memo, Status.TheVariants.Gone, Step.Step}}
+use Rattle.shm_graph.specs.{declared.{run.Account.Account, spot.Spot.TheVariants.Era}, Agents.steps_made}
+use Rattle.shm_graph.specs.{Views.own_word, Whole.{fits_now, gives_now}}
+use Rattle.shm_pool.specs.{declared.token.{Cause.Cause, Stopped.Stopped}, Calls.{CallSteps, IsDriven, Ongoing, shown}}
 use Rattle.shm_pool.specs.{Endings.spent, Rescues.{RecoverMachine, Rescuing, account_of}, Tokens.{Its, Token, me_of}}
 use Rattle.shm_pool.specs.declared.token.Cause.TheVariants as cause
 use Rattle.shm_recover.specs.{Machines.Recovering.recover, Recover.Control.{recover_parts, recovering, recover_steered}}
@@ -58,7 +58,12 @@ abbrev pub CallsOn : Bool → Rescuing → Rescuing → ℕ → ℕ → Type 0
 CallsOn false u v before left = Ongoing (shown recover u.machine) (account_by u) (shown recover v.machine) (account_by v) before left
 CallsOn true u v before left = CallSteps (shown recover u.machine) (account_by u) (account_by v) true before left
 
--- v is the recovery u after n word steps, with the last of which its machine has answered where it is `over`; the map of the identity's table is what it was
+-- these steps
+abbrev pub made_steps : (over : Bool) (u v : Rescuing) (before left : ℕ) → CallsOn over u v before left → List Step
+made_steps false u v before left c = c.steps
+made_steps true u v before left c = c.steps ++ c.last
+
+-- v is the recovery u after n word steps, with the last of which its machine has answered where it is `over`: each was one turn that the machine asked for, with the event that it tells; the map of the identity's table is what it was
 pub record HasStepped (over : Bool) (n : ℕ) (u v : Rescuing) (before left : Life) : Type 0 where
   pub of : v.of ≡ u.of
   pub who : v.seat.who ≡ u.seat.who
@@ -66,6 +71,7 @@ pub record HasStepped (over : Bool) (n : ℕ) (u v : Rescuing) (before left : Li
   pub steps : steps_made (account_by v).memo ≡ steps_made (account_by u).memo + n
   pub begun : (u.begun ≡ true) ⊎ (0 < n) → v.begun ≡ true
   pub call : CallsOn over u v before.left left.left
+  pub driven : IsDriven recover (CallsFits recover_parts recover_plan) u.machine v.machine (account_by u) (account_by v) (made_steps over u v before.left left.left call)
   pub table : SameTable (account_by u).memo (account_by v).memo
 
 -- the machine answered that the own era left no room: it read n, which is above 2^47 - 3, and the identity's own era is that at least

@@ -1,6 +1,6 @@
 -- what lies where a pointer of C leads
-use Rattle.std.specs.{Prelude.{◌≡◌, ℕ}, Borrow.full_share, Box.Ownership.box_owns, declared.alloc.Global.Global}
-use Rattle.std.specs.contracts.impls.GlobalAllocator.TheImpl.{ghosts}
+use Rattle.std.specs.{Prelude.{◌≡◌, ℕ, replicate}, Borrow.full_share, Box.Ownership.box_owns}
+use Rattle.std.specs.{declared.alloc.Global.Global, contracts.impls.GlobalAllocator.TheImpl.ghosts}
 use base.Fml.{Fml, fex}
 use denote.RawPtr.{Ptr, lies_at}
 use Rattle.shm_session.specs.declared.said.{Call.Call, Said.Said}
@@ -12,7 +12,7 @@ seat_at p x = lies_at the_row full_share p x
 
 -- a call by its number, with its three numbers
 abbrev pub call_of : ℕ → ℕ → ℕ → ℕ → Call
-call_of op a b c = record { op = op; first = a; second = b; third = c }
+call_of op a b c = record { op = op; first = a; second = b; third = c; words = replicate 8 0 }
 
 -- what a session became in a call that said r
 pub record Called (before : Seat) (c : Call) (r : Said) : Type 0 where

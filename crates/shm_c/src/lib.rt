@@ -1,13 +1,16 @@
 //! Sessions, for C: the header `lojarnek.h` says what each function is.
 #![tactic(auto)]
 
-ghost use Rattle.std.specs.Borrow.{sem};
+ghost use Rattle.std.specs.{Borrow.sem, Option.is_some, Prelude.{◌≡◌, ◌⊎◌, IfSome, false, true}};
+ghost use Rattle.shm_words.specs.Layout.{GeometryFits};
+ghost use Rattle.shm_session.specs.Pools.{geometry_of, may_open, status_or, total_or, word_or};
 ghost use Rattle.shm_sitting.specs.{declared.seat.Seat.Seat, Seats.{IsCalled, IsTold}};
 ghost use Rattle.shm_c.specs.Holds.{call_of, called_at, seat_at, seat_owned, told_at};
 
 use handles::Loose;
 use shm_session::{Call, Said, first_word, geometry, identity, status_word};
-use shm_sitting::Seat;
+use shm_sitting::{Kind, Seat};
+use shm_words::Geometry;
 use std::alloc::Global;
 
 /// Frees a session.
@@ -25,7 +28,9 @@ fn give(session: Loose<Seat, Global>) -> *mut u8
 
 /// How many words a pool has; 0 where there is no such pool.
 #[unsafe(no_mangle)]
-pub extern "C" fn lj_total(format: u32, clients: u32, segments: u32) -> u32 {
+pub extern "C" fn lj_total(format: u32, clients: u32, segments: u32) -> u32
+    ensures { result ≡ total_or (geometry_of format clients segments) }
+{
     match geometry(format, clients, segments) {
         Some(geometry) => geometry.total(),
         None => 0,
@@ -40,7 +45,9 @@ pub extern "C" fn lj_first_word(
     segments: u32,
     first_era: u64,
     at: u32,
-) -> u64 {
+) -> u64
+    ensures { result ≡ word_or (geometry_of format clients segments) first_era at }
+{
     match geometry(format, clients, segments) {
         Some(geometry) => {
             if at < geometry.total() {
@@ -55,31 +62,38 @@ pub extern "C" fn lj_first_word(
 
 /// The address of the status of an identity; 0 where there is none.
 #[unsafe(no_mangle)]
-pub extern "C" fn lj_status_at(format: u32, clients: u32, segments: u32, who: u32) -> u32 {
+pub extern "C" fn lj_status_at(format: u32, clients: u32, segments: u32, who: u32) -> u32
+    ensures { result ≡ status_or (geometry_of format clients segments) who }
+{
     match geometry(format, clients, segments) {
-        Some(geometry) => status_word(geometry, who).unwrap_or(0),
+        Some(geometry) => match status_word(geometry, who) {
+            Some(at) => at,
+            None => 0,
+        },
         None => 0,
     }
 }
 
-/// Makes a session of an identity whose status was found so, and writes where it lies; where the code isn't 0 nothing is written.
-#[unsafe(no_mangle)]
-pub extern "C" fn lj_open(
-    alloc: Global,
-    format: u32,
-    clients: u32,
-    segments: u32,
-    who: u32,
-    status: u64,
-    out: &mut *mut u8,
-) -> u32 {
-    let Some(geometry) = geometry(format, clients, segments) else {
-        return 64;
-    };
-    let Some(me) = identity(geometry, who) else {
-        return 64;
-    };
-    let Some(session) = Seat::new(me, status) else {
+/// A session in a pool of this kind; none where there is no such pool, identity or status.
+fn seat(kind: Kind, pool: Option<Geometry>, who: u32, status: u64) -> Option<Seat>
+    requires { IfSome pool GeometryFits }
+    ensures { is_some result ≡ may_open pool who status }
+{
+    match pool {
+        Some(geometry) => match identity(geometry, who) {
+            Some(me) => Seat::new(kind, me, status),
+            None => None,
+        },
+        None => None,
+    }
+}
+
+/// Gives a session to the caller: 0, or why there is none, and then nothing is written.
+fn open(alloc: Global, session: Option<Seat>, out: &mut *mut u8) -> u32
+    ensures refused { is_some session ≡ false → (result ≡ 64) × (out.new ≡ out.old) }
+    ensures opened { is_some session ≡ true → (result ≡ 0) ⊎ ((result ≡ 68) × (out.new ≡ out.old)) }
+{
+    let Some(session) = session else {
         return 64;
     };
     match Box::new(alloc, session) {
@@ -89,6 +103,42 @@ pub extern "C" fn lj_open(
         }
         Err(_) => 68,
     }
+}
+
+/// Makes a session of an identity whose status was found so, in a pool for tables, and writes where it lies; where the code isn't 0 nothing is written.
+#[unsafe(no_mangle)]
+pub extern "C" fn lj_open(
+    alloc: Global,
+    format: u32,
+    clients: u32,
+    segments: u32,
+    who: u32,
+    status: u64,
+    out: &mut *mut u8,
+) -> u32
+    ensures refused { may_open (geometry_of format clients segments) who status ≡ false → (result ≡ 64) × (out.new ≡ out.old) }
+    ensures opened { may_open (geometry_of format clients segments) who status ≡ true → (result ≡ 0) ⊎ ((result ≡ 68) × (out.new ≡ out.old)) }
+{
+    let pool = geometry(format, clients, segments);
+    open(alloc, seat(Kind::Tables, pool, who, status), out)
+}
+
+/// The same in a pool for single blocks.
+#[unsafe(no_mangle)]
+pub extern "C" fn lj_open_singles(
+    alloc: Global,
+    format: u32,
+    clients: u32,
+    segments: u32,
+    who: u32,
+    status: u64,
+    out: &mut *mut u8,
+) -> u32
+    ensures refused { may_open (geometry_of format clients segments) who status ≡ false → (result ≡ 64) × (out.new ≡ out.old) }
+    ensures opened { may_open (geometry_of format clients segments) who status ≡ true → (result ≡ 0) ⊎ ((result ≡ 68) × (out.new ≡ out.old)) }
+{
+    let pool = geometry(format, clients, segments);
+    open(alloc, seat(Kind::Singles, pool, who, status), out)
 }
 
 /// Frees a session.
@@ -105,11 +155,13 @@ pub unsafe extern "C" fn lj_close(alloc: Global, at: *mut u8)
 fn call(session: &mut Seat, op: u32, first: u64, second: u64, third: u64) -> Said
     ensures { IsCalled session.old (call_of op first second third) result session.new }
 {
+    let words = [0; 8];
     session.call(Call {
         op,
         first,
         second,
         third,
+        words,
     })
 }
 

@@ -3,12 +3,15 @@ use Rattle.std.proofs.Common.{◌≡◌, ℕ, Bool, false, true, List, [], ◌�
 use Rattle.std.specs.{Prelude.{Err, Ok}, List.filter}
 use Rattle.plans.specs.{CallsControl.{calls_control, calls_does, calls_of}, CallsFit.{CallsFits, CallsGives}}
 use Rattle.plans.specs.Plans.{Planned}
-use Rattle.shm_graph.specs.{declared.{memo.{Memo.Memo, Step.Step}, run.Account.Account}, Asks.Trail, Events.Event}
-use Rattle.shm_graph.specs.{Laws.Control, Runs.account_after, Tells.{happens_along, is_event}, Whole.gives_now}
+use Rattle.shm_graph.specs.{declared.{ask.Life.Life, memo.{Memo.Memo, Step.Step}, run.Account.Account}, Asks.Trail}
+use Rattle.shm_graph.specs.{Events.Event, Laws.Control, Runs.account_after, Tells.{happens_along, is_event}}
+use Rattle.shm_graph.specs.Whole.{gives_now}
 use Rattle.shm_pool.specs.{declared.{reply.Reply.Reply, token.Cause.Cause}, Doing.{AreTold, HasDone}, Rules.IsMade}
 use Rattle.shm_pool.specs.Calls.{AreMade, CallSteps, Shown, accounts_by, pairs}
-use Rattle.shm_pool.specs.{Endings.{Answer, EndIsTold, HasAnswered, StopIsTold, spent}, Tokens.{Acting, Its, Token}}
+use Rattle.shm_pool.specs.{Endings.{Answer, EndIsTold, HasAnswered, StopIsTold, spent}, Rescues.Rescuing}
+use Rattle.shm_pool.specs.Tokens.{Acting, Its, Token}
 use Rattle.shm_pool.specs.declared.token.Cause.TheVariants as cause
+use Rattle.shm_async.specs.Rescued.{HasStepped, account_by}
 use Rattle.shm_outcomes.specs.{Happened.HasMadeSo, Turning.AreTurns}
 
 -- ---- turns
@@ -32,6 +35,11 @@ module _ {M : Type 0} (k : Control M Answer) (fits : M → Memo → Memo → Tra
   pub stop_turns : (x : Cause) (t : Token) → StopIsTold k fits gives does m p e before left x t → AreTurns e t.account before left
   stop_turns cause.Died t h = turns_of _ e t.account _ before left h.by.call h.events.made
   stop_turns (cause.EraSpent n) t h = turns_of _ e t.account _ before left h.by.call h.events.made
+
+pub stepped_turns : (over : Bool) (n : ℕ) (u v : Rescuing) (before left : Life) → HasStepped over n u v before left → AreTurns (account_by u) (account_by v) before.left left.left
+stepped_turns false n u v before left h =
+    record { steps = h.call.steps; account = h.call.account; life = h.call.life; turns = λ first behind t is. made_in (account_by u) first behind t (subst (AreMade (account_by u)) is h.driven.made) }
+stepped_turns true n u v before left h = turns_of _ (account_by u) (account_by v) true before.left left.left h.call h.driven.made
 
 -- ---- what is left
 

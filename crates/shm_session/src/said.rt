@@ -29,13 +29,14 @@ pub enum Misuse {
     Idle,
 }
 
-/// An operation by its number, with its numbers.
+/// An operation by its number, with its numbers; of an allocation `words` are the plain words of the new block.
 #[derive(Clone, Copy, Debug, PartialEq, Eq, Drop)]
 pub struct Call {
     pub op: u32,
     pub first: u64,
     pub second: u64,
     pub third: u64,
+    pub words: [u64; 8],
 }
 
 /// What is said: a word step, an answer or a refusal, by its code.

@@ -1,4 +1,6 @@
 -- what the crate's contracts cite
 pub mod Numbers
 pub mod Tables
+pub mod TablesSeats
+pub mod SinglesSeats
 pub mod Seats

@@ -1,18 +1,26 @@
--- what calls make of a session in a pool for tables
-use Rattle.std.specs.Prelude.{◌≡◌, ℕ}
-use Rattle.shm_session.specs.{declared.said.{Call.Call, Said.Said}, Sessions.{called, told}}
-use Rattle.shm_sitting.specs.{declared.seat.Seat.Seat, Tables.tables}
+-- what calls make of a session, by the kind of its pool
+use Rattle.std.specs.Prelude.{ℕ}
+use Rattle.shm_graph.specs.declared.ask.Me.{Me}
+use Rattle.shm_session.specs.declared.said.{Call.Call, Said.Said}
+use Rattle.shm_sitting.specs.declared.seat.{Kind.Kind, Seat.{Seat, TheVariants.{Tables, Singles}}}
+use Rattle.shm_sitting.specs.declared.seat.Kind.TheVariants as kind
+use Rattle.shm_sitting.specs.TablesSeats as table
+use Rattle.shm_sitting.specs.SinglesSeats as single
 
--- a word was told: the work goes on by its control, and its next word step is said, or its answer
-pub record IsTold (s : Seat) (n : ℕ) (r : Said) (t : Seat) : Type 0 where
-  pub me : t.session.me ≡ s.session.me
-  pub said : r ≡ (told tables s.session.stage s.session.work n).said
-  pub stage : t.session.stage ≡ (told tables s.session.stage s.session.work n).stage
-  pub work : t.session.work ≡ (told tables s.session.stage s.session.work n).work
+-- a session was opened in a pool of this kind: it is one of this kind
+abbrev pub IsOpened : Kind → Me → ℕ → Seat → Type 0
+IsOpened kind.Tables me n (Tables s) = table.IsOpened me n s
+IsOpened kind.Singles me n (Singles s) = single.IsOpened me n s
+IsOpened k me n s = ⊥
+
+-- a word was told: a session stays one of its kind, and becomes what this kind says
+abbrev pub IsTold : Seat → ℕ → Said → Seat → Type 0
+IsTold (Tables s) n r (Tables t) = table.IsTold s n r t
+IsTold (Singles s) n r (Singles t) = single.IsTold s n r t
+IsTold s n r t = ⊥
 
 -- a call by its number
-pub record IsCalled (s : Seat) (c : Call) (r : Said) (t : Seat) : Type 0 where
-  pub me : t.session.me ≡ s.session.me
-  pub said : r ≡ (called tables s.session.me s.session.stage s.session.work c).said
-  pub stage : t.session.stage ≡ (called tables s.session.me s.session.stage s.session.work c).stage
-  pub work : t.session.work ≡ (called tables s.session.me s.session.stage s.session.work c).work
+abbrev pub IsCalled : Seat → Call → Said → Seat → Type 0
+IsCalled (Tables s) c r (Tables t) = table.IsCalled s c r t
+IsCalled (Singles s) c r (Singles t) = single.IsCalled s c r t
+IsCalled s c r t = ⊥

@@ -37,6 +37,7 @@ pub(crate) fn line_of(call: Call) -> Option<Line>
         first,
         second,
         third,
+        ..
     } = call;
     match op {
         4 => {

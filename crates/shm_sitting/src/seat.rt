@@ -1,31 +1,48 @@
-//! A session with its work.
+//! A session, by the kind of its pool.
 
-ghost use Rattle.std.specs.Prelude.{◌≡◌, ◌<◌, Some, None, IfSome};
+ghost use Rattle.std.specs.{Prelude.{◌≡◌, ◌<◌, IfSome}, Option.is_some};
 ghost use Rattle.shm_words.specs.Layout.{GeometryFits};
 ghost use Rattle.shm_session.specs.Sessions.{stage_found};
-ghost use Rattle.shm_sitting.specs.Seats.{IsCalled, IsTold};
+ghost use Rattle.shm_sitting.specs.Seats.{IsCalled, IsOpened, IsTold};
 
-use crate::work::Tables;
+use crate::singles_seat::SinglesSeat;
+use crate::tables_seat::TablesSeat;
 use shm_graph::Me;
-use shm_session::{Call, Said, Session};
+use shm_session::{Call, Said};
+
+/// What a pool is for.
+#[derive(Clone, Copy, Drop)]
+pub enum Kind {
+    /// Each identity has a table of keys.
+    Tables,
+    /// Each identity names blocks by its roots.
+    Singles,
+}
 
 /// A session of an identity.
 #[derive(Drop)]
-pub struct Seat {
-    session: Session<Tables>,
+pub enum Seat {
+    Tables(TablesSeat),
+    Singles(SinglesSeat),
 }
 
 impl Seat {
-    /// A session of an identity, whose status word was found so; none where the word is no status.
-    pub fn new(me: Me, status: u64) -> Option<Seat>
+    /// A session of an identity in a pool of this kind, whose status word was found so; none where the word is no status.
+    pub fn new(kind: Kind, me: Me, status: u64) -> Option<Seat>
         requires geometry { GeometryFits me.geometry }
         requires who { me.who < me.geometry.clients }
-        ensures some { IfSome result (λ s. (s.session.me ≡ me) × (s.session.work ≡ None) × (stage_found status ≡ Some s.session.stage)) }
-        ensures none { result ≡ None → stage_found status ≡ None }
+        ensures some { IfSome result (IsOpened kind me status) }
+        ensures is { is_some result ≡ is_some (stage_found status) }
     {
-        match Session::new(me, status) {
-            Ok(session) => Some(Seat { session }),
-            Err(_) => None,
+        match kind {
+            Kind::Tables => match TablesSeat::new(me, status) {
+                Some(seat) => Some(Seat::Tables(seat)),
+                None => None,
+            },
+            Kind::Singles => match SinglesSeat::new(me, status) {
+                Some(seat) => Some(Seat::Singles(seat)),
+                None => None,
+            },
         }
     }
 
@@ -33,7 +50,10 @@ impl Seat {
     pub fn call(&mut self, call: Call) -> Said
         ensures { IsCalled self.old call result self.new }
     {
-        self.session.call(call)
+        match self {
+            Seat::Tables(seat) => seat.call(call),
+            Seat::Singles(seat) => seat.call(call),
+        }
     }
 
     /// Takes the word that was found, for a store 0: the next word step, or the answer.
@@ -41,6 +61,9 @@ impl Seat {
     pub fn tell(&mut self, found: u64) -> Said
         ensures { IsTold self.old found result self.new }
     {
-        self.session.tell(found)
+        match self {
+            Seat::Tables(seat) => seat.tell(found),
+            Seat::Singles(seat) => seat.tell(found),
+        }
     }
 }

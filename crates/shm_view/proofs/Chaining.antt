@@ -1,5 +1,5 @@
 -- how chains go on
-use Rattle.std.proofs.Common.{◌≡◌, ◌≢◌, ℕ, zero, suc, ◌+◌, ◌-◌, ◌<◌, ◌≤◌, max, eqb, List, map, length, get_or, slice_index, refl, subst, ap, ◌∙◌, sym, add-one, arith}
+use Rattle.std.proofs.Common.{◌≡◌, ◌≢◌, ℕ, zero, suc, ◌+◌, ◌-◌, ◌<◌, max, eqb, List, slice_index, refl, subst, ap, ◌∙◌, sym, add-one, arith}
 use Rattle.std.proofs.lemmas.Bool.{ne_eqb, cond-false}
 use Rattle.shm_view.specs.Chains.{chain_length, greatest_below}
 

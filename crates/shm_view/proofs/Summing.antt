@@ -1,11 +1,11 @@
 -- sums of kinds grow number by number
-use Rattle.std.proofs.Common.{◌≡◌, ◌≢◌, ℕ, zero, suc, ◌+◌, ◌%◌, ◌^◌, ◌<◌, ◌≤◌, eqb, List, length, get_or, set, length-set, get_or-set_same, get_or-set_other, inl, inr, refl, subst, ap, ◌∙◌, sym, arith}
+use Rattle.std.proofs.Common.{◌≡◌, ◌≢◌, ℕ, ◌+◌, ◌%◌, ◌^◌, ◌<◌, ◌≤◌, List, length, get_or, set, length-set, get_or-set_same, get_or-set_other, inl, inr, refl, subst, ap, ◌∙◌, sym, arith}
 use Rattle.std.proofs.lemmas.Bool.{cases_eq, cases_lt, eq-eqb, ne_eqb}
 use Rattle.std.specs.Prelude.{Option, Some, None}
-use Rattle.shm_graph.specs.References.{sum_below, one_if}
+use Rattle.shm_graph.specs.References.{one_if}
 use Rattle.shm_graph.proofs.Spots.Summing.{sum_below-one_more}
 use Rattle.shm_audit.proofs.Tallying.{ones_most}
-use Rattle.shm_view.specs.Sums.{AreSums, how_many, is_kind}
+use Rattle.shm_view.specs.Sums.{AreSums, is_kind}
 
 -- a number of no kind changes no sum
 pub sums_none : (kind : ℕ → Option ℕ) (n : ℕ) (sums : List ℕ) → kind n ≡ None → AreSums kind n sums → AreSums kind (n + 1) sums

@@ -3,3 +3,4 @@ pub mod Kinds
 pub mod Chains
 pub mod Figures
 pub mod Svg
+pub mod Changes

@@ -16,6 +16,9 @@ pub const LINE: u32 = 10;
 
 pub const ROW: u32 = 8 * LINE + 16;
 
+/// How many segments a picture shows at most.
+pub const MOST: u16 = 64;
+
 /// A rectangle.
 pub fn rect(place: (u32, u32), size: (u32, u32), fill: Colour) -> Shape {
     Shape::Rect {

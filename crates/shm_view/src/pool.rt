@@ -6,26 +6,12 @@ ghost use Rattle.shm_audit.specs.{Faults.image_fault_of, Stops.StopsBy};
 ghost use Rattle.shm_view.specs.{Svg.picture_text, declared.svg.Picture.Picture as APicture};
 
 use crate::arrows::draw_table;
-use crate::layout::{LEFT, LINE, PAGE, ROW, TOP, WIDTH, rect};
+use crate::layout::{LEFT, LINE, MOST, PAGE, ROW, TOP, WIDTH, rect};
+use crate::pages::{GREY, WHITE, class_of, draw_rest, owner_text, size_of};
 use crate::svg::{Colour, Picture, Shape, svg_text};
 use shm_audit::{AuditStop, audit, open_image, word};
 use shm_words::{Geometry, Header};
 use std::alloc::{AllocError, Global};
-
-/// How many segments a picture shows at most.
-const MOST: u16 = 64;
-
-const WHITE: Colour = Colour {
-    red: 255,
-    green: 255,
-    blue: 255,
-};
-
-const GREY: Colour = Colour {
-    red: 221,
-    green: 221,
-    blue: 221,
-};
 
 /// The pool of an image as a picture, or the first fault of the image, as an audit finds it.
 ///
@@ -71,15 +57,7 @@ fn draw(
             text,
         })?;
     }
-    let rest = geometry.segments() - rows;
-    if rest > 0 {
-        let text = format!(in alloc; "and {rest} more segments, not shown")?;
-        shapes.push(Shape::Label {
-            x: 16,
-            y: bottom + 36,
-            text,
-        })?;
-    }
+    draw_rest(alloc, &mut shapes, geometry.segments() - rows, bottom)?;
     Ok(Picture {
         width: WIDTH,
         height: bottom + 60,
@@ -132,10 +110,7 @@ fn draw_segment(
     requires shown { s < 64 }
 {
     let y = TOP + ROW * u32::from(s);
-    let text = match word(words, geometry.segment(s)) {
-        0 => format!(in alloc; "{s}: nobody's")?,
-        owner => format!(in alloc; "{s}: client {}", owner - 1)?,
-    };
+    let text = owner_text(alloc, s, word(words, geometry.segment(s)))?;
     shapes.push(Shape::Label {
         x: 16,
         y: y + 52,
@@ -152,19 +127,6 @@ fn draw_segment(
         )?;
     }
     Ok(())
-}
-
-// the class that the word of a page says, and 0 where it says none
-fn class_of(word: u64) -> u32
-    ensures { result ≤ 32 }
-{
-    match word {
-        4 => 4,
-        8 => 8,
-        16 => 16,
-        32 => 32,
-        _ => 0,
-    }
 }
 
 // a page of this class that begins at an address, and its blocks; a page of class 0 has none
@@ -184,13 +146,12 @@ fn draw_page(
         shapes.push(rect(place, (128, 8 * LINE), GREY))?;
         return Ok(());
     }
-    let size = (8 * class.min(16) - 2, LINE * (class.max(16) / 16) - 2);
     for k in 0..32 {
         let from = 4 * k;
         if from % class == 0 {
             let is_live = Header::unpack(word(words, first + from)).live;
             let at = (place.0 + 8 * (from % 16), place.1 + LINE * (from / 16));
-            shapes.push(rect(at, size, colour(class, is_live)))?;
+            shapes.push(rect(at, size_of(class), colour(class, is_live)))?;
         }
     }
     Ok(())

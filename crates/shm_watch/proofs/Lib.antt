@@ -2,3 +2,4 @@ mod Worked
 mod Giving
 mod Answering
 mod Showing
+mod Following

@@ -1,6 +1,6 @@
 //! Replays of whole traces, watched.
 
-ghost use Rattle.std.specs.Prelude.{◌≡◌, ◌<◌, [], IfOk};
+ghost use Rattle.std.specs.Prelude.{◌≡◌, ◌<◌, [], IfErr, IfOk};
 ghost use Rattle.shm_words.specs.Layout.{GeometryFits};
 ghost use Rattle.shm_plain.specs.Pools.{Pool as APool, first_pool};
 ghost use Rattle.shm_replay.specs.{Orders.IsGivenAll, Replays.start_of, Seats.AreSeated};
@@ -49,15 +49,32 @@ fn play<A: Play, W: Watcher>(
     give_rounds(agents, trace, pool);
 }
 
-/// Shows the turns that a trace gives, whatever plays its scripts.
-fn watch_by<A: Play, W: Watcher>(alloc: Global, trace: &Trace, watcher: W) -> Result<W, AllocError>
-    requires { W.saw watcher [] }
-    ensures { IfOk result (λ w. (p : APool) × IsGivenAll trace.now (first_pool (start_of trace.now)) p × W.saw w (shown_of p.turns)) }
+/// The agents of all identities and their pool, before the first turn.
+fn stage<A: Play>(
+    alloc: Global,
+    trace: &Trace,
+) -> Result<(Vec<Option<Players<A>>>, PlainPool), AllocError>
+    ensures seated { IfOk result (λ s. AreSeated trace.now s.1 s.0.items) }
+    ensures first { IfOk result (λ s. s.1 ≡ first_pool (start_of trace.now)) }
 {
     trace.in_grammar();
     let geometry = geometry_of(trace);
-    let mut agents = all_agents::<A>(alloc, geometry, trace)?;
-    let mut pool = Watched::new(PlainPool::make(alloc, geometry, 1, true)?, watcher);
+    let agents = all_agents::<A>(alloc, geometry, trace)?;
+    let pool = PlainPool::make(alloc, geometry, 1, true)?;
+    Ok((agents, pool))
+}
+
+/// Shows the turns that a trace gives, whatever plays its scripts.
+fn watch_by<A: Play, W: Watcher>(alloc: Global, trace: &Trace, watcher: W) -> Result<W, W>
+    requires { W.saw watcher [] }
+    ensures shown { IfOk result (λ w. (p : APool) × IsGivenAll trace.now (first_pool (start_of trace.now)) p × W.saw w (shown_of p.turns)) }
+    ensures short { IfErr result (λ w. w ≡ watcher) }
+{
+    let (mut agents, pool) = match stage::<A>(alloc, trace) {
+        Ok(stage) => stage,
+        Err(_) => return Err(watcher),
+    };
+    let mut pool = Watched::new(pool, watcher);
     play(&mut agents, trace, &mut pool);
     Ok(pool.watcher())
 }
@@ -67,10 +84,11 @@ fn watch_by<A: Play, W: Watcher>(alloc: Global, trace: &Trace, watcher: W) -> Re
 ///
 /// # Errors
 ///
-/// Want of memory, and nothing else.
-pub fn watch<W: Watcher>(alloc: Global, trace: &Trace, watcher: W) -> Result<W, AllocError>
+/// Want of memory, and nothing else. Then the watcher was shown nothing, and is handed back as it was.
+pub fn watch<W: Watcher>(alloc: Global, trace: &Trace, watcher: W) -> Result<W, W>
     requires { W.saw watcher [] }
-    ensures { IfOk result (λ w. (p : APool) × IsGivenAll trace.now (first_pool (start_of trace.now)) p × W.saw w (shown_of p.turns)) }
+    ensures shown { IfOk result (λ w. (p : APool) × IsGivenAll trace.now (first_pool (start_of trace.now)) p × W.saw w (shown_of p.turns)) }
+    ensures short { IfErr result (λ w. w ≡ watcher) }
 {
     watch_by::<Cast, W>(alloc, trace, watcher)
 }

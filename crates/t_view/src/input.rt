@@ -72,6 +72,7 @@ pub fn change(
     let (first, second) = numbers(rest);
     match kind {
         "image" => *input = new_image(alloc, rest)?,
+        "and" => input.extend_from_slice(new_image(alloc, rest)?.as_slice())?,
         "+" => add_line(input, rest)?,
         "lines" => {
             let (_, line) = rest.split_once(' ').unwrap_or((rest, ""));

@@ -1,9 +1,10 @@
 //! Calls of `cxlview`, by the rows of standard input.
 //!
-//! A row `# TITLE` is told as it is, and an empty input begins. `image F N G` begins the input anew as the image of a pool of format F with N
-//! clients and G segments, whose words are 0; `set AT WORD` sets a word of the pool, `byte AT B` a byte of the input, and `cut LEN` keeps its
-//! first LEN bytes. `+ LINE` adds a line to it, and `lines K LINE` K of them. `read K` and `write K` have the read or the write of number K fail in the
-//! next call. `view WORD ..` makes the call with these words: it tells the status, what goes to standard error, and what is written.
+//! A row `# TITLE` is told as it is, and an empty input begins. `image F N G` begins the input anew as the image of a pool of format F with
+//! N clients and G segments, whose words are 0, and `and F N G` adds such an image to it; `set AT WORD` sets a word of the pool, as if all
+//! behind its sizes were its words, `byte AT B` a byte of the input, and `cut LEN` keeps its first LEN bytes. `+ LINE` adds a line to it,
+//! and `lines K LINE` K of them. `read K` and `write K` have the read or the write of number K fail in the next call. `view WORD ..` makes
+//! the call with these words: it tells the status, what goes to standard error, and what is written.
 #![tactic(auto)]
 
 mod input;

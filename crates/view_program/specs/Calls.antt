@@ -2,11 +2,16 @@
 use Rattle.std.specs.Prelude.{◌≡◌, ℕ, ◌⊎◌, List, Option, Some, None}
 use Rattle.shm_audit.specs.{declared.fault.ImageFault.ImageFault, Faults.image_fault_of}
 use Rattle.shm_io.specs.{Faults.Rose, Reading.TakesFront, Writing.Appends}
+use Rattle.shm_view.specs.Changes.{first_of, second_of}
 use Rattle.shm_script.specs.{declared.fault.TraceFault.TraceFault, Faults.fault_of}
 
 -- how many bytes of an image are read at most: one more than that of the largest pool has
 abbrev pub image_limit : ℕ
 image_limit = 132185377
+
+-- of two images: one more than two of these have
+abbrev pub images_limit : ℕ
+images_limit = 264370753
 
 -- and of a trace: one more than the longest one has
 abbrev pub trace_limit : ℕ
@@ -21,6 +26,13 @@ IsFaultless image = image_fault_of image ≡ None
 abbrev pub HasImageFault : List ℕ → Type 0
 HasImageFault image = (fault : ImageFault) × (image_fault_of image ≡ Some fault)
 
+-- two images without a fault, of which the second one stands behind the first one; and two of which one has a fault
+abbrev pub AreFaultless : List ℕ → Type 0
+AreFaultless images = IsFaultless (first_of images) × IsFaultless (second_of images)
+
+abbrev pub HaveFault : List ℕ → Type 0
+HaveFault images = HasImageFault (first_of images) ⊎ HasImageFault (second_of images)
+
 -- a trace without a fault, and one with a fault
 abbrev pub IsFaultlessTrace : List ℕ → Type 0
 IsFaultlessTrace trace = fault_of trace ≡ None
@@ -28,9 +40,12 @@ IsFaultlessTrace trace = fault_of trace ≡ None
 abbrev pub HasTraceFault : List ℕ → Type 0
 HasTraceFault trace = (fault : TraceFault) × (fault_of trace ≡ Some fault)
 
--- an image of which this holds was read to its end, or to the limit; or a trace
+-- an image of which this holds was read to its end, or to the limit; or two images, or a trace
 abbrev pub ReadsImage : Option (List ℕ) → Option (List ℕ) → (List ℕ → Type 0) → Type 0
 ReadsImage left left' holds = (image : List ℕ) × TakesFront left left' image_limit image × holds image
+
+abbrev pub ReadsImages : Option (List ℕ) → Option (List ℕ) → (List ℕ → Type 0) → Type 0
+ReadsImages left left' holds = (images : List ℕ) × TakesFront left left' images_limit images × holds images
 
 abbrev pub ReadsTrace : Option (List ℕ) → Option (List ℕ) → (List ℕ → Type 0) → Type 0
 ReadsTrace left left' holds = (trace : List ℕ) × TakesFront left left' trace_limit trace × holds trace
@@ -41,13 +56,13 @@ ReadsTrace left left' holds = (trace : List ℕ) × TakesFront left left' trace_
 abbrev pub IsWritten : Option (List ℕ) → Option (List ℕ) → Type 0
 IsWritten held held' = (text : List ℕ) × Appends held held' text
 
--- an image or a trace without a fault was read, and a text was written
+-- an image, two images or a trace without a fault were read, and a text was written
 abbrev pub IsShown : Option (List ℕ) → Option (List ℕ) → Option (List ℕ) → Option (List ℕ) → Type 0
-IsShown left left' held held' = (ReadsImage left left' IsFaultless ⊎ ReadsTrace left left' IsFaultlessTrace) × IsWritten held held'
+IsShown left left' held held' = (ReadsImage left left' IsFaultless ⊎ (ReadsImages left left' AreFaultless ⊎ ReadsTrace left left' IsFaultlessTrace)) × IsWritten held held'
 
--- an image or a trace with a fault was read
+-- an image or a trace with a fault was read, or two images of which one has a fault
 abbrev pub IsRefused : Option (List ℕ) → Option (List ℕ) → Type 0
-IsRefused left left' = ReadsImage left left' HasImageFault ⊎ ReadsTrace left left' HasTraceFault
+IsRefused left left' = ReadsImage left left' HasImageFault ⊎ (ReadsImages left left' HaveFault ⊎ ReadsTrace left left' HasTraceFault)
 
 -- no input was read, for want of memory or since a read failed
 abbrev pub IsStop : ℕ → ℕ → ℕ → Type 0
@@ -56,6 +71,10 @@ IsStop faults faults' status = (status ≡ 6) ⊎ ((status ≡ 4) × Rose faults
 -- a text was written, or a write failed
 abbrev pub IsSent : ℕ → Type 0
 IsSent status = (status ≡ 0) ⊎ (status ≡ 5)
+
+-- the same, or memory was wanting
+abbrev pub IsTold : ℕ → Type 0
+IsTold status = (status ≡ 0) ⊎ ((status ≡ 5) ⊎ (status ≡ 6))
 
 -- an input was read: it was shown or refused, a write failed, or memory was wanting
 abbrev pub IsAnswer : ℕ → Type 0

@@ -12,6 +12,8 @@ use std::io;
 pub enum Job {
     /// To show an image.
     Image(ImageForm),
+    /// `pool --changes`: to draw what changed between two images.
+    Changes,
     /// To show some turns of a trace's replay.
     Trace(TraceForm, Window),
 }
@@ -73,10 +75,21 @@ fn stats_job(alloc: Global, words: &[String]) -> Result<Option<Job>, AllocError>
 
 /// What the words of `pool` ask for.
 fn pool_job(alloc: Global, words: &[String]) -> Result<Option<Job>, AllocError> {
-    let command = Command::new(alloc, "pool").arg(Arg::new(alloc, "client").long("client"))?;
+    let command = Command::new(alloc, "pool")
+        .arg(flag(alloc, "changes"))?
+        .arg(Arg::new(alloc, "client").long("client"))?;
     match read(command, words)? {
-        Some(matches) => Ok(client_of(&matches).map(|client| Job::Image(ImageForm::Pool(client)))),
+        Some(matches) => Ok(pool_form(&matches)),
         None => Ok(None),
+    }
+}
+
+/// The pool of an image, with the client that is named, or what changed between two; not both.
+fn pool_form(matches: &ArgMatches<'_>) -> Option<Job> {
+    match (is_set(matches, "changes"), client_of(matches)?) {
+        (false, client) => Some(Job::Image(ImageForm::Pool(client))),
+        (true, None) => Some(Job::Changes),
+        (true, Some(_)) => None,
     }
 }
 

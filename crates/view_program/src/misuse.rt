@@ -7,6 +7,8 @@ const COMMANDS: &str = "usage:
   cxlview stats < IMAGE           write the figures of an image as aligned text
   cxlview stats --json < IMAGE    write them as JSON
   cxlview pool < IMAGE > SVG      draw the pool of an image
+  cat IMAGE IMAGE | cxlview pool --changes > SVG
+                                  draw what changed from the first image to the second one
   cxlview steps < TRACE           write at which word steps each command of a trace's replay begins, decides and ends
   cxlview steps --words < TRACE   write each word step of it
   cxlview run < TRACE > SVG       draw the replay of a trace
@@ -35,11 +37,17 @@ pub fn misuse_text(alloc: Global, words: &[String]) -> Result<String, AllocError
         Some(word) if word.starts_with('-') => format!(in alloc;
             "cxlview: `{first}` doesn't take `{word}`\n{COMMANDS}"
         ),
+        Some(word) if first == "pool" && has(rest, "--changes") => format!(in alloc;
+            "cxlview: `{first}` doesn't take `{word}`: it reads two images from standard input: `cat IMAGE IMAGE | cxlview pool --changes`\n{COMMANDS}"
+        ),
         Some(word) => format!(in alloc;
             "cxlview: `{first}` doesn't take `{word}`: it reads standard input: `cxlview {first} < {word}`\n{COMMANDS}"
         ),
         None if has_twice(rest) => format!(in alloc;
             "cxlview: `{first}` doesn't take a word twice\n{COMMANDS}"
+        ),
+        None if names_both(rest) => format!(in alloc;
+            "cxlview: `pool` doesn't take `--changes` and `--client` together\n{COMMANDS}"
         ),
         None if first == "pool" => format!(in alloc;
             "cxlview: behind `--client` stands the number of a client, from 0 to 15\n{COMMANDS}"
@@ -75,7 +83,7 @@ fn first_strange<'a>(command: &str, words: &'a [String]) -> Option<&'a str> {
 fn takes(command: &str, word: &str) -> bool {
     match command {
         "stats" => word == "--json",
-        "pool" => kind_of(word) == "--client",
+        "pool" => word == "--changes" || kind_of(word) == "--client",
         "steps" => word == "--words" || names_turn(word),
         "run" => names_turn(word),
         _ => false,
@@ -85,6 +93,16 @@ fn takes(command: &str, word: &str) -> bool {
 /// Whether a word names the first or the last turn.
 fn names_turn(word: &str) -> bool {
     matches!(kind_of(word), "--from" | "--to")
+}
+
+/// Whether the words ask for what changed, and name a client too.
+fn names_both(words: &[String]) -> bool {
+    has(words, "--changes") && has(words, "--client")
+}
+
+/// Whether a word is of this kind.
+fn has(words: &[String], kind: &str) -> bool {
+    words.iter().any(|word| kind_of(word.as_str()) == kind)
 }
 
 /// A word up to its first `=`.

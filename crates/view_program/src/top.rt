@@ -1,23 +1,29 @@
 //! The program over a source and a sink.
 
-ghost use Rattle.std.specs.Prelude.{◌≡◌, ◌≢◌, IfErr, IfOk, OnOk, None};
+ghost use Rattle.std.specs.Prelude.{◌≡◌, ◌≢◌, Err, IfErr, IfOk, None, Ok, OnOk};
 ghost use Rattle.shm_audit.specs.{Faults.image_fault_of, Stops.StopsBy};
 ghost use Rattle.shm_io.specs.{Faults.Rose, Reading.TakesFront};
 ghost use Rattle.shm_script.specs.{Drafts.IsFault, Faults.fault_of};
-ghost use Rattle.view_program.specs.Calls.{HasImageFault, HasTraceFault, IsAnswer, IsFaultless, IsFaultlessTrace, IsRead, IsRefused, IsSent, IsShown, IsStatus, IsStop, IsWritten, ReadsImage, ReadsTrace};
+ghost use Rattle.run_view.specs.declared.pipe.Stop.TheVariants as stop;
+ghost use Rattle.view_program.specs.Calls.{AreFaultless, HasImageFault, HasTraceFault, HaveFault, IsAnswer, IsFaultless, IsFaultlessTrace, IsRead, IsRefused, IsSent, IsShown, IsStatus, IsStop, IsTold, IsWritten, ReadsImage, ReadsImages, ReadsTrace};
 
 use crate::job::{ImageForm, Job, TraceForm, job_of};
 use crate::misuse::misuse_text;
-use crate::said::{image_refusal, trace_refusal};
-use run_view::{Window, run_picture, run_steps, run_words};
+use crate::said::{first_refusal, image_refusal, second_refusal, trace_refusal};
+use run_view::{Stop, Window, run_picture, run_steps, run_words};
 use shm_audit::AuditStop;
 use shm_io::{ReadStop, Sink, Source, read_to_limit, write_all};
-use shm_script::{ParseStop, parse};
-use shm_view::{image_stats, pool_picture, stats_json, stats_text};
+use shm_script::{ParseStop, Trace, parse};
+use shm_view::{
+    ChangesStop, changes_picture, image_stats, pool_picture, split_images, stats_json, stats_text,
+};
 use std::alloc::{AllocError, Global};
 
 /// One byte more than the image of the largest pool has, which is of format 2.
 const IMAGE_LIMIT: usize = 132_185_377;
+
+/// One byte more than two of these have.
+const IMAGES_LIMIT: usize = 264_370_753;
 
 /// One byte more than the longest trace has.
 const TRACE_LIMIT: usize = 1_048_577;
@@ -31,9 +37,10 @@ pub struct Outcome {
     pub said: String,
 }
 
-/// Does what the words say: it reads an image or a trace to its end, makes the whole text or picture, and then writes it.
+/// Does what the words say: it reads an image, two images or a trace to its end, and writes what is shown of it. The figures of an image, and a picture, are made whole
+/// before they are written.
 ///
-/// At most 132,185,377 bytes of an image are read, and 1,048,577 of a trace. Where the words aren't accepted nothing is read, and where the status is neither 0
+/// At most 132,185,377 bytes of an image are read, 264,370,753 of two images, and 1,048,577 of a trace. Where the words aren't accepted nothing is read, and where the status is neither 0
 /// nor 5 nothing is written. After a write that failed the sink holds a front of the text.
 pub fn view<S: Source, K: Sink>(
     alloc: Global,
@@ -51,6 +58,7 @@ pub fn view<S: Source, K: Sink>(
 {
     match job_of(alloc, words) {
         Ok(Some(Job::Image(form))) => view_image(alloc, form, source, sink),
+        Ok(Some(Job::Changes)) => view_changes(alloc, source, sink),
         Ok(Some(Job::Trace(form, window))) => view_trace(alloc, form, window, source, sink),
         Ok(None) => Outcome::new(alloc, 2, misuse_text(alloc, words)),
         Err(_) => stopped(alloc, 6),
@@ -73,6 +81,21 @@ fn view_image<S: Source, K: Sink>(
 {
     match read_input(alloc, source, IMAGE_LIMIT) {
         Ok(image) => show_image(alloc, form, image.as_slice(), sink),
+        Err(status) => stopped(alloc, status),
+    }
+}
+
+/// Reads two images, one behind the other, and draws what changed between them.
+fn view_changes<S: Source, K: Sink>(alloc: Global, source: &mut S, sink: &mut K) -> Outcome
+    ensures status { IsRead result.status }
+    ensures shown { result.status ≡ 0 → ReadsImages (S.left source.old) (S.left source.new) AreFaultless × IsWritten (K.held sink.old) (K.held sink.new) }
+    ensures refused { result.status ≡ 3 → ReadsImages (S.left source.old) (S.left source.new) HaveFault }
+    ensures unwritten { result.status ≢ 0 → result.status ≢ 5 → sink.new ≡ sink.old }
+    ensures read_fault { result.status ≡ 4 → Rose (S.faults source.old) (S.faults source.new) }
+    ensures write_fault { result.status ≡ 5 → Rose (K.faults sink.old) (K.faults sink.new) }
+{
+    match read_input(alloc, source, IMAGES_LIMIT) {
+        Ok(images) => show_changes(alloc, images.as_slice(), sink),
         Err(status) => stopped(alloc, status),
     }
 }
@@ -127,6 +150,27 @@ fn show_image<K: Sink>(alloc: Global, form: ImageForm, image: &[u8], sink: &mut 
     }
 }
 
+/// Draws what changed between two images, one behind the other.
+fn show_changes<K: Sink>(alloc: Global, images: &[u8], sink: &mut K) -> Outcome
+    ensures status { IsAnswer result.status }
+    ensures shown { result.status ≡ 0 → AreFaultless images.now × IsWritten (K.held sink.old) (K.held sink.new) }
+    ensures refused { result.status ≡ 3 → HaveFault images.now }
+    ensures unwritten { result.status ≢ 0 → result.status ≢ 5 → sink.new ≡ sink.old }
+    ensures fault { result.status ≡ 5 → Rose (K.faults sink.old) (K.faults sink.new) }
+{
+    let (before, after) = split_images(images);
+    match changes_picture(alloc, before, after) {
+        Ok(text) => write(alloc, text.as_slice(), sink),
+        Err(ChangesStop::Before(fault)) => {
+            Outcome::new(alloc, 3, first_refusal(alloc, before, fault))
+        }
+        Err(ChangesStop::After(fault)) => {
+            Outcome::new(alloc, 3, second_refusal(alloc, after, fault))
+        }
+        Err(ChangesStop::Memory(_)) => stopped(alloc, 6),
+    }
+}
+
 /// Writes what is shown of a trace's replay.
 fn show_trace<K: Sink>(
     alloc: Global,
@@ -141,8 +185,8 @@ fn show_trace<K: Sink>(
     ensures unwritten { result.status ≢ 0 → result.status ≢ 5 → sink.new ≡ sink.old }
     ensures fault { result.status ≡ 5 → Rose (K.faults sink.old) (K.faults sink.new) }
 {
-    match trace_text(alloc, form, window, trace) {
-        Ok(text) => write(alloc, text.as_slice(), sink),
+    match parse(alloc, trace) {
+        Ok(trace) => show_replay(alloc, form, window, &trace, sink),
         Err(ParseStop::Fault(fault)) => {
             Outcome::new(alloc, 3, trace_refusal(alloc, trace, fault))
         }
@@ -199,20 +243,39 @@ fn image_text(alloc: Global, form: ImageForm, image: &[u8]) -> Result<Vec<u8>, A
     }
 }
 
-/// What is shown of a trace's replay.
-fn trace_text(
+/// Writes what is shown of the replay of a trace that has no fault.
+fn show_replay<K: Sink>(
     alloc: Global,
     form: TraceForm,
     window: Window,
-    trace: &[u8],
-) -> Result<Vec<u8>, ParseStop>
-    ensures ok { OnOk result (fault_of trace.now ≡ None) }
-    ensures err { IfErr result (λ e. IsFault e (fault_of trace.now)) }
+    trace: &Trace,
+    sink: &mut K,
+) -> Outcome
+    ensures status { IsTold result.status }
+    ensures written { result.status ≡ 0 → IsWritten (K.held sink.old) (K.held sink.new) }
+    ensures unwritten { result.status ≡ 6 → sink.new ≡ sink.old }
+    ensures fault { result.status ≡ 5 → Rose (K.faults sink.old) (K.faults sink.new) }
 {
-    let trace = parse(alloc, trace)?;
     match form {
-        TraceForm::Steps => Ok(run_steps(alloc, &trace, window)?),
-        TraceForm::Words => Ok(run_words(alloc, &trace, window)?),
-        TraceForm::Run => Ok(run_picture(alloc, &trace, window)?),
+        TraceForm::Steps => told(alloc, run_steps(alloc, trace, window, sink)),
+        TraceForm::Words => told(alloc, run_words(alloc, trace, window, sink)),
+        TraceForm::Run => match run_picture(alloc, trace, window) {
+            Ok(text) => write(alloc, text.as_slice(), sink),
+            Err(_) => stopped(alloc, 6),
+        },
+    }
+}
+
+/// What a call came to whose text was written as it came.
+fn told(alloc: Global, written: Result<(), Stop>) -> Outcome
+    ensures status { IsTold result.status }
+    ensures done { result.status ≡ 0 → written ≡ Ok tt }
+    ensures fault { result.status ≡ 5 → written ≡ Err stop.Fault }
+    ensures memory { result.status ≡ 6 → written ≡ Err stop.Memory }
+{
+    match written {
+        Ok(()) => Outcome::new(alloc, 0, Ok(String::new(alloc))),
+        Err(Stop::Fault) => stopped(alloc, 5),
+        Err(Stop::Memory) => stopped(alloc, 6),
     }
 }

@@ -3,7 +3,7 @@ use Rattle.std.specs.Prelude.{Ok, Err}
 use Rattle.shm_graph.specs.{declared.ask.Turn.{Turn, TheVariants.{More, Done}}, Laws.{is_died, is_done}}
 use Rattle.shm_pool.specs.Endings.{Answer}
 use Rattle.shm_recover.specs.Machines.Recovering.{recover}
-use Rattle.shm_async.proofs.Recovering.{ends_gone, ends_spent, goes, goes_stepped, not_true, over_stepped, some_left, stepped_then}
+use Rattle.shm_async.proofs.Recovering.{ends_gone, ends_spent, goes, goes_stepped, none_stepped, not_true, over_stepped, some_left, stepped_then}
 use Rattle.shm_async.proofs.recovery.step_some.Goals as goal
 
 more_ok : (t : Turn Answer) → t ≡ More → t ≡ Done (Ok tt) → ⊥
@@ -11,6 +11,9 @@ more_ok t is done = let z : More ≡ Done (Ok tt) = sym is ∙ done in absurd (c
 
 err_ok : (t : Turn Answer) (e : _) → t ≡ Done (Err e) → t ≡ Done (Ok tt) → ⊥
 err_ok t e is done = let z : Done (Err e) ≡ Done (Ok tt) = sym is ∙ done in absurd (cc)
+
+pub loop-made-init : goal.loop-made-init
+loop-made-init c = (none_stepped c.args.rescuer.now c.args.life.now, c.requires, omega arith)
 
 pub loop-made-preserved : goal.loop-made-preserved
 loop-made-preserved c =
@@ -59,3 +62,9 @@ returns-in-Done-Err c =
         (omega arith, ends_spent c.args.pool.now c.loop-made.rescuer c.step.new.self c.loop-made.life c.step.new.life c.step.result i.1 e.same k.0 k.1 k.2 c.in-Done-Err.spent is),
       );
     }
+
+pub returns : goal.returns
+returns c =
+    let i = c.loop-made.invariant in
+    let all = c.loop-made-test.false in
+    record { n = c.loop-made.made; stepped = i.0; by = (omega arith, i.1) }

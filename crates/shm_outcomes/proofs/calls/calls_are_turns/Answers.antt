@@ -1,4 +1,4 @@
-use Rattle.shm_outcomes.proofs.Turning.{done_turns, end_turns, stop_turns}
+use Rattle.shm_outcomes.proofs.Turning.{done_turns, end_turns, stepped_turns, stop_turns}
 use Rattle.shm_outcomes.proofs.calls.calls_are_turns.Goals as goal
 
 pub returns-clause-operations : goal.returns-clause-operations
@@ -24,3 +24,6 @@ returns-clause-recovered g c = λ p e before left t h. end_turns _ _ _ _ _ p _ b
 
 pub returns-clause-not_recovered : goal.returns-clause-not_recovered
 returns-clause-not_recovered g c = λ p e before left x t h. stop_turns _ _ _ _ _ p _ before left x t h
+
+pub returns-clause-polled : goal.returns-clause-polled
+returns-clause-polled g c = λ over n u v before left h. stepped_turns over n u v before left h

@@ -1,8 +1,19 @@
-use Rattle.std.proofs.Common.{arith, inr}
+use Rattle.std.proofs.Common.{arith, inl, inr}
 use Rattle.view_program.proofs.top.view.Goals as goal
 
+-- what was read: an image, two images or a trace
+
+pub returns-in-Ok-Some-Changes-clause-shown : goal.returns-in-Ok-Some-Changes-clause-shown
+returns-in-Ok-Some-Changes-clause-shown g c h = (inr (inl (c.view_changes.ensures.shown h).0), (c.view_changes.ensures.shown h).1)
+
+pub returns-in-Ok-Some-Changes-clause-refused : goal.returns-in-Ok-Some-Changes-clause-refused
+returns-in-Ok-Some-Changes-clause-refused g c h = inr (inl (c.view_changes.ensures.refused h))
+
+pub returns-in-Ok-Some-Trace-clause-shown : goal.returns-in-Ok-Some-Trace-clause-shown
+returns-in-Ok-Some-Trace-clause-shown g c h = (inr (inr (c.view_trace.ensures.shown h).0), (c.view_trace.ensures.shown h).1)
+
 pub returns-in-Ok-Some-Trace-clause-refused : goal.returns-in-Ok-Some-Trace-clause-refused
-returns-in-Ok-Some-Trace-clause-refused g c h = inr (c.view_trace.ensures.refused h)
+returns-in-Ok-Some-Trace-clause-refused g c h = inr (inr (c.view_trace.ensures.refused h))
 
 -- a call whose words aren't accepted, or that was stopped for want of memory, has another status
 

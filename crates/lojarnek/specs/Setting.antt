@@ -1,0 +1,52 @@
+-- reference words of blocks, and the latches under which they are set and read
+use Rattle.std.specs.Prelude.{◌≡◌, ◌≢◌, ℕ, ◌-◌, ◌^◌, ◌<◌, ◌≤◌, if◌then◌else◌, Option, None, Some, Result, MatchResult}
+use Rattle.shm_graph.specs.declared.spot.Spot.TheVariants.{Body}
+use Rattle.shm_count.specs.Tear.Memos.{Knows}
+use Rattle.shm_ref.specs.declared.answer.SetFault.{SetFault}
+use Rattle.shm_ref.specs.declared.answer.SetFault.TheVariants as set
+use Rattle.shm_pool.specs.declared.reply.Reply.{Reply, TheVariants.{Died, Done}}
+use Rattle.lojarnek.specs.declared.error.{Error.Error, Bound.TheVariants.Reference}
+use Rattle.lojarnek.specs.Blocks.{HasEnded, KeepsRoots, first_of, root_wrong, word_wrong}
+use Rattle.lojarnek.specs.{Roots.{IsAtBlocks, IsHolding, IsNamed}, Standing.Acts, Tables.SameClient}
+
+-- the client knows that reference word j of the block b names the block d, or none where that is 0
+abbrev pub KnowsReference : ℕ → ℕ → ℕ → Acts → Type 0
+KnowsReference b j d c = Knows c.token.account.memo (Body b j) d
+
+-- its eras are spent, and its roots name what they named
+abbrev pub SpentSet : ℕ → Acts → Acts → Type 0
+SpentSet e c c' = (2 ^ 47 - 4 < e) × KeepsRoots c c'
+
+-- what is wrong with setting reference word j of the block that root k names to the one that root d names, which is tested of a client that lives
+abbrev pub set_wrong : Acts → ℕ → ℕ → ℕ → Option Error
+set_wrong c k j d = first_of (word_wrong 16 Reference c k j) (if c.token.dead then None else root_wrong c d)
+
+-- ---- latches
+
+-- the client holds the latch of a, and knows what it knew; or it died
+abbrev pub HasHeld : ℕ → Acts → Acts → Reply (Unit {0}) → Type 0
+HasHeld a c c' (Done u) = SameClient c c' × IsHolding a c'.token × KeepsRoots c c' × (c'.token.account.memo.known ≡ c.token.account.memo.known)
+HasHeld a c c' Died = HasEnded c c'
+
+-- it gave its latch back, and where that was its own one it knows what it knew of reference words of blocks that roots name; or it died
+abbrev pub HasGiven : Acts → Acts → Reply (Unit {0}) → Type 0
+HasGiven c c' (Done u) =
+    SameClient c c' × IsAtBlocks c'.token × KeepsRoots c c'
+    × ((b j d : ℕ) → IsNamed b c.token → c.token.account.memo.latch ≡ Some c.token.account.who → KnowsReference b j d c → KnowsReference b j d c')
+HasGiven c c' Died = HasEnded c c'
+
+-- ---- a word that is set under the own latch
+
+-- why it wasn't set
+abbrev pub WhyUnset : ℕ → ℕ → SetFault → Type 0
+WhyUnset c j (set.NotAuthor a) = a ≢ c
+WhyUnset c j (set.NoSuchRef n) = n ≤ j
+WhyUnset c j set.NotHeld = ⊥
+WhyUnset c j (set.EraSpent e) = 2 ^ 47 - 4 < e
+WhyUnset c j (set.CountFull b n) = n ≡ 1023
+
+abbrev pub HasSet : ℕ → ℕ → ℕ → Acts → Acts → Reply (Result (Unit {0}) SetFault) → Type 0
+HasSet b j d c c' (Done r) =
+    SameClient c c' × IsHolding c.token.account.who c'.token × KeepsRoots c c'
+    × MatchResult r (λ u. KnowsReference b j d c') (WhyUnset c.token.account.who j)
+HasSet b j d c c' Died = HasEnded c c'
