@@ -5,7 +5,7 @@ ghost use Rattle.plans.specs.{CallsControl.{calls_control, calls_of}, CallsFit.{
 ghost use Rattle.plans.specs.Proved.CallsKeep.{calls_laws};
 
 use crate::plan::Plan;
-use shm_graph::{Ask, Machine, Me, Site, Turn};
+use shm_graph::{Ask, Life, Machine, Me, Site, Turn};
 
 /// A plan, and the call that is in progress: `Calls<P>` names it by its plan alone.
 ///
@@ -105,6 +105,20 @@ impl<P: Plan> Machine for Calls<P> {
             },
             Turn::More => Turn::More,
             Turn::Died => Turn::Died,
+        }
+    }
+
+    #[inline(always)]
+    fn run<S: Site>(&mut self, site: &S, words: &mut S::Words, life: &mut Life) -> Turn<P::Answer> {
+        'calls: loop {
+            match self.call.run(site, words, life) {
+                Turn::Done(answer) => match self.plan.next(answer) {
+                    Some(answer) => return Turn::Done(answer),
+                    None => self.begin(),
+                },
+                Turn::More => return Turn::More,
+                Turn::Died => return Turn::Died,
+            }
         }
     }
 

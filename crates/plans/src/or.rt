@@ -1,8 +1,11 @@
 //! One of two machines, and one of two answers.
 
+ghost use Rattle.std.specs.Prelude.{◌≡◌};
+ghost use Rattle.shm_graph.specs.Mapped.{told_turn};
 ghost use Rattle.plans.specs.{Either.{or_control, OrFits, OrGives}, Proved.Either.or_laws};
+ghost use Rattle.plans.specs.declared.or.Or.TheVariants as one;
 
-use shm_graph::{Ask, Machine, Me, Site, Turn};
+use shm_graph::{Ask, Life, Machine, Me, Site, Turn};
 
 /// One of two.
 #[derive(Clone, Copy, Drop)]
@@ -76,5 +79,42 @@ impl<A: Machine, B: Machine> Machine for Or<A, B> {
         }
     }
 
+    #[inline(always)]
+    fn run<S: Site>(
+        &mut self,
+        site: &S,
+        words: &mut S::Words,
+        life: &mut Life,
+    ) -> Turn<Or<A::Answer, B::Answer>> {
+        match self {
+            Or::First(a) => first_told(a.run(site, words, life)),
+            Or::Second(b) => second_told(b.run(site, words, life)),
+        }
+    }
+
     ghost laws = { or_laws A.control B.control A.fits A.gives B.fits B.gives A.laws B.laws };
+}
+
+/// What the first of the two tells, as one of them.
+#[inline(always)]
+fn first_told<A, B>(turn: Turn<A>) -> Turn<Or<A, B>>
+    ensures { result ≡ told_turn one.First turn }
+{
+    match turn {
+        Turn::Done(answer) => Turn::Done(Or::First(answer)),
+        Turn::More => Turn::More,
+        Turn::Died => Turn::Died,
+    }
+}
+
+/// What the second of the two tells, as one of them.
+#[inline(always)]
+fn second_told<A, B>(turn: Turn<B>) -> Turn<Or<A, B>>
+    ensures { result ≡ told_turn one.Second turn }
+{
+    match turn {
+        Turn::Done(answer) => Turn::Done(Or::Second(answer)),
+        Turn::More => Turn::More,
+        Turn::Died => Turn::Died,
+    }
 }

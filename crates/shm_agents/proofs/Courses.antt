@@ -1,9 +1,10 @@
 -- the agents of a script with what each of them began, and what was told of its commands
-use Rattle.std.proofs.Common.{◌≡◌, ℕ, zero, suc, ◌+◌, ◌≤◌, Bool, true, false, List, [], ◌∷◌, ◌++◌, map, take, length, append-nil, refl, sym, ap, ◌∙◌, subst, arith, inl, inr}
-use Rattle.std.proofs.{Math.Seq.take-suc, lemmas.List.{length-append, length-map}}
+use Rattle.std.proofs.Common.{◌≡◌, ℕ, zero, suc, ◌+◌, ◌<◌, ◌≤◌, Bool, true, false, List, [], ◌∷◌, ◌++◌, map, take, length, append-nil, refl, sym, ap, ◌∙◌, subst, arith, inl, inr}
+use Rattle.std.proofs.{Math.Seq.take-suc, lemmas.{Bool.true≢false, List.{length-append, length-map}}}
 use Rattle.std.proofs.lemmas.Option.{get_or_from_slice_get, slice_get_within}
 use Rattle.std.specs.Prelude.{Option, Some, None, drop, slice_get}
-use Rattle.shm_graph.specs.{declared.{ask.Me.Me, memo.Agent.Agent, run.LoggedLine.LoggedLine}, Runs.is_dead}
+use Rattle.shm_graph.specs.{declared.{ask.Me.Me, memo.Agent.Agent, run.LoggedLine.LoggedLine}, Agents.last_agent}
+use Rattle.shm_graph.specs.Runs.{fell_by, is_dead}
 use Rattle.shm_recover.specs.Leave.Control.{leave_line}
 use Rattle.shm_script.specs.{declared.{line.Line.Line, log.{Answer.Answer, Entry.Entry}}, Text.line_spelled}
 use Rattle.shm_agents.specs.{Agents.behind, Courses.{AreAgents, AreCommandsTold, AreRecoverers, client_lines}}
@@ -25,6 +26,51 @@ pub around : {A : Type 0} (xs : List A) (i : ℕ) (x : A) → slice_get xs i ≡
 around [] i x at = absurd (cc)
 around (y ∷ xs) zero x at = let e : y ≡ x = cc in ap (λ (z : _). z ∷ xs) (sym e)
 around (y ∷ xs) (suc i) x at = ap (λ (zs : List _). y ∷ zs) (around xs i x at)
+
+-- ---- whether the last agent died
+
+recoverers_fell : (b : Bool) (lives : List ℕ) (agents : List Agent) (begun : List (List (List ℕ))) (dead : Bool) → AreRecoverers b lives agents begun dead → (a : Agent) → is_dead a.fate ≡ b → fell_by (last_agent (a ∷ agents)) ≡ dead
+recoverers_fell false lives [] [] dead h a is = is ∙ sym h
+recoverers_fell false lives [] (b ∷ begun) dead h a is = absurd h
+recoverers_fell false lives (x ∷ agents) begun dead h a is = absurd h
+recoverers_fell true [] [] [] dead h a is = is ∙ sym h
+recoverers_fell true [] [] (b ∷ begun) dead h a is = absurd h
+recoverers_fell true [] (x ∷ agents) begun dead h a is = absurd h
+recoverers_fell true (n ∷ lives) [] [] dead h a is = absurd h
+recoverers_fell true (n ∷ lives) [] (b ∷ begun) dead h a is = absurd h
+recoverers_fell true (n ∷ lives) (x ∷ agents) [] dead h a is = absurd h
+recoverers_fell true (n ∷ lives) (x ∷ agents) (b ∷ begun) dead h a is = recoverers_fell (is_dead x.fate) lives agents begun dead h.3 x refl
+
+pub agents_fell : (lines : List Line) (lives : List ℕ) (agents : List Agent) (begun : List (List (List ℕ))) (dead : Bool) → AreAgents lines lives agents begun dead → fell_by (last_agent agents) ≡ dead
+agents_fell lines [] agents begun dead h = absurd h
+agents_fell lines (n ∷ lives) [] begun dead h = absurd h
+agents_fell lines (n ∷ lives) (a ∷ agents) [] dead h = absurd h
+agents_fell lines (n ∷ lives) (a ∷ agents) (b ∷ begun) dead h = recoverers_fell (is_dead a.fate) lives agents begun dead h.3 a refl
+
+-- where all died there are as many as lives
+recoverers_many : (b : Bool) (lives : List ℕ) (agents : List Agent) (begun : List (List (List ℕ))) → AreRecoverers b lives agents begun true → length agents ≡ length lives
+recoverers_many false lives [] [] h = absurd (true≢false h)
+recoverers_many false lives [] (b ∷ begun) h = absurd h
+recoverers_many false lives (x ∷ agents) begun h = absurd h
+recoverers_many true [] [] [] h = refl
+recoverers_many true [] [] (b ∷ begun) h = absurd h
+recoverers_many true [] (x ∷ agents) begun h = absurd h
+recoverers_many true (n ∷ lives) [] [] h = absurd h
+recoverers_many true (n ∷ lives) [] (b ∷ begun) h = absurd h
+recoverers_many true (n ∷ lives) (x ∷ agents) [] h = absurd h
+recoverers_many true (n ∷ lives) (x ∷ agents) (b ∷ begun) h = ap suc (recoverers_many (is_dead x.fate) lives agents begun h.3)
+
+pub agents_many : (lines : List Line) (lives : List ℕ) (agents : List Agent) (begun : List (List (List ℕ))) → AreAgents lines lives agents begun true → length agents ≡ length lives
+agents_many lines [] agents begun h = absurd h
+agents_many lines (n ∷ lives) [] begun h = absurd h
+agents_many lines (n ∷ lives) (a ∷ agents) [] h = absurd h
+agents_many lines (n ∷ lives) (a ∷ agents) (b ∷ begun) h = ap suc (recoverers_many (is_dead a.fate) lives agents begun h.3)
+
+pub agents_some : (lines : List Line) (lives : List ℕ) (agents : List Agent) (begun : List (List (List ℕ))) (dead : Bool) → AreAgents lines lives agents begun dead → 0 < length agents
+agents_some lines [] agents begun dead h = absurd h
+agents_some lines (n ∷ lives) [] begun dead h = absurd h
+agents_some lines (n ∷ lives) (a ∷ agents) [] dead h = absurd h
+agents_some lines (n ∷ lives) (a ∷ agents) (b ∷ begun) dead h = omega arith
 
 -- ---- the lines of a client
 

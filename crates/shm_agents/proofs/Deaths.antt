@@ -4,15 +4,16 @@ use Rattle.std.proofs.lemmas.{List.{length-append, Sums.sum_by-cons}, Option.{ge
 use Rattle.std.specs.{Prelude.{Option, Some, None, drop, slice_get, sum}, List.AllByRecursion, Option.is_some}
 use Rattle.shm_words.specs.{declared.geometry.Geometry.Geometry, Layout.GeometryFits}
 use Rattle.shm_graph.specs.declared.{ask.Me.Me, memo.Agent.Agent, run.{Account.Account, Start.Start}}
-use Rattle.shm_graph.specs.{Agents.{acts, acts_by, last_agent}, Held.is_loose, Runs.{Stood, account_died, told_left}}
+use Rattle.shm_graph.specs.{Agents.{acts, acts_by, last_agent}, Held.is_loose}
+use Rattle.shm_graph.specs.Runs.{Stood, account_died, first_account, told_left}
 use Rattle.shm_graph.proofs.Memos.MemoSteps.{last-append}
 use Rattle.shm_script.specs.{declared.{line.Line.{Line, TheVariants.Del}, log.End.End}, Ranges.IsLife, Values.Scripted}
 use Rattle.shm_agents.specs.declared.agents.Standing.{Standing, TheVariants.{AtWork, Dead, Gone}}
 use Rattle.shm_agents.specs.Agents.{IsFallen, IsMending, IsPlaying, IsSettled, MayPlay, Playing, Stage, AgentsStand, follows, shown_by}
-use Rattle.shm_agents.specs.Agents.Stage.{Fresh, Plays, Parted, Fallen, Mending, Mended}
+use Rattle.shm_agents.specs.{Agents.Stage.{Fresh, Plays, Parted, Fallen, Mending, Mended}, Taken.HasTaken}
 use Rattle.shm_agents.specs.{TurnsLeft.{turns_at, turns_by, turns_of}, Turns.lives_of}
 use Rattle.shm_agents.proofs.Dying.{CommandMaps, falls_mending, falls_playing, mended_settled, playing_settled, settles, shows_line}
-use Rattle.shm_agents.proofs.Loose.{has_table}
+use Rattle.shm_agents.proofs.{Loose.has_table, Taking.took_death}
 
 -- ---- lives
 
@@ -243,6 +244,7 @@ module _ (start : Start) (s : Scripted) (x : Playing) (e : Account) (is : IsSpen
           (record {
             may = still z last_me (ap (λ (w : Playing). w.room) last ∙ (follows_room next y ∙ noted_room));
             stage = Fallen (subst (λ (w : Playing). IsFallen s w (account_died e)) (sym last) falls.0) (subst (λ (w : Playing). IsSettled s w (account_died e) (told_left true (account_died e))) (sym last) falls.1);
+            taken = subst (λ (m : Me). HasTaken m s.lines (first_account start m.who) (account_died e)) (sym last_me) (took_death x.me s.lines (first_account start x.me.who) e is.stands.taken acting);
           })
 
       pub last_fewer : turns_by z (Some s) < turns_by x (Some s)

@@ -7,6 +7,8 @@ pub mod Lines
 pub mod Courses
 pub mod Playing
 pub mod Joining
+pub mod Taking
+pub mod Recovering
 pub mod Turning
 pub mod Turns
 pub mod Loose

@@ -12,6 +12,7 @@ use Rattle.shm_script.specs.{declared.{log.{End.End, Entry.Entry}, line.Line.Lin
 use Rattle.shm_agents.specs.declared.agents.Standing.{Standing, TheVariants.{AtWork, Dead, Gone}}
 use Rattle.shm_agents.specs.Agents.{Fallen, Fresh, HasParted, IsFallen, IsFold, IsMended, IsSettled, Mended, Mending, Parted, Playing, Plays, Stage, end_or, is_standing_dead, logged}
 use Rattle.shm_agents.specs.{Logs.{AreUnspent, HasEnd, IsLogOf, steps_first}, Turns.lives_of}
+use Rattle.shm_agents.proofs.Standing.{fell_quiet}
 
 -- the client left, or a recoverer recovered the identity, or all of them died
 abbrev pub IsOver : Scripted → Playing → Account → Type 0
@@ -92,3 +93,9 @@ pub over_fell : (s : Scripted) (x : Playing) (e : Account) → IsOver s x e → 
 over_fell s x e (inl p) dead = absurd (let z : Gone ≡ Dead = sym p.left ∙ dead in cc)
 over_fell s x e (inr (inl (p, l))) dead = absurd (let z : Gone ≡ Dead = sym p.recovered ∙ dead in cc)
 over_fell s x e (inr (inr (d, f, l))) dead = f.fell
+
+-- none of them acts
+pub over_idle : (s : Scripted) (x : Playing) (e : Account) → IsOver s x e → acts e.memo ≡ false
+over_idle s x e (inl p) = (over_gone s x e (inl p) (λ dead. let z : Gone ≡ Dead = sym p.left ∙ dead in cc)).1.0
+over_idle s x e (inr (inl h)) = (over_gone s x e (inr (inl h)) (λ dead. let z : Gone ≡ Dead = sym h.0.recovered ∙ dead in cc)).1.0
+over_idle s x e (inr (inr h)) = fell_quiet (last_agent e.memo.agents) h.1.fell

@@ -16,7 +16,7 @@ use Rattle.shm_agents.specs.Work.{Work, commanding, join_work, leave_work, recov
 
 -- ---- lists
 
-index_get : (xs : List ℕ) (i v : ℕ) → slice_get xs i ≡ Some v → slice_index xs i ≡ v
+pub index_get : (xs : List ℕ) (i v : ℕ) → slice_get xs i ≡ Some v → slice_index xs i ≡ v
 index_get xs i v e = get_or_from_slice_get xs i v 0 e
 
 -- what the last agent has begun
@@ -42,17 +42,17 @@ pub fell_quiet : (o : Option Agent) → fell_by o ≡ true → acts_by o ≡ fal
 fell_quiet None e = absurd (true≢false (sym e))
 fell_quiet (Some a) e = fate_quiet a.fate e
 
-fell_dead : (o : Option Agent) → fell_by o ≡ true → ended_by o ≡ false
+pub fell_dead : (o : Option Agent) → fell_by o ≡ true → ended_by o ≡ false
 fell_dead None e = absurd (true≢false (sym e))
 fell_dead (Some a) e = fate_dead a.fate e
 
 -- ---- what comes behind the client
 
-later_work : (me : Me) (lines : List Line) (n : ℕ) → 0 < n → work_of me lines n ≡ recover_work me ∷ []
+pub later_work : (me : Me) (lines : List Line) (n : ℕ) → 0 < n → work_of me lines n ≡ recover_work me ∷ []
 later_work me lines zero l = absurd (omega arith)
 later_work me lines (suc n) l = refl
 
-later_first : (me : Me) (n : ℕ) → 0 < n → first_of me n ≡ recover_work me
+pub later_first : (me : Me) (n : ℕ) → 0 < n → first_of me n ≡ recover_work me
 later_first me zero l = absurd (omega arith)
 later_first me (suc n) l = refl
 
@@ -74,23 +74,23 @@ module _ (me : Me) (s : Scripted) (e : Account) where
   abbrev else_comes : Option Work
   else_comes = cond (ended_by (last_agent e.memo.agents)) None (comes (agent_of e.memo))
 
-  next_acting : (n : ℕ) → acts e.memo ≡ true → agent_of e.memo ≡ n → next_by me s e ≡ work_at (work_of me s.lines n) e
+  pub next_acting : (n : ℕ) → acts e.memo ≡ true → agent_of e.memo ≡ n → next_by me s e ≡ work_at (work_of me s.lines n) e
   next_acting n act at =
       cond-true (acts e.memo) (work_at (work_of me s.lines (agent_of e.memo)) e) else_comes act
       ∙ ap (λ (k : ℕ). work_at (work_of me s.lines k) e) at
 
-  next_coming : (n : ℕ) → acts e.memo ≡ false → ended_by (last_agent e.memo.agents) ≡ false → agent_of e.memo ≡ n → next_by me s e ≡ comes n
+  pub next_coming : (n : ℕ) → acts e.memo ≡ false → ended_by (last_agent e.memo.agents) ≡ false → agent_of e.memo ≡ n → next_by me s e ≡ comes n
   next_coming n act over at =
       cond-false (acts e.memo) (work_at (work_of me s.lines (agent_of e.memo)) e) else_comes act
       ∙ (cond-false (ended_by (last_agent e.memo.agents)) None (comes (agent_of e.memo)) over ∙ ap comes at)
 
-  next_ended : acts e.memo ≡ false → ended_by (last_agent e.memo.agents) ≡ true → next_by me s e ≡ None
+  pub next_ended : acts e.memo ≡ false → ended_by (last_agent e.memo.agents) ≡ true → next_by me s e ≡ None
   next_ended act over =
       cond-false (acts e.memo) (work_at (work_of me s.lines (agent_of e.memo)) e) else_comes act
       ∙ cond-true (ended_by (last_agent e.memo.agents)) None (comes (agent_of e.memo)) over
 
   -- within the last work, where that is not over
-  within : (ws : List Work) (n : ℕ) (m : Work) → e.memo.over ≡ false → begun_last e.begun - 1 ≡ n → slice_get ws n ≡ Some m → work_at ws e ≡ Some (after_all work_control m e.memo.call)
+  pub within : (ws : List Work) (n : ℕ) (m : Work) → e.memo.over ≡ false → begun_last e.begun - 1 ≡ n → slice_get ws n ≡ Some m → work_at ws e ≡ Some (after_all work_control m e.memo.call)
   within ws n m over begun is =
       cond-false e.memo.over (slice_get ws (begun_last e.begun)) (option_map (λ (z : Work). after_all work_control z e.memo.call) (slice_get ws (begun_last e.begun - 1))) over
       ∙ (ap (λ (k : ℕ). option_map (λ (z : Work). after_all work_control z e.memo.call) (slice_get ws k)) begun

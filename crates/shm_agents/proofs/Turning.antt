@@ -18,9 +18,10 @@ use Rattle.shm_script.specs.Values.{Scripted}
 use Rattle.shm_script.specs.declared.log.End.TheVariants as end
 use Rattle.shm_agents.specs.declared.agents.Standing.{Standing, TheVariants.{AtWork, Gone}}
 use Rattle.shm_agents.specs.Agents.{HasParted, IsFallen, IsFresh, IsMended, IsMending, IsPlaying, IsSettled, MayPlay, Playing, Stage, AgentsStand, behind}
+use Rattle.shm_agents.specs.Taken.{HasTaken}
 use Rattle.shm_agents.specs.Work.{Work, WorkAnswer, WorkFits, WorkGives, join_work, recover_work, work_control}
 use Rattle.shm_agents.specs.Agents as at
-use Rattle.shm_agents.proofs.{OwnEras.own_most, Standing.fell_quiet}
+use Rattle.shm_agents.proofs.{OwnEras.own_most, Standing.{fell_quiet, stands_now}, Taking.{next_work, took_word}}
 use Rattle.shm_agents.proofs.Joining as joining
 use Rattle.shm_agents.proofs.Mending as mending
 use Rattle.shm_agents.proofs.Playing as playing
@@ -123,7 +124,7 @@ module _ (start : Start) (s : Scripted) (x : Playing) (e : Account) where
 
     -- ---- after it
 
-    module _ (last : Account) (n : ℕ) (after : last ≡ account_after e1 (step_of work_control x.work n)) (now : Stood start last) (named : last.who ≡ c) (life : Life) (spent : life.left + 1 ≡ x.life.left)
+    module _ (taken : HasTaken x.me s.lines (first_account start c) e) (last : Account) (n : ℕ) (after : last ≡ account_after e1 (step_of work_control x.work n)) (now : Stood start last) (named : last.who ≡ c) (life : Life) (spent : life.left + 1 ≡ x.life.left)
         (learns : (r0 : Memo) → fits_now work_control WorkFits x.work r0 e1.memo → Outcome (work_control.turns x.work n) (fits_now work_control WorkFits (work_control.after x.work n) r0 last.memo) (gives_now WorkGives x.work r0 last.memo)) where
       abbrev t : Step
       t = step_of work_control x.work n
@@ -195,8 +196,14 @@ module _ (start : Start) (s : Scripted) (x : Playing) (e : Account) where
       abbrev pub Stand : Playing → Type 0
       Stand y = AgentsStand start s y last
 
+      -- all turns are those of the agents
+      took : HasTaken x.me s.lines (first_account start c) last
+      took =
+          let at_now = stands_now start s x e (record { may = may; stage = stage; taken = taken }) here in
+          subst (HasTaken x.me s.lines (first_account start c)) (sym after) (took_word x.me s.lines (first_account start c) e taken x.work (next_work x.me s e x.work at_now.next) n)
+
       stood : (y : Playing) → y.me ≡ x.me → y.room ≡ x.room → Stage start s y last → Stand y
-      stood y me room h = record { may = still y me room; stage = h }
+      stood y me room h = record { may = still y me room; stage = h; taken = subst (λ (z : Me). HasTaken z s.lines (first_account start z.who) last) (sym me) took }
 
       -- what is settled of the log, where the account after it is z
       settled_at : (y : Playing) (z : Account) → last ≡ z → IsSettled s y z z.told → IsSettled s y last last.told

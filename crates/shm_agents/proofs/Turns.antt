@@ -149,24 +149,24 @@ module _ {start : Start} {s : Scripted} {now x : Playing} {e : Account} (b : Bef
       pub more : u ≡ More → Stand (record x { work = w; life = life })
       more o =
           (subst (λ (z : Work). AgentsStand start s (record x { work = z; life = life }) e2) (sym turn.next)
-          (turning.went_on start s x e stood.may here stood.stage e2 n turn.account a.stood a.named life left turn.learns (none_on (work_control.turns x.work n) (sym o ∙ turn.turn))))
+          (turning.went_on start s x e stood.may here stood.stage stood.taken e2 n turn.account a.stood a.named life left turn.learns (none_on (work_control.turns x.work n) (sym o ∙ turn.turn))))
 
       -- what begin leaves of them, with the lines ls
       pub joined : (v : Unit {0}) → u ≡ Done (First (First v)) → (ls : List Line) → ls ≡ s.lines → (z : Playing) → z ≡ record x { work = behind x.me ls (length x.entries); life = life } → Stand z
       joined v o ls same z is =
           subst Stand (sym (is ∙ ap (λ (ls : List Line). record x { work = behind x.me ls (length x.entries); life = life }) same))
-          (turning.began start s x e stood.may here stood.stage e2 n turn.account a.stood a.named life left turn.learns v (answer (First (First v)) o))
+          (turning.began start s x e stood.may here stood.stage stood.taken e2 n turn.account a.stood a.named life left turn.learns v (answer (First (First v)) o))
 
       pub recovered : (v : Result (Unit {0}) EraSpent) → u ≡ Done (First (Second v)) → (v ≡ Ok tt) × Stand (record x { work = w; life = life; standing = Gone })
       recovered v o =
-          let done = turning.recovered start s x e stood.may here stood.stage e2 n turn.account a.stood a.named life left turn.learns v (answer (First (Second v)) o) in (
+          let done = turning.recovered start s x e stood.may here stood.stage stood.taken e2 n turn.account a.stood a.named life left turn.learns v (answer (First (Second v)) o) in (
             done.0,
             (subst (λ (z : Work). AgentsStand start s (record x { work = z; life = life; standing = Gone }) e2) (sym turn.next) done.1),
           )
 
       pub answered : (v : Answer) → u ≡ Done (Second (First v)) → (l : Line) × (slice_get s.lines (length x.entries) ≡ Some l) × Stand (record x { entries = x.entries ++ record { line = l; answer = v } ∷ []; work = behind x.me s.lines (length (x.entries ++ record { line = l; answer = v } ∷ [])); life = life })
       answered v o =
-          let done = turning.answered start s x e stood.may here stood.stage e2 n turn.account a.stood a.named life left turn.learns v (answer (Second (First v)) o) in
+          let done = turning.answered start s x e stood.may here stood.stage stood.taken e2 n turn.account a.stood a.named life left turn.learns v (answer (Second (First v)) o) in
           (done.0, done.1, done.2)
 
       module _ (v : Answer) (o : u ≡ Done (Second (First v))) where
@@ -219,7 +219,7 @@ module _ {start : Start} {s : Scripted} {now x : Playing} {e : Account} (b : Bef
 
       pub parted : (v : Result (Unit {0}) EraSpent) → u ≡ Done (Second (Second v)) → (v ≡ Ok tt) × Stand (record x { work = w; life = life; end = Some end.Ended; standing = Gone })
       parted v o =
-          let done = turning.parted start s x e stood.may here stood.stage e2 n turn.account a.stood a.named life left turn.learns v (answer (Second (Second v)) o) in (
+          let done = turning.parted start s x e stood.may here stood.stage stood.taken e2 n turn.account a.stood a.named life left turn.learns v (answer (Second (Second v)) o) in (
             done.0,
             (subst (λ (z : Work). AgentsStand start s (record x { work = z; life = life; end = Some end.Ended; standing = Gone }) e2) (sym turn.next) done.1),
           )

@@ -18,7 +18,7 @@ use Rattle.shm_script.specs.declared.log.End.TheVariants as end
 use Rattle.shm_table.specs.Command.{command_effect}
 use Rattle.shm_agents.specs.declared.agents.Standing.{Standing, TheVariants.{AtWork, Gone, Dead}}
 use Rattle.shm_agents.specs.Courses.{AreAgents, AreCommandsTold, AreScriptAgents, client_lines}
-use Rattle.shm_agents.specs.{Logs.{AreEntries, AreUnspent, IsLogOf, steps_first}, Turns.lives_of}
+use Rattle.shm_agents.specs.{Logs.{AreEntries, AreUnspent, IsLogOf, steps_first}, Taken.HasTaken, Turns.lives_of}
 use Rattle.shm_agents.specs.Work.{Work, WorkAnswer, WorkFits, WorkGives, commanding, join_work, leave_work, recover_work, work_control}
 
 -- what contracts see of the agents of a script: which script is theirs, the number of the agent that acts or comes next, what it runs or ran last, the word steps that it has left, the entries of the client, for how many there is room, how the client ended, and whether one of them is at work, the identity is gone, or all of them died
@@ -250,7 +250,8 @@ pub data Stage (start : Start) (s : Scripted) (x : Playing) (e : Account) : Type
   Mending : IsMending s x e → IsSettled s x e e.told → Stage start s x e
   Mended : IsMended s x e → IsSettled s x e e.told → Stage start s x e
 
--- The agents x of a script stand in a pool that was made so and accounts for e of their identity. Neither words nor another identity are spoken of, so that turns of others keep it
+-- The agents x of a script stand in a pool that was made so and accounts for e of their identity, all of whose turns they took. Neither words nor another identity are spoken of, so that turns of others keep it
 pub record AgentsStand (start : Start) (s : Scripted) (x : Playing) (e : Account) : Type 0 where
   pub may : MayPlay start s x
   pub stage : Stage start s x e
+  pub taken : HasTaken x.me s.lines (first_account start x.me.who) e

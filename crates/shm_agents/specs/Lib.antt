@@ -2,6 +2,7 @@ pub mod Work
 pub mod Turns
 pub mod Logs
 pub mod Courses
+pub mod Taken
 pub mod Agents
 pub mod TurnsLeft
 pub mod Cuts

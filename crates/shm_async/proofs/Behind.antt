@@ -5,7 +5,7 @@ use Rattle.shm_graph.specs.declared.{ask.Me.Me, memo.{Agent.Agent, Fate.{Fate, T
 use Rattle.shm_graph.specs.declared.memo.{Kind.TheVariants.Recoverer, Seen.Seen, Status.TheVariants.Gone, Step.Step}
 use Rattle.shm_graph.specs.declared.run.{Account.Account, LoggedLine.LoggedLine}
 use Rattle.shm_graph.specs.{Agents.{acts, acts_by, fallen, last_agent, with_last}, Held.is_loose}
-use Rattle.shm_graph.specs.Runs.{account_after, account_died, account_entered, begun_by, is_dead, told_by, told_left}
+use Rattle.shm_graph.specs.Runs.{account_after, account_died, account_entered, begun_by, first_account, is_dead, told_by, told_left}
 use Rattle.shm_graph.proofs.Memos.MemoSteps.{last-append}
 use Rattle.shm_count.specs.Roots.{member}
 use Rattle.shm_recover.specs.Recover.Control.{recover_line}
@@ -14,7 +14,7 @@ use Rattle.shm_script.specs.{Logged.Logged, Values.Scripted}
 use Rattle.shm_agents.specs.Agents.{IsFold}
 use Rattle.shm_agents.specs.Courses.{AreAgents, AreCommandsTold, AreRecoverers, AreScriptAgents, HasLived, IsAside}
 use Rattle.shm_agents.specs.{Cuts.AreCut, Logs.{AreUnspent, BeganWith, IsLogOf, begun_first, steps_first}}
-use Rattle.shm_agents.specs.Turns.{lives_of}
+use Rattle.shm_agents.specs.{Taken.HasTaken, Turns.lives_of}
 use Rattle.shm_agents.proofs.Courses.{agents_more, told_aside}
 use Rattle.shm_agents.proofs.Growing.{began_more, begun_end, first_more, log_on, with_last-end}
 use Rattle.shm_pool.specs.{Calls.{Going, Shown, accounts_by}, Tokens.Its}
@@ -145,8 +145,8 @@ module _ (p : Its) (s : Scripted) (turns : ℕ) (l : Logged) (e f : Account) (lo
     given : (P : Bool → Account → Type 0) → P dead f → P (is_corpse k) (account_in k)
     given P x = subst (λ (b : Bool). P b (account_in k)) (sym corpse) (subst (P dead) (sym account) x)
 
-    pub finished_behind : IsGivenBack p k → f.who ≡ s.client → (dead ≡ false → f.memo.status ≡ Gone) → IsFinished p cut_to l k
-    finished_behind token who gone =
+    pub finished_behind : IsGivenBack p k → f.who ≡ s.client → (dead ≡ false → f.memo.status ≡ Gone) → HasTaken me s.lines (first_account p.start s.client) f → IsFinished p cut_to l k
+    finished_behind token who gone taken =
         record {
           token = token;
           who = ap (λ (z : Account). z.who) account ∙ who;
@@ -157,4 +157,5 @@ module _ (p : Its) (s : Scripted) (turns : ℕ) (l : Logged) (e f : Account) (lo
           fold = subst (λ (z : Account). IsFold l.entries z.memo) (sym account) (λ key. h.table.map key ∙ fold key);
           table = ap (λ (z : Account). is_loose z.memo.part) account ∙ (h.table.loose ∙ table);
           gone = given (λ (b : Bool) (z : Account). b ≡ false → z.memo.status ≡ Gone) gone;
+          taken = subst (HasTaken me s.lines (first_account p.start s.client)) (sym account) taken;
         }

@@ -3,15 +3,15 @@ use Rattle.std.proofs.Common.{◌≡◌, ℕ, ◌+◌, ◌<◌, Bool, true, fals
 use Rattle.shm_graph.specs.declared.{ask.Me.Me, memo.{Agent.Agent, Fate.TheVariants.Acts, Kind.TheVariants.Recoverer}}
 use Rattle.shm_graph.specs.declared.run.{Account.Account, Start.Start}
 use Rattle.shm_graph.specs.{Agents.{acts, acts_by, fallen, last_agent, steps_made, steps_of, with_last}, Held.is_loose}
-use Rattle.shm_graph.specs.Runs.{account_died, fell_by, told_left}
+use Rattle.shm_graph.specs.Runs.{account_died, fell_by, first_account, told_left}
 use Rattle.shm_graph.proofs.Memos.MemoSteps.{steps_died}
 use Rattle.shm_count.specs.Roots.{member}
 use Rattle.shm_script.specs.{declared.log.{End.TheVariants.Died, Entry.Entry}, Logged.Logged, Values.Scripted}
 use Rattle.shm_agents.specs.declared.agents.Standing.TheVariants.{AtWork, Gone}
 use Rattle.shm_agents.specs.Agents.{Fallen, Fresh, IsFold, Mended, Mending, Parted, Playing, Plays, Stage, AgentsStand, end_or, logged, one_agent}
 use Rattle.shm_agents.specs.{Courses.AreCommandsTold, Cuts.{IsCut, IsCutOff, IsUnbegun, account_cut}}
-use Rattle.shm_agents.specs.{Logs.{AreUnspent, IsLogOf, steps_first}, TurnsLeft.{deaths, turns_given}}
-use Rattle.shm_agents.proofs.Loose.{has_table}
+use Rattle.shm_agents.specs.{Logs.{AreUnspent, IsLogOf, steps_first}, Taken.HasTaken, TurnsLeft.{deaths, turns_given}}
+use Rattle.shm_agents.proofs.{Loose.has_table, Taking.took_death}
 use Rattle.shm_pool.specs.Tokens.{IsOut}
 use Rattle.shm_team.specs.{declared.done.Finish.Finish, Lefts.{IsGivenBack, account_in, is_corpse}}
 use Rattle.shm_team.proofs.Finishing.{is_me}
@@ -96,6 +96,9 @@ module _ (s : Scripted) (w v : AtPost) (h : StandAt s w) (here : w.agents.standi
   abbrev its : Me
   its = member w.post.of.start.geometry s.client
 
+  abbrev first : Account
+  first = first_account w.post.of.start s.client
+
   mine : v.agents.me ≡ its
   mine = me ∙ is_me w.post s w.agents h.stands
 
@@ -112,6 +115,17 @@ module _ (s : Scripted) (w v : AtPost) (h : StandAt s w) (here : w.agents.standi
           let same : account_cut w.post.account ≡ w.post.account = ap (λ (b : Bool). cond b (account_died w.post.account) w.post.account) is in
           ap turns_given (sym same) ∙ ap (λ (xs : List Agent). steps_of xs + deaths xs) c.agents
 
+  -- the death of the one that acted is a turn of theirs
+  taken_cut : HasTaken its s.lines first e
+  taken_cut = go (acts w.post.account.memo) refl
+    where
+      stood : HasTaken its s.lines first w.post.account
+      stood = subst (λ (m : Me). HasTaken m s.lines (first_account w.post.of.start m.who) w.post.account) (is_me w.post s w.agents h.stands) h.stands.taken
+
+      go : (b : Bool) → acts w.post.account.memo ≡ b → HasTaken its s.lines first (cond b (account_died w.post.account) w.post.account)
+      go true acting = took_death its s.lines first w.post.account stood acting
+      go false quiet = stood
+
   log_fits : (b : Bool) → IsCut b s v.agents e → LogFits b w.post.of s (turns_given w.post.account) e (logged v.agents)
   log_fits true c =
       record {
@@ -121,6 +135,7 @@ module _ (s : Scripted) (w v : AtPost) (h : StandAt s w) (here : w.agents.standi
         cut = c.cut;
         agents = c.died;
         given = cut_given w.post.of.start s w.agents w.post.account h.stands here c.lives c.died;
+        taken = taken_cut;
       }
   log_fits false c =
       let who : v.agents.me.who ≡ s.client = ap (λ (m : Me). m.who) mine in

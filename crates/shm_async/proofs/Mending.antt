@@ -1,30 +1,32 @@
 -- the recovery of an identity that was cut, poll by poll
-use Rattle.std.proofs.Common.{◌≡◌, ℕ, ◌+◌, ◌^◌, ◌<◌, ◌≤◌, Bool, true, false, cond, List, [], ◌∷◌, ◌++◌, length, length-append, inl, inr, refl, sym, ap, ◌∙◌, subst, arith, true≢false, Result}
+use Rattle.std.proofs.Common.{◌≡◌, ℕ, ◌+◌, ◌^◌, ◌<◌, ◌≤◌, Bool, true, false, cond, List, [], ◌∷◌, ◌++◌, append-nil, length, length-append, inl, inr, refl, sym, ap, ◌∙◌, subst, arith, true≢false, Result}
 use Rattle.std.specs.Prelude.{IfErr, Option, Some, None, Ok, Err}
-use Rattle.shm_graph.specs.declared.{ask.Life.Life, memo.{Agent.Agent, Fate.TheVariants.{Died, Ended}}}
+use Rattle.shm_graph.specs.declared.{ask.{Life.Life, Me.Me}, memo.{Agent.Agent, Fate.TheVariants.{Died, Ended}}}
 use Rattle.shm_graph.specs.declared.memo.{Kind.TheVariants.{Client, Recoverer}, Status.TheVariants.Gone, Step.Step}
 use Rattle.shm_graph.specs.{declared.run.Account.Account, Agents.{acts, steps_made, steps_of}}
-use Rattle.shm_graph.specs.Runs.{Stood, account_died, account_entered, is_dead}
+use Rattle.shm_graph.specs.{Runs.{Stood, account_died, account_entered, first_account, is_dead}, Tells.machine_steps}
 use Rattle.shm_graph.proofs.Memos.MemoSteps.{steps_died, steps_entered}
+use Rattle.shm_count.specs.Roots.{member}
 use Rattle.shm_recover.specs.{Machines.Recovering.recover, Recover.Control.recover_line}
 use Rattle.shm_replay.specs.Closings.{SameTable}
 use Rattle.shm_replay.proofs.Starting.{script_client}
 use Rattle.shm_script.specs.Values.{Scripted, Traced}
-use Rattle.shm_agents.specs.{Courses.HasLived, TurnsLeft.{deaths, turns_of}}
-use Rattle.shm_agents.proofs.{Growing.steps_of-end, OwnEras.own_most}
+use Rattle.shm_agents.specs.{Courses.HasLived, Taken.HasTaken, TurnsLeft.{deaths, turns_of}, Work.RecoverCalls}
+use Rattle.shm_agents.proofs.{Courses.{agents_fell, agents_some}, Growing.steps_of-end, OwnEras.own_most}
+use Rattle.shm_agents.proofs.{Recovering.recovery, Taking.took_death}
 use Rattle.shm_pool.specs.declared.token.{Cause.Cause, Stopped.Stopped}
-use Rattle.shm_pool.specs.{Calls.{CallSteps, Ending, Ongoing, Shown, accounts_by, fresh_after, shown}, Rescues.Rescuing}
-use Rattle.shm_pool.specs.Tokens.{Its, Token}
+use Rattle.shm_pool.specs.Calls.{CallSteps, Ending, Going, Ongoing, Shown, accounts_by, fresh_after, pairs, shown}
+use Rattle.shm_pool.specs.{Rescues.Rescuing, Tokens.{Its, Token, me_of}}
 use Rattle.shm_pool.specs.declared.token.Cause.TheVariants as cause
 use Rattle.shm_pool.proofs.Calling.{tells}
 use Rattle.shm_team.specs.{declared.left.Left.{Left, TheVariants.{Vacant, Corpse}}, Dones.IsFinished}
 use Rattle.shm_team.specs.{Lefts.{IsGivenBack, account_in, is_corpse}, Visits.HasRun}
-use Rattle.shm_team.proofs.Visiting.{ends_gone, run_first}
+use Rattle.shm_team.proofs.{Recoverers.recovery_taken, Visiting.{ends_gone, run_first}}
 use Rattle.shm_async.specs.declared.limited.Cut.{Cut}
 use Rattle.shm_async.specs.LimitedMembers.{HasRoom, IsLimitedDone, LimitedBy, IsMending, WasCut, left_of}
 use Rattle.shm_async.specs.Rescued.{HasPolled, HasRescued, HasSpent, HasStepped, IsOver, Rescue, StopsBy, account_by, answered_by, is_answer, rescuing_first, token_by}
 use Rattle.shm_async.proofs.Behind.{HasFollowed, finished_behind, followed_died, followed_run, recoverer_by}
-use Rattle.shm_async.proofs.{Cuts.lives_given, Recovering.{begun_account, stepped_then}}
+use Rattle.shm_async.proofs.{Cuts.lives_given, Ongoing.Driven, Recovering.{begun_account, stepped_then}}
 
 -- ---- it goes on
 
@@ -106,13 +108,40 @@ module _ (t : Traced) (p : Its) (c turns : ℕ) (l : _) (k : Token) (cut : WasCu
   few : n ≤ 2 ^ 40
   few = let life = stepped.life in omega arith
 
-  -- all is done, with this agent behind those that were cut
-  done_behind : (dead : Bool) (a : Agent) (f : Account) → HasFollowed dead a e f → a.kind ≡ Recoverer → HasLived (2 ^ 40) a → is_dead a.fate ≡ dead → (x : Left) → account_in x ≡ f → is_corpse x ≡ dead → IsGivenBack p x → f.who ≡ c → (dead ≡ false → f.memo.status ≡ Gone)
+  -- ---- whose turns its word steps are
+
+  abbrev me : Me
+  me = member p.start.geometry cut.script.client
+
+  abbrev IsTaken : Account → Type 0
+  IsTaken = HasTaken me cut.script.lines (first_account p.start cut.script.client)
+
+  mine : me_of k.of k.account ≡ me
+  mine =
+      let its : k.account.who ≡ cut.script.client = cut.who ∙ sym (script_client t.scripts c cut.script cut.is) in
+      (λ i. record { geometry = (cut.of i).start.geometry; who = its i })
+
+  abbrev began : Shown
+  began = shown recover (rescuing_first k).machine
+
+  -- those of the script's agents
+  taken_along : (b : Bool) (ts end : List Step) → 0 < length (ts ++ end) → Going began true ts → Ending began (fresh_after true ts) b end → ts ++ end ≡ machine_steps recover (rescuing_first k).machine (pairs (ts ++ end)) → account_by w ≡ accounts_by (account_by (rescuing_first k)) (ts ++ end) → IsTaken w.seat
+  taken_along b ts end some going ends its is =
+      let fell = agents_fell cut.script.lines cut.log.lives e.memo.agents e.begun true cut.log.agents in
+      let many = agents_some cut.script.lines cut.log.lives e.memo.agents e.begun true cut.log.agents in
+      let asked : ts ++ end ≡ machine_steps recover (recovery me) (pairs (ts ++ end)) = its ∙ ap (λ (m : RecoverCalls). machine_steps recover m (pairs (ts ++ end))) (ap recovery mine) in
+      let seat : accounts_by (account_entered Recoverer e) (ts ++ end) ≡ w.seat = ap (λ (z : Account). accounts_by z (ts ++ end)) (sym first) ∙ (sym is ∙ last) in
+      subst IsTaken seat (recovery_taken me cut.script (first_account p.start cut.script.client) e cut.log.taken fell many began ts end some going b ends asked)
+
+  -- ---- all is done
+
+  -- with this agent behind those that were cut
+  done_behind : (dead : Bool) (a : Agent) (f : Account) → HasFollowed dead a e f → a.kind ≡ Recoverer → HasLived (2 ^ 40) a → is_dead a.fate ≡ dead → (x : Left) → account_in x ≡ f → is_corpse x ≡ dead → IsGivenBack p x → f.who ≡ c → (dead ≡ false → f.memo.status ≡ Gone) → IsTaken f
       → IsLimitedDone t p c turns (record { log = Some l; left = x })
-  done_behind dead a f h kind lived fate x account corpse token whose gone =
+  done_behind dead a f h kind lived fate x account corpse token whose gone taken =
       let its : Scripted = record cut.script { life = cut.log.lives } in
       let finished : IsFinished p its l x =
-      finished_behind p cut.script turns l e f cut.log cut.unspent cut.fold cut.table dead a h kind lived fate x account corpse token (whose ∙ sym (script_client t.scripts c cut.script cut.is)) gone in
+      finished_behind p cut.script turns l e f cut.log cut.unspent cut.fold cut.table dead a h kind lived fate x account corpse token (whose ∙ sym (script_client t.scripts c cut.script cut.is)) gone taken in
       record {
         left = token;
         who = ap (λ (z : Account). z.who) account ∙ whose;
@@ -130,7 +159,7 @@ module _ (t : Traced) (p : Its) (c turns : ℕ) (l : _) (k : Token) (cut : WasCu
 
   -- ---- it has recovered the identity
 
-  module _ (call : CallSteps (shown recover (rescuing_first k).machine) (account_by (rescuing_first k)) (account_by w) true (2 ^ 40) left.left) (gone : w.seat.memo.status ≡ Gone) where
+  module _ (call : CallSteps (shown recover (rescuing_first k).machine) (account_by (rescuing_first k)) (account_by w) true (2 ^ 40) left.left) (driven : Driven (rescuing_first k) w (call.steps ++ call.last)) (gone : w.seat.memo.status ≡ Gone) where
     its_call : CallSteps (shown recover (rescuing_first k).machine) (account_entered Recoverer e) w.seat true (2 ^ 40) left.left
     its_call = subst (λ (z : Account). CallSteps (shown recover (rescuing_first k).machine) z w.seat true (2 ^ 40) left.left) first (subst (λ (z : Account). CallSteps (shown recover (rescuing_first k).machine) (account_by (rescuing_first k)) z true (2 ^ 40) left.left) last call)
 
@@ -139,16 +168,22 @@ module _ (t : Traced) (p : Its) (c turns : ℕ) (l : _) (k : Token) (cut : WasCu
         run_first Recoverer (shown recover (rescuing_first k).machine) e w.seat (2 ^ 40) left.left Ended (inr (inr (inr refl))) its_call
         (tells (shown recover (rescuing_first k).machine) (account_entered Recoverer e) w.seat (2 ^ 40) left.left refl its_call) (ends_gone w.seat.memo.status gone) table
 
+    taken : IsTaken w.seat
+    taken =
+        let less = whole_some _ _ _ (2 ^ 40) left.left call in
+        let life = call.life in
+        taken_along true call.steps call.last (omega arith) call.going call.ends driven.steps call.account
+
     pub done_ended : IsLimitedDone t p c turns (record { log = Some l; left = Vacant (token_by w) })
     done_ended =
         let made : ran.steps ≡ n = its_steps (recoverer_by ran.steps Ended) w.seat ran.agents refl in
         let most = few in
         let lived : ran.steps ≤ 2 ^ 40 = omega arith in
-        done_behind false (recoverer_by ran.steps Ended) w.seat (followed_run e w.seat ran) refl (inr (refl, lived)) refl (Vacant (token_by w)) refl refl (of, ran.rests) who (λ same. gone)
+        done_behind false (recoverer_by ran.steps Ended) w.seat (followed_run e w.seat ran) refl (inr (refl, lived)) refl (Vacant (token_by w)) refl refl (of, ran.rests) who (λ same. gone) taken
 
   -- ---- it died
 
-  module _ (call : Ongoing (shown recover (rescuing_first k).machine) (account_by (rescuing_first k)) (shown recover w.machine) (account_by w) (2 ^ 40) left.left) (none : left.left ≡ 0) where
+  module _ (call : Ongoing (shown recover (rescuing_first k).machine) (account_by (rescuing_first k)) (shown recover w.machine) (account_by w) (2 ^ 40) left.left) (driven : Driven (rescuing_first k) w call.steps) (none : left.left ≡ 0) where
     all_made : n ≡ 2 ^ 40
     all_made = let life = stepped.life in omega arith
 
@@ -161,6 +196,12 @@ module _ (t : Traced) (p : Its) (c turns : ℕ) (l : _) (k : Token) (cut : WasCu
     fell : (j : ℕ) × HasFollowed true (recoverer_by j Died) e (account_died w.seat) × (acts w.seat.memo ≡ true)
     fell = followed_died (shown recover (rescuing_first k).machine) call.steps e w.seat refl some call.going account table
 
+    taken_so : IsTaken w.seat
+    taken_so =
+        let all : call.steps ≡ call.steps ++ [] = sym (append-nil call.steps) in
+        taken_along false call.steps [] (subst (λ (ts : List Step). 0 < length ts) all some) call.going tt
+        (subst (λ (ts : List Step). ts ≡ machine_steps recover (rescuing_first k).machine (pairs ts)) all driven.steps) (call.account ∙ ap (accounts_by (account_by (rescuing_first k))) all)
+
     pub done_died : (x : Token) → x ≡ token_by w → IsLimitedDone t p c turns (record { log = Some l; left = Corpse x })
     done_died x is =
         let (j, h, acting) = fell in
@@ -168,6 +209,7 @@ module _ (t : Traced) (p : Its) (c turns : ℕ) (l : _) (k : Token) (cut : WasCu
         let lived : j ≡ 2 ^ 40 = made ∙ all_made in
         done_behind true (recoverer_by j Died) (account_died w.seat) h refl (inl (refl, lived)) refl (Corpse x) (ap (λ (z : Token). account_died z.account) is) refl
         (ap (λ (z : Token). z.of) is ∙ of, ap (λ (z : Token). acts z.account.memo) is ∙ acting) who (λ same. absurd (true≢false same))
+        (took_death me cut.script.lines (first_account p.start cut.script.client) w.seat taken_so acting)
 
   -- ---- its own era has room
 
@@ -209,7 +251,7 @@ module _ (t : Traced) (p : Its) (c turns : ℕ) (k : Cut) (g : Rescue) (h : IsMe
       let some : 0 < h.steps + n = omega arith in
       let gone = ap (λ (z : Token). z.account.memo.status) (sym over.1) ∙ over.2 in
       subst (λ (z : Token). Gives (Ok z)) (sym over.1)
-      (done_ended t p c turns k.log h.corpse h.cut h.room true (h.steps + n) w g.life its (its.begun (inr some)) its.call gone)
+      (done_ended t p c turns k.log h.corpse h.cut h.room true (h.steps + n) w g.life its (its.begun (inr some)) its.call its.driven gone)
 
   gives_corpse : (q n : ℕ) (w : Rescuing) (x : Token) (y : Cause) → HasStepped (is_answer y) n h.rescuer w k.recovery.life g.life → x ≡ token_by w → StopsBy y q n w g.life → Stood x.of.start x.account → IsLimitedDone t p c turns (record { log = Some k.log; left = Corpse x })
   gives_corpse q n w x cause.Died stepped is stops stood =
@@ -217,7 +259,7 @@ module _ (t : Traced) (p : Its) (c turns : ℕ) (k : Cut) (g : Rescue) (h : IsMe
       let life = its.life in
       let none = stops.1 in
       let some : 0 < h.steps + n = omega arith in
-      done_died t p c turns k.log h.corpse h.cut h.room false (h.steps + n) w g.life its (its.begun (inr some)) its.call stops.1 x is
+      done_died t p c turns k.log h.corpse h.cut h.room false (h.steps + n) w g.life its (its.begun (inr some)) its.call its.driven stops.1 x is
   gives_corpse q n w x (cause.EraSpent era) stepped is stops stood =
       let its = all true n w stepped in
       let less = whole_some _ _ _ (2 ^ 40) g.life.left its.call in

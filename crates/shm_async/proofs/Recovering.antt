@@ -1,5 +1,5 @@
 -- word steps of a recovery that is polled
-use Rattle.std.proofs.Common.{◌≡◌, ℕ, zero, suc, ◌+◌, ◌<◌, ◌≤◌, ◌⊎◌, Bool, true, false, [], inl, inr, refl, sym, ap, ◌∙◌, subst, arith, true≢false}
+use Rattle.std.proofs.Common.{◌≡◌, ℕ, zero, suc, ◌+◌, ◌<◌, ◌≤◌, ◌⊎◌, Bool, true, false, Option, [], inl, inr, refl, sym, ap, ◌∙◌, subst, arith, true≢false, Result}
 use Rattle.std.specs.Prelude.{None, Some, Ok, Err}
 use Rattle.plans.specs.{CallsFit.{CallsFits, CallsGives}, Proved.CallsKeep.calls_laws}
 use Rattle.shm_count.specs.{declared.answer.EraSpent.EraSpent, Steady.SameMap}
@@ -16,9 +16,11 @@ use Rattle.shm_recover.specs.{Machines.Recovering.recover, Recover.{Control.reco
 use Rattle.shm_recover.proofs.Steady.{recover_steady}
 use Rattle.shm_replay.specs.Closings.{SameTable}
 use Rattle.shm_pool.specs.{Calls.{ClientStepped, Drives, IsDriven, Ongoing, shown}, Endings.Answer}
-use Rattle.shm_pool.specs.{Rescues.{RecoverMachine, Rescuing, account_of}, Tokens.Its}
+use Rattle.shm_pool.specs.declared.token.{Cause.Cause, Stopped.Stopped}
+use Rattle.shm_pool.specs.{Rescues.{RecoverMachine, Rescuing, account_of}, Tokens.{Its, Token}}
 use Rattle.shm_pool.proofs.{Calling.{goes_on, is_over}, Driving.{driven_none, more, whole}, Rescuing.account_who}
-use Rattle.shm_async.specs.Rescued.{CallsOn, GoesOn, HasSpent, HasStepped, account_by, made_steps}
+use Rattle.shm_async.specs.declared.recovery.Over.{Over, TheVariants.{Recovered, Stopped as StoppedBy}}
+use Rattle.shm_async.specs.Rescued.{CallsOn, EndsAs, GoesOn, HasMade, HasRescued, HasSpent, HasStepped, IsOver, MadeBy, StopsBy, account_by, answered_by, has_answered, is_answer, made_steps, rescue_of}
 use Rattle.shm_async.proofs.Ongoing.{Driven, calls_then, driven_both}
 
 recovery_laws : Laws recover (CallsFits recover_parts recover_plan) (CallsGives recover_parts recover_plan)
@@ -199,3 +201,17 @@ module _ (p : Its) (v v2 : Rescuing) (l l2 : Life) (t : Turn Answer) (g : GoesOn
 pub some_left : (t : Turn Answer) (n : ℕ) → (n ≡ 0 → is_died t ≡ true) → is_died t ≡ false → 0 < n
 some_left t zero died alive = absurd (true≢false (sym (died refl) ∙ alive))
 some_left t (suc n) died alive = omega arith
+
+-- ---- the poll in which it comes to its end
+
+module _ (p : Its) (q : ℕ) (u v : Rescuing) (before left : Life) where
+  ended_as : (n : ℕ) (o : Over) (x : Result Token Stopped) → HasStepped (has_answered (Some o)) n u v before left → MadeBy q p n (Some o) v left → EndsAs v o x → HasStepped (answered_by x) n u v before left × IsOver q n v left x
+  ended_as n Recovered (Ok t) stepped by ends = (stepped, (by.0, ends, ap (λ (k : Token). k.account.memo.status) ends ∙ by.2))
+  ended_as n Recovered (Err s) stepped by ends = absurd ends
+  ended_as n (StoppedBy c) (Ok t) stepped by ends = absurd ends
+  ended_as n (StoppedBy c) (Err s) stepped by ends = (subst (λ (y : Cause). HasStepped (is_answer y) n u v before left) (sym ends.1) stepped, (ends.0, subst (λ (y : Cause). StopsBy y q n v left) (sym ends.1) by.1))
+
+  pub rescued_over : (o : Over) (x : Result Token Stopped) (b : Option Rescuing) → HasMade q p u before (Some o) v left → EndsAs v o x → b ≡ None → HasRescued (rescue_of p q before (Some u)) (Some x) (rescue_of p q left b)
+  rescued_over o x b made ends none =
+      let (stepped, over) = ended_as made.n o x made.stepped made.by ends in
+      record { pool = refl; quota = refl; polled = (none, (made.n, v, stepped, over)) }

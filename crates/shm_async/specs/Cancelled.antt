@@ -1,15 +1,17 @@
 -- what is given where the agents of a script are given up
 use Rattle.std.specs.Prelude.{◌≡◌, ℕ, ◌<◌, Bool, true, false, Option, Some, None, List, []}
-use Rattle.shm_graph.specs.{declared.run.Account.Account, Agents.steps_made, Held.is_loose, Runs.told_left}
+use Rattle.shm_graph.specs.{declared.run.Account.Account, Agents.steps_made, Held.is_loose}
+use Rattle.shm_graph.specs.Runs.{first_account, told_left}
 use Rattle.shm_count.specs.Roots.{member}
 use Rattle.shm_script.specs.{declared.log.End.TheVariants.Died, Logged.Logged, Values.Scripted}
 use Rattle.shm_agents.specs.{Agents.IsFold, Courses.{AreAgents, AreCommandsTold}, Cuts.{AreCut, account_cut}}
-use Rattle.shm_agents.specs.{Logs.{AreUnspent, IsLogOf, steps_first}, Turns.lives_of, TurnsLeft.turns_given}
+use Rattle.shm_agents.specs.{Logs.{AreUnspent, IsLogOf, steps_first}, Taken.HasTaken, Turns.lives_of}
+use Rattle.shm_agents.specs.TurnsLeft.{turns_given}
 use Rattle.shm_pool.specs.Tokens.{Its}
 use Rattle.shm_team.specs.{declared.done.Finish.Finish, Lefts.{IsGivenBack, account_in, is_corpse}}
 use Rattle.shm_async.specs.{Limited.AreGiven, Polled.AtPost}
 
--- The log of a client that was cut after so many turns, by what is accounted for of the identity: where it had ended or died before the cut it is what it was, and otherwise it died after the word steps that it had made
+-- The log of a client that was cut after so many turns, by what is accounted for of the identity: where it had ended or died before the cut it is what it was, and otherwise it died after the word steps that it had made; all its turns are those of the script's agents
 pub record IsCutLog (p : Its) (s : Scripted) (turns : ℕ) (e : Account) (l : Logged) : Type 0 where
   pub log : IsLogOf (member p.start.geometry s.client) s (steps_first e.memo.agents) e.memo.agents e.begun (told_left true e) l
   pub only : AreCommandsTold (member p.start.geometry s.client) (told_left true e) l.entries
@@ -17,6 +19,7 @@ pub record IsCutLog (p : Its) (s : Scripted) (turns : ℕ) (e : Account) (l : Lo
   pub cut : AreCut (lives_of s.life) lives
   pub agents : AreAgents s.lines lives e.memo.agents e.begun true
   pub given : AreGiven (lives_of s.life) lives turns
+  pub taken : HasTaken (member p.start.geometry s.client) s.lines (first_account p.start s.client) e
 
 -- and where nobody had begun
 abbrev pub LogFits : Bool → Its → Scripted → ℕ → Account → Logged → Type 0

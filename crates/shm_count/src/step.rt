@@ -2,6 +2,7 @@
 
 ghost use Rattle.std.specs.Prelude.{◌≡◌, ◌+◌, ◌<◌, ◌≤◌, ◌^◌};
 ghost use Rattle.shm_words.specs.Layout.{GeometryFits, address_limit};
+ghost use Rattle.shm_graph.specs.{Mapped.told_turn, ManySteps.{HasRun, MayRun}};
 ghost use Rattle.shm_count.specs.declared.point.StepPoint.TheVariants.{Era};
 ghost use Rattle.shm_count.specs.Step.Control.{StepInRange, first_point, step_ask, step_next, answer_of, point_of, step_control, is_over};
 ghost use Rattle.shm_count.specs.{Step.ExchangeMade.step_exchanged, Proved.Step.Keeps.step_keeps};
@@ -12,7 +13,7 @@ ghost use Rattle.shm_count.specs.Step.Machines as machines;
 use crate::answer::{EraSpent, UpFault};
 use crate::point;
 use crate::point::{Aim, StepNext, StepPoint, StepState};
-use shm_graph::{Ask, Machine, Me, Site, Turn};
+use shm_graph::{Ask, Life, Machine, Me, Site, Turn};
 use std::marker::Model;
 
 impl StepState {
@@ -80,6 +81,31 @@ impl StepState {
     {
         let next = self.act(site, words);
         self.go_on(next)
+    }
+
+    /// Makes the word steps that come next, until it has answered or no life is left.
+    #[inline(never)]
+    fn run_on<S: Site>(
+        &mut self,
+        site: &S,
+        words: &mut S::Words,
+        life: &mut Life,
+    ) -> Turn<Result<bool, UpFault>>
+        requires range { StepInRange self.old }
+        requires may { MayRun step_control (S.may site.now) (S.made site.now) (S.seen site.now) life.old.left self.old words.old }
+        ensures ran { HasRun step_control (S.made site.now) (S.seen site.now) life.old.left self.old words.old (record { left = life.new.left; machine = self.new; words = words.new; turn = result }) }
+        ensures knows { StepInRange self.new }
+    {
+        'steps: loop {
+            if life.left == 0 {
+                return Turn::Died;
+            }
+            life.left -= 1;
+            let next = self.act(site, words);
+            if let Some(answer) = self.go_on(next) {
+                return Turn::Done(answer);
+            }
+        }
     }
 }
 
@@ -189,6 +215,16 @@ impl Machine for StepUp {
         }
     }
 
+    #[inline(always)]
+    fn run<S: Site>(
+        &mut self,
+        site: &S,
+        words: &mut S::Words,
+        life: &mut Life,
+    ) -> Turn<Result<(), UpFault>> {
+        up_told(self.state.run_on(site, words, life))
+    }
+
     ghost laws = { machines_proved.up_laws step_keeps };
 }
 
@@ -274,6 +310,16 @@ impl Machine for StepDown {
             None => Turn::More,
             Some(answer) => Turn::Done(down_answer(answer)),
         }
+    }
+
+    #[inline(always)]
+    fn run<S: Site>(
+        &mut self,
+        site: &S,
+        words: &mut S::Words,
+        life: &mut Life,
+    ) -> Turn<Result<bool, EraSpent>> {
+        down_told(self.state.run_on(site, words, life))
     }
 
     ghost laws = { machines_proved.down_laws step_keeps };
@@ -365,6 +411,16 @@ impl Machine for StepChange {
         }
     }
 
+    #[inline(always)]
+    fn run<S: Site>(
+        &mut self,
+        site: &S,
+        words: &mut S::Words,
+        life: &mut Life,
+    ) -> Turn<Result<bool, UpFault>> {
+        self.state.run_on(site, words, life)
+    }
+
     ghost laws = { machines_proved.change_laws step_keeps };
 }
 
@@ -387,5 +443,29 @@ fn down_answer(answer: Result<bool, UpFault>) -> Result<bool, EraSpent>
     match answer {
         Ok(zero) => Ok(zero),
         Err(fault) => Err(fault.spent()),
+    }
+}
+
+/// What many word steps of a step up tell.
+#[inline(always)]
+fn up_told(turn: Turn<Result<bool, UpFault>>) -> Turn<Result<(), UpFault>>
+    ensures { result ≡ told_turn machines.up_answer turn }
+{
+    match turn {
+        Turn::Done(answer) => Turn::Done(up_answer(answer)),
+        Turn::More => Turn::More,
+        Turn::Died => Turn::Died,
+    }
+}
+
+/// What many word steps of a step down tell.
+#[inline(always)]
+fn down_told(turn: Turn<Result<bool, UpFault>>) -> Turn<Result<bool, EraSpent>>
+    ensures { result ≡ told_turn machines.down_answer turn }
+{
+    match turn {
+        Turn::Done(answer) => Turn::Done(down_answer(answer)),
+        Turn::More => Turn::More,
+        Turn::Died => Turn::Died,
     }
 }

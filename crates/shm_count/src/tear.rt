@@ -2,6 +2,7 @@
 
 ghost use Rattle.std.specs.Prelude.{◌≡◌, ◌<◌, ◌^◌};
 ghost use Rattle.shm_words.specs.Layout.{GeometryFits, address_limit};
+ghost use Rattle.shm_graph.specs.ManySteps.{HasRun, MayRun};
 ghost use Rattle.shm_count.specs.{declared.tear_point.TearPoint.TheVariants.Begin, Operating.{TearDownLeaves, TearMay}};
 ghost use Rattle.shm_count.specs.Proved.{Operating.tear_operation, Tear.Keeps.tear_laws};
 ghost use Rattle.shm_count.specs.Tear.Control.{TearInRange, tear_ask, tear_next, answer_of, block_of, point_of, tear_control, is_over};
@@ -9,7 +10,7 @@ ghost use Rattle.shm_count.specs.Tear.{TearFits, TearGives, Events.tear_event};
 
 use crate::answer::EraSpent;
 use crate::tear_point::{TearNext, TearPoint, TearState};
-use shm_graph::{Ask, Machine, Me, Operation, Site, Turn};
+use shm_graph::{Ask, Life, Machine, Me, Operation, Site, Turn};
 use std::marker::Model;
 
 impl TearState {
@@ -77,6 +78,31 @@ impl TearState {
     {
         let next = self.act(site, words);
         self.go_on(next)
+    }
+
+    /// Makes the word steps that come next, until it has answered or no life is left.
+    #[inline(never)]
+    fn run_on<S: Site>(
+        &mut self,
+        site: &S,
+        words: &mut S::Words,
+        life: &mut Life,
+    ) -> Turn<Result<(), EraSpent>>
+        requires range { TearInRange self.old }
+        requires may { MayRun tear_control (S.may site.now) (S.made site.now) (S.seen site.now) life.old.left self.old words.old }
+        ensures ran { HasRun tear_control (S.made site.now) (S.seen site.now) life.old.left self.old words.old (record { left = life.new.left; machine = self.new; words = words.new; turn = result }) }
+        ensures knows { TearInRange self.new }
+    {
+        'steps: loop {
+            if life.left == 0 {
+                return Turn::Died;
+            }
+            life.left -= 1;
+            let next = self.act(site, words);
+            if let Some(answer) = self.go_on(next) {
+                return Turn::Done(answer);
+            }
+        }
     }
 }
 
@@ -155,6 +181,16 @@ impl Machine for TearDown {
             None => Turn::More,
             Some(answer) => Turn::Done(answer),
         }
+    }
+
+    #[inline(always)]
+    fn run<S: Site>(
+        &mut self,
+        site: &S,
+        words: &mut S::Words,
+        life: &mut Life,
+    ) -> Turn<Result<(), EraSpent>> {
+        self.state.run_on(site, words, life)
     }
 
     ghost laws = { tear_laws };

@@ -1,22 +1,22 @@
 -- where each identity takes the turns that its script gives, in whatever order they come, each log takes effect
-use Rattle.std.proofs.Common.{◌≡◌, ◌≢◌, ℕ, suc, ◌^◌, ◌<◌, Bool, true, false, eqb, List, [], ◌∷◌, refl, sym, ap, ◌∙◌, subst, inl, inr, arith}
+use Rattle.std.proofs.Common.{◌≡◌, ℕ, suc, ◌^◌, ◌<◌, Bool, true, false, eqb, List, [], ◌∷◌, ◌++◌, append-nil, refl, sym, ap, ◌∙◌, subst, arith}
 use Rattle.std.proofs.lemmas.Bool.{cond-false, cond-true, true≢false}
-use Rattle.std.specs.{Prelude.{Option, Some, slice_get}, List.AllByRecursion, Option.is_some}
-use Rattle.shm_graph.specs.{declared.{ask.Me.Me, run.{Account.Account, Start.Start}}, Agents.acts}
-use Rattle.shm_graph.specs.Runs.{EraFits, account_at, first_words, memos_of, state}
+use Rattle.std.specs.{Prelude.{Option, Some, None, slice_get}, List.AllByRecursion, Option.is_some}
+use Rattle.shm_graph.specs.{declared.{ask.Me.Me, run.{Account.Account, Start.Start}}, CallEvents.own_turns}
+use Rattle.shm_graph.specs.Runs.{EraFits, account_at, first_account, first_words, state}
+use Rattle.shm_graph.proofs.Runs.OwnTurns.{own_turns_are}
 use Rattle.plans.specs.Deciding.{Foretells}
 use Rattle.shm_count.specs.Roots.{member}
 use Rattle.shm_plain.specs.Pools.{Pool}
 use Rattle.shm_script.specs.{Logged.Logged, Ranges.{IsTrace, ScriptFits}, Values.{Scripted, Traced}}
 use Rattle.shm_table.specs.Command.{command_by, command_control, command_effect}
-use Rattle.shm_agents.specs.{declared.agents.Standing.TheVariants.AtWork, Agents.Playing, Logs.{AreLogs, IsLog}}
-use Rattle.shm_agents.specs.Turns.{next_by, script_in}
-use Rattle.shm_agents.proofs.{Dying.CommandMaps, Over.{IsOver, is_over}, Standing.stands_now}
+use Rattle.shm_agents.specs.{Agents.Playing, Logs.{AreLogs, IsLog}, Turns.{next_by, script_in}}
+use Rattle.shm_agents.proofs.{Dying.CommandMaps, Over.IsOver}
 use Rattle.shm_replay.specs.Turns.{next_work}
 use Rattle.shm_replay.proofs.{WholeRun.script_at, Gathering.same_some}
 use Rattle.shm_headline.specs.{Headline.{geometry_of, words_first}, TurnsOf.turns_of}
 use Rattle.shm_effects.specs.{Effects.TakesEffect, Taken.IsInterleaved}
-use Rattle.shm_effects.proofs.{Along.{IsAt, ready_acts, takes_effect}, Entries.effective, Logs.entries_noted}
+use Rattle.shm_effects.proofs.{Along.takes_effect, Entries.effective, Given.given, Logs.entries_noted}
 
 -- ---- scripts
 
@@ -35,6 +35,10 @@ all_logs scripts p P one [] logs at h = subst (AllByRecursion P) (sym h) tt
 all_logs scripts p P one (s ∷ ss) [] at h = absurd h
 all_logs scripts p P one (s ∷ ss) (l ∷ logs) at h = (one l s (at 0 s refl) h.0, all_logs scripts p P one ss logs (λ k z e. at (suc k) z e) h.1)
 
+is_none : {A : Type 0} (o : Option A) → is_some o ≡ false → o ≡ None
+is_none None e = refl
+is_none (Some a) e = absurd (true≢false e)
+
 -- ---- the run
 
 module _ (maps : CommandMaps) (tells : Foretells command_control (λ a. a) command_effect command_by) (t : Traced) (trace : IsTrace t) (p : Pool) (ls : List Logged) (r : IsInterleaved t p ls) where
@@ -51,39 +55,29 @@ module _ (maps : CommandMaps) (tells : Foretells command_control (λ a. a) comma
     here : s.client < start.geometry.clients
     here = subst (λ (z : Start). s.client < z.geometry.clients) (sym r.begins) (low s script)
 
-    -- in the end all that its client has noted has taken effect
-    module _ (e : Account) (x : Playing) (at : IsAt maps tells start s here (state r.played.words r.played.accounts) e x) where
-      idle : acts (memos_of r.played.accounts s.client) ≡ false
-      idle = (r.rests s.client (low s script)).0
+    -- what its agents left, which have nothing left to do
+    abbrev left : Account
+    left = account_at r.played.accounts s.client
 
-      same : account_at r.played.accounts s.client ≡ e
-      same =
-          elim at.near [
-            | inl n ↦ n
-            | inr n ↦ absurd (true≢false (sym (ap (λ (z : Account). acts z.memo) n.2 ∙ ready_acts e) ∙ idle))
-          ]
+    none : next_by (member start.geometry s.client) s left ≡ None
+    none = is_none (next_by (member start.geometry s.client) s left) (ap (λ (o : Option Scripted). is_some (next_work r.played s.client o)) (sym script) ∙ (r.rests s.client (low s script)).1)
 
-      busy : is_some (next_by x.me s e) ≡ false
-      busy =
-          ap (λ (m : Me). is_some (next_by m s e)) at.named
-          ∙ (ap (λ (a : Account). is_some (next_by (member start.geometry s.client) s a)) (sym same)
-          ∙ (ap (λ (o : Option Scripted). is_some (next_work r.played s.client o)) (sym script) ∙ (r.rests s.client (low s script)).1))
+    -- all that its client has noted
+    ends : (x : Playing) → x.me ≡ member start.geometry s.client → IsOver s x left → l.entries ≡ effective s x
+    ends x named over = entries_noted t.clients r.played p r.run (r.start ∙ sym r.begins) r.visits s x (low s script) here (sym (ap (λ (m : Me). m.who) named)) named over l is
 
-      still : x.standing ≢ AtWork
-      still work = let now = stands_now start s x e at.stands work in true≢false (sym (ap is_some now.next) ∙ busy)
-
-      over : IsOver s x (account_at r.played.accounts s.client)
-      over = subst (IsOver s x) (sym same) (is_over start s x e at.stands.stage still)
-
-      ends : l.entries ≡ effective s x
-      ends = entries_noted t.clients r.played p r.run (r.start ∙ sym r.begins) r.visits s x (low s script) here (sym (ap (λ (m : Me). m.who) at.named)) at.named over l is
+    -- its turns are those that the account has
+    own : own_turns s.client r.played.turns ≡ left.turns ++ []
+    own = sym (own_turns_are start r.played.turns (state r.played.words r.played.accounts) r.run.leads s.client here) ∙ sym (append-nil left.turns)
 
     takes : Takes l
     takes =
         let fits : ScriptFits start.geometry.clients s = subst (λ (z : Start). ScriptFits z.geometry.clients s) (sym r.begins) (script_of (ScriptFits t.clients) t.scripts s.client s trace.scripts script) in
         let eras : EraFits start.first_era = subst (λ (z : Start). EraFits z.first_era) (sym r.begins) (omega arith, omega arith) in
         let era : start.first_era < 2 ^ 46 = subst (λ (z : Start). z.first_era < 2 ^ 46) (sym r.begins) (omega arith) in
-        let took = takes_effect maps tells start s here l.entries l.end (state r.played.words r.played.accounts) ends r.run.held.at.fits eras era (ap (λ (z : Start). z.tables) r.begins) fits r.played.turns r.run.leads (r.turns s script) in
+        let (dead, all, h) = r.turns s script in
+        let (up, g, m) = given (member start.geometry s.client) s left dead all left.turns (first_account start s.client) h.turns h.made in
+        let took = takes_effect maps tells start s here l.entries l.end left none [] tt ends (state r.played.words r.played.accounts) r.run.held.at.fits eras era (ap (λ (z : Start). z.tables) r.begins) fits r.played.turns r.run.leads left.turns (own, g, m) in
         subst (λ (z : Start). TakesEffect z.geometry l 0 [] (first_words z) (turns_of r.played.turns)) r.begins
         (subst (λ (k : ℕ). TakesEffect start.geometry (record { client = k; entries = l.entries; end = l.end }) 0 [] (first_words start) (turns_of r.played.turns)) (sym is.client) took)
 

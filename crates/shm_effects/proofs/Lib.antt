@@ -4,6 +4,7 @@ mod Gets
 mod Entries
 mod Steps
 mod Falls
+mod Given
 mod Along
 mod Turns
 mod Played
@@ -13,3 +14,4 @@ mod Ended
 mod Interleaved
 mod Replays
 mod TeamEnded
+mod TeamTaken

@@ -349,7 +349,7 @@ module _ (maps : CommandMaps) (tells : Foretells command_control (λ a. a) comma
         go None none =
             record {
               agents = on;
-              stands = turning.went_on start s x e h.may here h.stage last n after now named life spent learns none;
+              stands = turning.went_on start s x e h.may here h.stage h.taken last n after now named life spent learns none;
               me = refl;
               script = refl;
               takes = goes none;
@@ -358,7 +358,7 @@ module _ (maps : CommandMaps) (tells : Foretells command_control (λ a. a) comma
             let y : Playing = record x { work = behind x.me s.lines many; life = life } in
             record {
               agents = y;
-              stands = turning.began start s x e h.may here h.stage last n after now named life spent learns a some;
+              stands = turning.began start s x e h.may here h.stage h.taken last n after now named life spent learns a some;
               me = refl;
               script = refl;
               takes = inl (quiet s x y x.end refl (first_shows x.work n (First a) some).0 (behind_shows x.me s.lines many), λ times saw. behind_saw g x.me s.lines many (ws ∷ times));
@@ -368,13 +368,13 @@ module _ (maps : CommandMaps) (tells : Foretells command_control (λ a. a) comma
             let shows = first_shows x.work n (Second a) some in
             record {
               agents = y;
-              stands = (turning.recovered start s x e h.may here h.stage last n after now named life spent learns a some).1;
+              stands = (turning.recovered start s x e h.may here h.stage h.taken last n after now named life spent learns a some).1;
               me = refl;
               script = refl;
               takes = inl (quiet s x y x.end refl shows.0 shows.1, λ times saw. saw_first (Second a) some (ws ∷ times));
             }
         go (Some (Second (First a))) some =
-            let (l, is, stands) = turning.answered start s x e h.may here h.stage last n after now named life spent learns a some in
+            let (l, is, stands) = turning.answered start s x e h.may here h.stage h.taken last n after now named life spent learns a some in
             record {
               agents = done a some l is;
               stands = stands;
@@ -386,7 +386,7 @@ module _ (maps : CommandMaps) (tells : Foretells command_control (λ a. a) comma
             let y : Playing = record x { work = next; life = life; end = Some end.Ended; standing = Gone } in
             record {
               agents = y;
-              stands = (turning.parted start s x e h.may here h.stage last n after now named life spent learns a some).1;
+              stands = (turning.parted start s x e h.may here h.stage h.taken last n after now named life spent learns a some).1;
               me = refl;
               script = refl;
               takes = inl (sym (parts x.end a some), λ times saw. saw_leave a some (ws ∷ times));

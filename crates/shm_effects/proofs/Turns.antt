@@ -1,49 +1,34 @@
 -- a turn that a replay gives to the agents of a script
-use Rattle.std.proofs.Common.{◌≡◌, ◌≢◌, ℕ, zero, suc, ◌-◌, ◌<◌, Bool, true, false, cond, List, [], ◌∷◌, ◌++◌, length, append_assoc, refl, sym, ap, ◌∙◌, subst, arith}
+use Rattle.std.proofs.Common.{◌≡◌, ◌≢◌, ℕ, zero, suc, ◌-◌, ◌<◌, Bool, true, false, cond, length, refl, sym, ap, ◌∙◌, subst, arith}
 use Rattle.std.proofs.lemmas.List.{get_or-set_other}
-use Rattle.std.specs.Prelude.{Option, Some, None}
-use Rattle.shm_graph.specs.declared.{ask.{Life.Life, Me.Me}, memo.{Kind.Kind, Memo.Memo, Step.Step}}
-use Rattle.shm_graph.specs.{declared.run.{Account.Account, Move.{Move, TheVariants.{Word, Dies, Begins}}}, Agents.acts}
-use Rattle.shm_graph.specs.{Laws.Outcome, Runs.{account_at, account_died, account_entered, changed}}
+use Rattle.std.specs.Prelude.{Some}
+use Rattle.shm_graph.specs.declared.{ask.{Life.Life, Me.Me}, memo.{Memo.Memo, Step.Step}, run.Account.Account}
+use Rattle.shm_graph.specs.{Agents.acts, Laws.Outcome, Runs.{account_at, account_died, account_entered, changed}}
 use Rattle.shm_graph.specs.Whole.{fits_now, gives_now}
 use Rattle.plans.specs.Deciding.{Foretells}
-use Rattle.shm_count.specs.Roots.{member}
 use Rattle.shm_plain.specs.Pools.{IsOf, IsRun, Pool, after_fall, memo_of, readied, turn_on, turned}
 use Rattle.shm_plain.specs.{Proved.Standing.{named_in, stood_in}, Tracks.kind_next, Working.ready_account}
 use Rattle.shm_plain.proofs.PlaceTurning.{fallen_is, may_step, ready_is, turned_is}
 use Rattle.shm_plain.proofs.Turning.{fall_run, learned, ready_run, turned_run}
-use Rattle.shm_script.specs.Values.{Scripted, Traced}
+use Rattle.shm_script.specs.Values.{Traced}
 use Rattle.shm_table.specs.Command.{command_by, command_control, command_effect}
 use Rattle.shm_agents.specs.{declared.agents.Standing.TheVariants.AtWork, Agents.{AgentsStand, Playing}}
 use Rattle.shm_agents.specs.Work.{WorkFits, WorkGives, work_control}
-use Rattle.shm_agents.proofs.{Deaths.{IsSpent, acting}, Dying.CommandMaps, Standing.stands_now}
+use Rattle.shm_agents.proofs.{Deaths.{IsSpent, acting}, Dying.CommandMaps}
 use Rattle.shm_agents.proofs.Turning as turning
 use Rattle.shm_replay.specs.{Seats.IsSeat, Turns.worked}
 use Rattle.shm_replay.proofs.Seating.{seat_after, seat_of}
-use Rattle.shm_headline.proofs.Moves.{who_of}
-use Rattle.shm_effects.specs.Taken.{AreTaken}
 use Rattle.shm_effects.proofs.Along.{keeps}
 use Rattle.shm_effects.proofs.Falls as falls
 use Rattle.shm_effects.proofs.Steps as steps
 
--- the beginning of an agent of d, where one comes first
-abbrev pub front_of : ℕ → Option Kind → List Move
-front_of d None = []
-front_of d (Some k) = Begins d k ∷ []
-
--- the pool q comes from p by a turn of the agents y of d
-pub record IsTurn (t : Traced) (p q : Pool) (d : ℕ) (s : Scripted) (y : Playing) : Type 0 where
+-- the pool q comes from p by a turn of the agents of d
+pub record IsTurn (t : Traced) (p q : Pool) (d : ℕ) : Type 0 where
   pub next : Playing
   pub seat : IsSeat t q d next
   pub run : IsRun q
   pub start : q.start ≡ p.start
   pub others : (e : ℕ) → e ≢ d → account_at q.accounts e ≡ account_at p.accounts e
-  pub front : Option Kind
-  pub last : Move
-  pub grew : q.turns ≡ p.turns ++ (front_of d front ++ last ∷ [])
-  pub who : who_of last ≡ d
-  pub me : y.me ≡ member p.start.geometry d
-  pub taken : (ms : List Move) → AreTaken y.me s (account_at q.accounts d) ms → AreTaken y.me s (account_at p.accounts d) (front_of d front ++ last ∷ ms)
 
 module _ (maps : CommandMaps) (tells : Foretells command_control (λ a. a) command_effect command_by) (t : Traced) (p : Pool) (run : IsRun p) (d : ℕ) (l : d < p.start.geometry.clients) (y : Playing) (h : IsSeat t p d y) (here : y.standing ≡ AtWork) where
   abbrev e : Account
@@ -96,24 +81,6 @@ module _ (maps : CommandMaps) (tells : Foretells command_control (λ a. a) comma
     turn : steps.Turned maps tells p.start h.script y e h.stands (stood_in p run d l) here (account_at q.accounts d) step.seen (turned_is p d long step step_who) (stood_in q made d l) (named_in q made d l ∙ sym who) life (let z = some in omega arith) learns p.words r.accounts ready.0.held (subst (λ (n : ℕ). memo_of r n ≡ (ready_account e).memo) (sym who) memo_is)
     turn = steps.turned maps tells p.start h.script y e h.stands (stood_in p run d l) here (account_at q.accounts d) step.seen (turned_is p d long step step_who) (stood_in q made d l) (named_in q made d l ∙ sym who) life (let z = some in omega arith) learns p.words r.accounts ready.0.held (subst (λ (n : ℕ). memo_of r n ≡ (ready_account e).memo) (sym who) memo_is)
 
-    -- before it the agent begins where none acted
-    pub record Fronted : Type 0 where
-      pub front : Option Kind
-      pub grew : (ms : List Move) → r.turns ++ ms ≡ p.turns ++ (front_of d front ++ ms)
-      pub taken : (ms : List Move) → AreTaken y.me h.script e ms → AreTaken y.me h.script e (front_of d front ++ ms)
-
-    fronted : Fronted
-    fronted = go (acts e.memo) refl
-      where
-        go : (b : Bool) → acts e.memo ≡ b → Fronted
-        go true acting = record { front = None; grew = λ ms. ap (λ (z : Bool). cond z p.turns (p.turns ++ Begins d (kind_next e.memo) ∷ []) ++ ms) acting; taken = λ ms taken. taken }
-        go false idle =
-            record {
-              front = Some (kind_next e.memo);
-              grew = λ ms. ap (λ (z : Bool). cond z p.turns (p.turns ++ Begins d (kind_next e.memo) ∷ []) ++ ms) idle ∙ append_assoc p.turns (Begins d (kind_next e.memo) ∷ []) ms;
-              taken = λ ms taken. let now = stands_now p.start h.script y e h.stands here in (y.work, now.next, idle, refl, taken);
-            }
-
     aside : (k : ℕ) → k ≢ d → account_at q.accounts k ≡ account_at p.accounts k
     aside k other = get_or-set_other r.accounts step.me.who k _ _ (λ z. other (z ∙ step_who)) ∙ go (acts e.memo)
       where
@@ -121,21 +88,14 @@ module _ (maps : CommandMaps) (tells : Foretells command_control (λ a. a) comma
         go true = refl
         go false = get_or-set_other p.accounts d k _ _ other
 
-    pub word_turn : IsTurn t p q d h.script y
+    pub word_turn : IsTurn t p q d
     word_turn =
-        let now = stands_now p.start h.script y e h.stands here in
         record {
           next = turn.agents;
           seat = seat_after t p q d y turn.agents h.script h h.at refl turn.me turn.script turn.stands;
           run = made;
           start = refl;
           others = aside;
-          front = fronted.front;
-          last = Word step;
-          grew = fronted.grew (Word step ∷ []);
-          who = step_who;
-          me = h.me;
-          taken = λ ms taken. fronted.taken (Word step ∷ ms) (y.work, now.next, subst (λ (n : ℕ). 0 < n) (sym now.life) some, refl, subst (λ (a : Account). AreTaken y.me h.script a ms) (turned_is p d long step step_who) taken);
         }
 
   -- ---- a death
@@ -160,27 +120,20 @@ module _ (maps : CommandMaps) (tells : Foretells command_control (λ a. a) comma
         go true = get_or-set_other p.accounts d k _ _ other
         go false = refl
 
-    pub death_turn : IsTurn t p dead d h.script y
+    pub death_turn : IsTurn t p dead d
     death_turn =
-        let now = stands_now p.start h.script y e h.stands here in
         record {
           next = fell.after;
           seat = seat_after t p dead d y fell.after h.script h h.at refl fell.me fell.script (subst (AgentsStand p.start h.script fell.after) (sym (fallen_is p d long acts_now)) fell.stands);
           run = fall_run p d run l;
           start = refl;
           others = beside;
-          front = None;
-          last = Dies d;
-          grew = ap (λ (b : Bool). cond b (p.turns ++ Dies d ∷ []) p.turns) acts_now;
-          who = refl;
-          me = h.me;
-          taken = λ ms taken. (y.work, now.next, now.life ∙ spent, subst (λ (a : Account). AreTaken y.me h.script a ms) (fallen_is p d long acts_now) taken);
         }
 
   -- the turn that the agents take
-  pub taken : IsTurn t p (worked (Some y.work) y.life.left d p) d h.script y
+  pub taken : IsTurn t p (worked (Some y.work) y.life.left d p) d
   taken = go y.life.left refl
     where
-      go : (n : ℕ) → y.life.left ≡ n → IsTurn t p (worked (Some y.work) n d p) d h.script y
+      go : (n : ℕ) → y.life.left ≡ n → IsTurn t p (worked (Some y.work) n d p) d
       go zero is = death_turn is
       go (suc n) is = word_turn (let z = is in omega arith)

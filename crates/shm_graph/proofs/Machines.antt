@@ -3,3 +3,4 @@ pub mod Composing
 pub mod Wholes
 pub mod Calling
 pub mod TellsAlong
+pub mod ManySteps

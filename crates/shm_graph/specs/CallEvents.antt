@@ -24,6 +24,13 @@ steps_in c (Word t ∷ ms) = if t.me.who == c then t ∷ steps_in c ms else step
 steps_in c (Dies d ∷ ms) = steps_in c ms
 steps_in c (Begins d k ∷ ms) = steps_in c ms
 
+-- the turns of c among these
+abbrev pub own_turns : ℕ → List Move → List Move
+own_turns c [] = []
+own_turns c (Word t ∷ ms) = if t.me.who == c then Word t ∷ own_turns c ms else own_turns c ms
+own_turns c (Dies d ∷ ms) = if d == c then Dies d ∷ own_turns c ms else own_turns c ms
+own_turns c (Begins d k ∷ ms) = if d == c then Begins d k ∷ own_turns c ms else own_turns c ms
+
 -- the events of c's word steps in a run from a state
 abbrev pub events_in : Geometry → ℕ → State → List Move → List Event
 events_in g c s [] = []

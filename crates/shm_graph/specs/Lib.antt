@@ -26,6 +26,7 @@ pub mod Histories
 pub mod CallEvents
 pub mod Trails
 pub mod Tells
+pub mod ManySteps
 pub mod Idle
 pub mod Mapped
 pub mod Core

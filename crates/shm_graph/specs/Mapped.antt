@@ -1,7 +1,8 @@
 -- a control whose answers are told by those of another one, and its laws
 use Rattle.std.proofs.Common.{◌≡◌}
 use Rattle.std.specs.Option.{option_map}
-use Rattle.shm_graph.specs.{declared.memo.Memo.Memo, Asks.Trail, Laws.Control}
+use Rattle.shm_graph.specs.declared.{memo.Memo.Memo, ask.Turn.{Turn, TheVariants.{More, Done, Died}}}
+use Rattle.shm_graph.specs.{Asks.Trail, Laws.Control}
 
 -- what holds of a machine with states S on the way, and at its answer
 abbrev pub OnTheWay : Type 0 → Type 1
@@ -11,6 +12,12 @@ abbrev pub AtTheEnd : Type 0 → Type 0 → Type 1
 AtTheEnd S A = S → Memo → Memo → Trail → A → Type 0
 
 -- ---- answers that are told by f
+
+-- what is told, of the answer what f tells of it
+abbrev pub told_turn : {A B : Type 0} → (A → B) → Turn A → Turn B
+told_turn f More = More
+told_turn f Died = Died
+told_turn f (Done a) = Done (f a)
 
 -- the control that answers what f tells of the answer
 abbrev pub mapped : {S A B : Type 0} → (A → B) → Control S A → Control S B

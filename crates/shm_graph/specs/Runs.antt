@@ -37,14 +37,26 @@ account_after e t =
       told = if t.ends then told_by t.line (call_after t.fresh e.memo.call t.ask t.seen) true (told_left t.fresh e) else told_left t.fresh e;
       begun = if t.fresh then begun_by t.line e.begun else e.begun;
       running = if t.ends then [] else t.line;
+      turns = e.turns ++ Word t ∷ [];
     }
 
 -- the account after the death of an agent, and after the beginning of one
 abbrev pub account_died : Account → Account
-account_died e = record e { memo = died e.memo }
+account_died e = record e { memo = died e.memo; turns = e.turns ++ Dies e.who ∷ [] }
 
 abbrev pub account_entered : Kind → Account → Account
-account_entered k e = record e { memo = entered k e.memo; begun = e.begun ++ [] ∷ [] }
+account_entered k e = record e { memo = entered k e.memo; begun = e.begun ++ [] ∷ []; turns = e.turns ++ Begins e.who k ∷ [] }
+
+-- the account of who takes a turn, after it
+abbrev pub account_by : Account → Move → Account
+account_by e (Word t) = account_after e t
+account_by e (Dies c) = account_died e
+account_by e (Begins c k) = account_entered k e
+
+-- and after these turns
+abbrev pub account_along : Account → List Move → Account
+account_along e [] = e
+account_along e (m ∷ ms) = account_along (account_by e m) ms
 
 -- ---- the first state
 
@@ -81,7 +93,7 @@ first_memo s c =
     }
 
 abbrev pub first_account : Start → ℕ → Account
-first_account s c = record { who = c; memo = first_memo s c; told = []; begun = []; running = [] }
+first_account s c = record { who = c; memo = first_memo s c; told = []; begun = []; running = []; turns = [] }
 
 -- the accounts of n identities from c on
 abbrev pub accounts_from : Start → ℕ → ℕ → List Account

@@ -6,17 +6,18 @@ ghost use Rattle.shm_graph.specs.declared.ask.{Ask.{Ask as AnAsk, TheVariants.{L
 ghost use Rattle.shm_graph.specs.declared.memo.{Memo.Memo as AMemo, Kind.Kind as AKind, Status.TheVariants.{New, Gone}};
 ghost use Rattle.shm_graph.specs.declared.spot.Spot.{Spot as ASpot, TheVariants.Status};
 ghost use Rattle.shm_graph.specs.declared.run.{Account.Account as AnAccount, Move.Move as AMove};
-ghost use Rattle.shm_graph.specs.declared.run.Move.TheVariants.{Dies, Begins};
+ghost use Rattle.shm_graph.specs.declared.run.{Move.TheVariants.{Dies, Begins}, Start.Start as AStart};
 ghost use Rattle.shm_graph.specs.{Spots.{spot_at, classes_in, see, is_in_body}, Blocks.classes, Views.{View, view}};
 ghost use Rattle.shm_graph.specs.{Held.HeldAt, Controllers.IsAllowed, Events.Event};
 ghost use Rattle.shm_graph.specs.Asks.{Trail, at_of, words_after, words_set};
 ghost use Rattle.shm_graph.specs.Laws.{Frame, Stands, KeptAt, GoneNow, MayEnd};
-ghost use Rattle.shm_graph.specs.Runs.{Held, State, memos_of, moved, IsMove, Turned, Leads};
-ghost use Rattle.shm_graph.specs.CallEvents.{steps_of_call, events_of, steps_in, events_in, IsUnbroken};
+ghost use Rattle.shm_graph.specs.Runs.{Held, State, account_at, first_state, memos_of, moved, IsMove, Turned, Leads};
+ghost use Rattle.shm_graph.specs.CallEvents.{steps_of_call, events_of, steps_in, events_in, own_turns, IsUnbroken};
 ghost use Rattle.shm_graph.specs.{Sound.IsSound, Clean.IsClean, Whole.{fits_now, gives_now, WholeInside, WholeKeeps}};
-ghost use Rattle.shm_graph.specs.Tells.{Tells, GoesOn, machine_steps, tells_along};
+ghost use Rattle.shm_graph.specs.{ManySteps.{HasRun, IsAlong, Stop}, Tells.{Tells, GoesOn, machine_steps, tells_along}};
 
 use crate::machine::Machine;
+use crate::site::Site;
 
 /// A step on the list of words that is allowed is the step at its spot.
 pub fn word_steps()
@@ -66,6 +67,11 @@ pub fn steps_keep()
     ensures lost { (me : AMe) (w : ASpot → ℕ) (r : ℕ → AMemo) (f : Frame) (tr : Trail) (at from to : ℕ) (p : ASpot) → Stands me w r f tr → spot_at me.geometry (classes w) at ≡ p → is_in_body p ≡ false → MayEnd me.who (r me.who) p → w p ≢ from → KeptAt me w r (Exchange at from to) f (λ n m. Unit {0}) (spot_at me.geometry (classes w) at) }
 {}
 
+/// What is accounted for of an identity has its turns of the run, the first one first.
+pub fn accounts_keep_turns()
+    ensures { (s : AStart) (ms : List AMove) (b : State) → Leads s.geometry (first_state s) ms b → (c : ℕ) → c < s.geometry.clients → (account_at b.accounts c).turns ≡ own_turns c ms }
+{}
+
 /// The events of a call are a function of its pairs and of the memo before it: no word of the pool enters.
 pub fn call_events()
     ensures told { (g : AGeometry) (c : ℕ) (a : State) (ms : List AMove) (b : State) → c < length a.accounts → IsUnbroken c ms → Leads g a ms b → events_in g c a ms ≡ events_of (memos_of a.accounts c) (steps_in c ms) }
@@ -75,4 +81,10 @@ pub fn call_events()
 /// The events of a call of a machine that runs by itself are those that it tells: its control and the words found give them.
 pub fn own_events<M: Machine>()
     ensures { (does : M → ℕ → Event) → Tells M.control M.fits does → (g : AGeometry) (c : ℕ) (a : State) (ms : List AMove) (b : State) (m : M) (r0 : AMemo) (tr : Trail) → M.control.me m ≡ record { geometry = g; who = c } → c < g.clients → c < length a.accounts → Held g a.words a.accounts → IsUnbroken c ms → Leads g a ms b → fits_now M.control M.fits m r0 (memos_of a.accounts c) → GoesOn M.control m tr → steps_in c ms ≡ machine_steps M.control m tr → events_in g c a ms ≡ tells_along M.control does m tr }
+{}
+
+/// Many word steps of a machine ran along a trail: the machine is where that leads, its life fell by as much as that is long, and it has answered at the
+/// last pair, or no life is left.
+pub fn runs_along<M: Machine, S: Site>()
+    ensures { (site : S) (n : ℕ) (m : M) (w : S.Words) (z : Stop M S.Words M.Answer) → HasRun M.control (S.made site) (S.seen site) n m w z → IsAlong M.control (S.made site) (S.seen site) n m w z }
 {}

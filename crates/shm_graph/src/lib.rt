@@ -24,8 +24,8 @@ pub use act::make_step;
 pub use ask::{Ask, Life, Me, Turn};
 pub use history::{agents_begin, runs_are_sound, word_turns};
 pub use laws::{
-    agents_change, call_events, held_state_sound, machine_law, own_events, runs_compose,
-    steps_keep, still_state_clean, word_steps,
+    accounts_keep_turns, agents_change, call_events, held_state_sound, machine_law, own_events,
+    runs_along, runs_compose, steps_keep, still_state_clean, word_steps,
 };
 pub use machine::Machine;
 pub use memo::{

@@ -2,8 +2,9 @@
 
 ghost use Rattle.std.specs.Prelude.{◌≡◌, false};
 ghost use Rattle.shm_graph.specs.{declared.memo.Memo.Memo as AMemo, Asks.Trail, Laws.{Control, Laws, turn_of}};
+ghost use Rattle.shm_graph.specs.ManySteps.{HasRun, MayRun};
 
-use crate::ask::{Ask, Me, Turn};
+use crate::ask::{Ask, Life, Me, Turn};
 use crate::site::Site;
 
 /// A program of word steps: it asks for one word step, is told what was found, and asks for the next.
@@ -56,6 +57,32 @@ pub trait Machine {
         let ask = self.ask();
         let seen = site.make(words, ask);
         self.take(seen)
+    }
+
+    /// Makes the word steps that it asks for at this site, one after the other, until it has answered or no life is left: then it tells `Died`.
+    ///
+    /// A machine that is made of another one hands this on too, so that many word steps go once through what it is made of.
+    #[inline(always)]
+    fn run<S: Site>(
+        &mut self,
+        site: &S,
+        words: &mut S::Words,
+        life: &mut Life,
+    ) -> Turn<Self::Answer>
+        requires { MayRun control (S.may site.now) (S.made site.now) (S.seen site.now) life.old.left self.old words.old }
+        ensures { HasRun control (S.made site.now) (S.seen site.now) life.old.left self.old words.old (record { left = life.new.left; machine = self.new; words = words.new; turn = result }) }
+    {
+        'steps: loop {
+            if life.left == 0 {
+                return Turn::Died;
+            }
+            life.left -= 1;
+            match self.act(site, words) {
+                Turn::More => {}
+                Turn::Done(answer) => return Turn::Done(answer),
+                Turn::Died => return Turn::Died,
+            }
+        }
     }
 
     ghost laws: { Laws control fits gives };

@@ -30,6 +30,8 @@ pub struct Account {
     pub begun: LinkedList<LinkedList<LinkedList<u8>>>,
     /// The line of the machine that is running.
     pub running: LinkedList<u8>,
+    /// The turns of the identity, the first one first.
+    pub turns: LinkedList<Move>,
 }
 
 /// A turn of a run.

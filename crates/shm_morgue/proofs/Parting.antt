@@ -4,13 +4,13 @@ use Rattle.std.proofs.lemmas.{Bool.eq-eqb, List.Sums.sum_by-cons}
 use Rattle.std.specs.Prelude.{Some, slice_get, slice_index, sum}
 use Rattle.shm_graph.specs.declared.{ask.Me.Me, memo.{Agent.Agent, Fate.TheVariants.Acts, Kind.TheVariants.Recoverer}}
 use Rattle.shm_graph.specs.{declared.run.{Account.Account, Start.Start}, Agents.{acts, steps_of}, Held.is_loose}
-use Rattle.shm_graph.specs.Runs.{account_died, is_dead, told_left}
+use Rattle.shm_graph.specs.Runs.{account_died, first_account, is_dead, told_left}
 use Rattle.shm_count.specs.Roots.{member}
 use Rattle.shm_agents.specs.declared.agents.Standing.{Standing, TheVariants.{AtWork, Gone}}
 use Rattle.shm_agents.specs.Agents.{IsFallen, IsFold, IsFresh, IsMending, IsPlaying, IsSettled, Playing, Stage, AgentsStand, is_at_work, is_client, logged}
 use Rattle.shm_agents.specs.Agents.Stage.{Fresh, Plays, Parted, Fallen, Mending, Mended}
-use Rattle.shm_agents.specs.{Courses.{AreAgents, AreCommandsTold, AreRecoverers}, Logs.IsLogOf, Turns.lives_of}
-use Rattle.shm_agents.specs.TurnsLeft.{deaths, turns_given}
+use Rattle.shm_agents.specs.{Courses.{AreAgents, AreCommandsTold, AreRecoverers}, Logs.IsLogOf, Taken.HasTaken}
+use Rattle.shm_agents.specs.{Turns.lives_of, TurnsLeft.{deaths, turns_given}}
 use Rattle.shm_agents.proofs.{Growing.steps_of-end, Standing.client_stage}
 use Rattle.shm_pool.specs.Tokens.{Token}
 use Rattle.shm_replay.proofs.Seating.{client_here}
@@ -146,4 +146,5 @@ dead_client s x u t h parted here named same acting =
       unspent = settled.unspent;
       fold = subst (λ (a : Account). IsFold x.entries a.memo) is settled.fold;
       table = ap (λ (a : Account). is_loose a.memo.part) same.1 ∙ settled.table;
+      taken = subst (HasTaken me s.lines (first_account u.of.start s.client)) is (subst (λ (m : Me). HasTaken m s.lines (first_account u.of.start m.who) e) mine h.taken);
     }

@@ -5,22 +5,23 @@ use Rattle.shm_graph.specs.declared.{ask.{Me.Me, Turn.{Turn, TheVariants.{More, 
 use Rattle.shm_graph.specs.declared.memo.{Fate.TheVariants.{Acts, Died, Ended}, Kind.TheVariants.Recoverer}
 use Rattle.shm_graph.specs.declared.{memo.Status.TheVariants.Gone, run.{Account.Account, LoggedLine.LoggedLine}}
 use Rattle.shm_graph.specs.{Agents.{acts, acts_by, fallen, last_agent, with_last}, Held.is_loose, Laws.is_died}
-use Rattle.shm_graph.specs.Runs.{account_died, told_left}
+use Rattle.shm_graph.specs.Runs.{account_died, first_account, told_left}
 use Rattle.shm_graph.proofs.Memos.MemoSteps.{last-append}
 use Rattle.shm_count.specs.Roots.{member}
 use Rattle.shm_recover.specs.{Machines.Recovering.recover, Recover.Control.recover_line}
 use Rattle.shm_agents.specs.{Agents.IsFold, Courses.{AreAgents, AreCommandsTold, AreRecoverers}}
-use Rattle.shm_agents.specs.{Logs.{BeganWith, IsLogOf, begun_first}, Turns.lives_of}
+use Rattle.shm_agents.specs.{Logs.{BeganWith, IsLogOf, begun_first}, Taken.HasTaken, Turns.lives_of}
 use Rattle.shm_agents.proofs.{Courses.{agents_more, around, take_more, told_aside}, Deaths.some_life}
 use Rattle.shm_agents.proofs.Growing.{began_more, first_more, log_on, with_last-end}
-use Rattle.shm_pool.specs.{Calls.ClientStepped, Endings.Answer, Rescues.{Rescuing, account_of}, Tokens.{Its, Token}}
+use Rattle.shm_pool.specs.{Calls.ClientStepped, Endings.Answer, Rescues.{Rescuing, account_of}}
+use Rattle.shm_pool.specs.Tokens.{Its, Token, me_of}
 use Rattle.shm_replay.specs.Closings.{SameTable}
 use Rattle.shm_script.specs.{Logged.Logged, Values.Scripted}
 use Rattle.shm_team.specs.{declared.left.Left.TheVariants.{Corpse, Vacant}, Dones.IsFinished, Lefts.token_in}
 use Rattle.shm_team.specs.Visits.{AreAside, HasRun}
 use Rattle.shm_team.proofs.Telling.{aside_told}
 use Rattle.shm_morgue.specs.Dead.{AreDead, IsNext, left_by}
-use Rattle.shm_morgue.proofs.Mending.{Fits, Gives, HasFallen, IsMending, IsWorking, mends_ends, mends_falls, mends_gone, mends_more, recoverer}
+use Rattle.shm_morgue.proofs.Mending.{Fits, Gives, HasFallen, IsMending, IsWorking, mends_ends, mends_falls, mends_gone, mends_more, recoverer, taken_on}
 
 module _ (p : Its) (s : Scripted) (n : ℕ) (l : Logged) (t : Token) (h : AreDead p s n l t) where
   abbrev e : Account
@@ -31,6 +32,9 @@ module _ (p : Its) (s : Scripted) (n : ℕ) (l : Logged) (t : Token) (h : AreDea
 
   abbrev lives : List ℕ
   lives = lives_of s.life
+
+  mine : me_of t.of t.account ≡ me
+  mine = λ i. record { geometry = (h.of i).start.geometry; who = h.who i }
 
   -- nobody comes behind them
   pub dead_finish : take n lives ≡ lives → IsFinished p s l (Corpse t)
@@ -45,6 +49,7 @@ module _ (p : Its) (s : Scripted) (n : ℕ) (l : Logged) (t : Token) (h : AreDea
         fold = h.fold;
         table = h.table;
         gone = λ f. absurd (let z : true ≡ false = f in cc);
+        taken = h.taken;
       }
 
   -- one more agent, its lines and what was told of it
@@ -74,8 +79,8 @@ module _ (p : Its) (s : Scripted) (n : ℕ) (l : Logged) (t : Token) (h : AreDea
 
   module _ (steps : ℕ) (at : slice_get lives n ≡ Some steps) where
     -- the next agent recovered the identity
-    pub next_recovers : (v : Token) → v.of ≡ p → v.account.who ≡ t.account.who → (r : HasRun Recoverer (recover_line ∷ []) Ended e v.account) → r.steps ≤ steps → v.account.memo.status ≡ Gone → IsFinished p s l (Vacant v)
-    next_recovers v of who r few gone =
+    pub next_recovers : (v : Token) → v.of ≡ p → v.account.who ≡ t.account.who → (r : HasRun Recoverer (recover_line ∷ []) Ended e v.account) → r.steps ≤ steps → v.account.memo.status ≡ Gone → HasTaken me s.lines (first_account p.start s.client) v.account → IsFinished p s l (Vacant v)
+    next_recovers v of who r few gone taken =
         let a = recoverer r.steps Ended in
         let f = v.account in
         record {
@@ -89,10 +94,11 @@ module _ (p : Its) (s : Scripted) (n : ℕ) (l : Logged) (t : Token) (h : AreDea
           fold = fold_more f a r.more f.memo.agents r.agents r.begun f.told r.told r.aside r.table;
           table = table_more f a r.more f.memo.agents r.agents r.begun f.told r.told r.aside r.table;
           gone = λ vacant. gone;
+          taken = taken;
         }
 
     -- it died
-    pub next_dies : (v : Token) → v.of ≡ p → v.account.who ≡ t.account.who → HasFallen t.account steps v.account → AreDead p s (n + 1) l v
+    pub next_dies : (v : Token) → v.of ≡ p → v.account.who ≡ t.account.who → HasFallen (me_of t.of t.account) t.account steps v.account → AreDead p s (n + 1) l v
     next_dies v of who r =
         let f = v.account in
         let a = recoverer steps Died in
@@ -112,6 +118,7 @@ module _ (p : Its) (s : Scripted) (n : ℕ) (l : Logged) (t : Token) (h : AreDea
           unspent = h.unspent;
           fold = fold_more f a more (account_died f).memo.agents is r.begun (told_left true f) r.told aside table;
           table = table_more f a more (account_died f).memo.agents is r.begun (told_left true f) r.told aside table;
+          taken = (subst (λ (m : Me). HasFallen m t.account steps f) mine r).taken s (first_account p.start s.client) h.taken;
         }
 
 -- ---- a recovery at its end
@@ -135,36 +142,40 @@ seated e false h = absurd (let z : false ≡ true = h in cc)
 
 module _ (p : Its) (s : Scripted) (n : ℕ) (l : Logged) (t : Token) (h : AreDead p s n l t) (steps : ℕ) (at : slice_get (lives_of s.life) n ≡ Some steps) where
   -- no word step was left
-  pub next_dead : (r : Rescuing) → r.of ≡ p → r.seat.who ≡ t.account.who → r.done ≡ false → (left : ℕ) → left ≡ 0 → IsWorking t.account steps left r → IsNext p s (n + 1) l (left_by r)
+  pub next_dead : (r : Rescuing) → r.of ≡ p → r.seat.who ≡ t.account.who → r.done ≡ false → (left : ℕ) → left ≡ 0 → IsWorking (me_of t.of t.account) t.account steps left r → IsNext p s (n + 1) l (left_by r)
   next_dead r of who undone left none w =
       let some : 0 < steps = some_life s.life h.fits.life n steps at in
       let made = w.made in
       let all : w.n ≡ steps = omega arith in
       let one : 0 < w.n = omega arith in
       let here : account_of r.begun r.seat ≡ r.seat = seated r.seat r.begun (w.begun one) in
-      let fell : HasFallen t.account w.n (account_of r.begun r.seat) = mends_falls t.account h.acts w.n r.machine (account_of r.begun r.seat) w.mending one in
+      let fell : HasFallen (me_of t.of t.account) t.account w.n (account_of r.begun r.seat) = mends_falls t.account h.acts (me_of t.of t.account) w.n r.machine (account_of r.begun r.seat) w.mending one in
       subst (IsNext p s (n + 1) l) (sym (left_is r false undone))
-      (next_dies p s n l t h steps at (token_of r) of who (subst (λ (k : ℕ). HasFallen t.account k r.seat) all (subst (HasFallen t.account w.n) here fell)))
+      (next_dies p s n l t h steps at (token_of r) of who (subst (λ (k : ℕ). HasFallen (me_of t.of t.account) t.account k r.seat) all (subst (HasFallen (me_of t.of t.account) t.account w.n) here fell)))
 
   -- its last step left the identity gone
-  pub next_gone : (r q : Rescuing) → q.of ≡ p → q.seat.who ≡ t.account.who → q.done ≡ true → (left left2 : ℕ) → left2 + 1 ≡ left → IsWorking t.account steps left r
+  pub next_gone : (r q : Rescuing) → q.of ≡ p → q.seat.who ≡ t.account.who → q.done ≡ true → (left left2 : ℕ) → left2 + 1 ≡ left → IsWorking (me_of t.of t.account) t.account steps left r
       → (u : Turn Answer) → ClientStepped recover Fits Gives r.machine (account_of r.begun r.seat) q.seat u q.machine → u ≡ Done (Ok tt) → IsNext p s (n + 1) l (left_by q)
   next_gone r q of who done left left2 less w u x is =
-      let (run, many) = mends_ends t.account h.acts w.n r.machine (account_of r.begun r.seat) w.mending q.seat u q.machine x is in
+      let its : Me = me_of t.of t.account in
+      let (run, many) = mends_ends t.account h.acts its w.n r.machine (account_of r.begun r.seat) w.mending q.seat u q.machine x is in
       let made = w.made in
       let few : run.steps ≤ steps = omega arith in
       subst (IsNext p s (n + 1) l) (sym (left_is q true done))
-      (next_recovers p s n l t h steps at (token_of q) of who run few (mends_gone t.account h.acts w.n r.machine (account_of r.begun r.seat) w.mending q.seat u q.machine x is))
+      (next_recovers p s n l t h steps at (token_of q) of who run few (mends_gone t.account h.acts its w.n r.machine (account_of r.begun r.seat) w.mending q.seat u q.machine x is)
+      (subst (λ (m : Me). HasTaken m s.lines (first_account p.start s.client) q.seat) (mine p s n l t h)
+      (taken_on t.account h.acts its w.n r.machine (account_of r.begun r.seat) w.mending q.seat u q.machine x s (first_account p.start s.client)
+      (subst (λ (m : Me). HasTaken m s.lines (first_account p.start s.client) (account_died t.account)) (sym (mine p s n l t h)) h.taken))))
 
 -- after one more step it goes on
-pub works_on : (e : Account) (steps left left2 : ℕ) (r q : Rescuing) → acts e.memo ≡ true → left2 + 1 ≡ left → q.begun ≡ true → IsWorking e steps left r
-    → (u : Turn Answer) → ClientStepped recover Fits Gives r.machine (account_of r.begun r.seat) q.seat u q.machine → u ≡ More → IsWorking e steps left2 q
-works_on e steps left left2 r q on less begun w u x is =
+pub works_on : (me : Me) (e : Account) (steps left left2 : ℕ) (r q : Rescuing) → acts e.memo ≡ true → left2 + 1 ≡ left → q.begun ≡ true → IsWorking me e steps left r
+    → (u : Turn Answer) → ClientStepped recover Fits Gives r.machine (account_of r.begun r.seat) q.seat u q.machine → u ≡ More → IsWorking me e steps left2 q
+works_on me e steps left left2 r q on less begun w u x is =
     let made = w.made in
     record {
       n = w.n + 1;
       made = omega arith;
-      mending = subst (IsMending e (w.n + 1) q.machine) (sym (seated q.seat q.begun begun)) (mends_more e on w.n r.machine (account_of r.begun r.seat) w.mending q.seat u q.machine x is);
+      mending = subst (IsMending me e (w.n + 1) q.machine) (sym (seated q.seat q.begun begun)) (mends_more e on me w.n r.machine (account_of r.begun r.seat) w.mending q.seat u q.machine x is);
       begun = λ one. begun;
     }
 

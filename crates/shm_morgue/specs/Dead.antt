@@ -1,9 +1,10 @@
 -- the dead of a script, and what is left where they are recovered
 use Rattle.std.specs.Prelude.{◌≡◌, ◌≢◌, ℕ, ◌⊎◌, if◌then◌else◌, Some, false, true, take, slice_index}
-use Rattle.shm_graph.specs.{declared.run.Account.Account, Agents.acts, Held.is_loose, Runs.{account_died, told_left}}
+use Rattle.shm_graph.specs.{declared.run.Account.Account, Agents.acts, Held.is_loose}
+use Rattle.shm_graph.specs.Runs.{account_died, first_account, told_left}
 use Rattle.shm_count.specs.Roots.{member}
 use Rattle.shm_agents.specs.{declared.agents.Standing.TheVariants.AtWork, Agents.{IsFallen, IsFold, IsSettled, Playing}}
-use Rattle.shm_agents.specs.{Courses.{AreAgents, AreCommandsTold}, Logs.{AreUnspent, IsLogOf}}
+use Rattle.shm_agents.specs.{Courses.{AreAgents, AreCommandsTold}, Logs.{AreUnspent, IsLogOf}, Taken.HasTaken}
 use Rattle.shm_agents.specs.Turns.{lives_of, script_in}
 use Rattle.shm_pool.specs.{Rescues.Rescuing, Tokens.{Its, Token}}
 use Rattle.shm_script.specs.{Logged.Logged, Ranges.ScriptFits, Values.{Scripted, Traced}}
@@ -13,7 +14,7 @@ use Rattle.shm_team.specs.{declared.left.Left.{Left, TheVariants.{Vacant, Corpse
 abbrev pub HasParted : Scripted → Playing → Account → Type 0
 HasParted s x e = (x.standing ≢ AtWork) ⊎ ((x.agent ≡ 1) × IsFallen s x e × IsSettled s x e (told_left true e))
 
--- The first n agents of the script s died in the pool p, each after the word steps of its life, and the token is the corpse of the last one. The log is that of the script's client, by what is told of the identity; no other command was told, and none was refused for a spent era; and the identity's map is the fold of the log
+-- The first n agents of the script s died in the pool p, each after the word steps of its life, and the token is the corpse of the last one. The log is that of the script's client, by what is told of the identity; no other command was told, and none was refused for a spent era; the identity's map is the fold of the log; and all its turns, the death of the last one too, are those of the script's agents
 pub record AreDead (p : Its) (s : Scripted) (n : ℕ) (l : Logged) (t : Token) : Type 0 where
   pub fits : ScriptFits p.start.geometry.clients s
   pub of : t.of ≡ p
@@ -25,6 +26,7 @@ pub record AreDead (p : Its) (s : Scripted) (n : ℕ) (l : Logged) (t : Token) :
   pub unspent : AreUnspent l.entries
   pub fold : IsFold l.entries t.account.memo
   pub table : is_loose t.account.memo.part ≡ false
+  pub taken : HasTaken (member p.start.geometry s.client) s.lines (first_account p.start s.client) (account_died t.account)
 
 -- the next agent of the script, behind n others, has nothing left to do; or it died too
 abbrev pub IsNext : Its → Scripted → ℕ → Logged → Left → Type 0

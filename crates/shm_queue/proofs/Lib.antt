@@ -1,3 +1,4 @@
 pub mod Causes
 pub mod RefusedTakes
 pub mod Queues
+pub mod Steady

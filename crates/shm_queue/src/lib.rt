@@ -13,6 +13,7 @@ pub mod peek;
 pub mod receive;
 pub mod refusals;
 pub mod send;
+pub mod stays;
 pub mod take;
 
 pub use answer::{PeekFault, SendFault, TakeFault};
@@ -23,4 +24,5 @@ pub use peek::Peek;
 pub use receive::Receive;
 pub use refusals::{drain_refusals, peek_refusals, receive_refusals, send_refusals, take_refusals};
 pub use send::Send;
+pub use stays::drain_stays;
 pub use take::Take;

@@ -2,6 +2,7 @@
 
 ghost use Rattle.std.specs.Prelude.{◌≡◌, ◌<◌};
 ghost use Rattle.shm_words.specs.Layout.{GeometryFits};
+ghost use Rattle.shm_graph.specs.Mapped.{told_turn};
 ghost use Rattle.plans.specs.Deciding.{either};
 ghost use Rattle.shm_script.specs.Text.{line_spelled};
 ghost use Rattle.shm_table.specs.Command.{CommandFits, CommandGives, LineMayStand, command_control, command_does, command_effect, command_of};
@@ -21,7 +22,7 @@ use crate::put::Put;
 use crate::recv::RecvKey;
 use crate::send_key::SendKey;
 use plans::{Begin, Or};
-use shm_graph::{Ask, Machine, Me, Operation, Site, Turn};
+use shm_graph::{Ask, Life, Machine, Me, Operation, Site, Turn};
 use shm_script::{Answer, Line};
 use std::marker::Model;
 
@@ -69,6 +70,20 @@ fn given(answer: Or<Or<Answer, Answer>, Or<Or<Answer, Answer>, Or<Answer, Answer
         Or::First(answer) => either(answer),
         Or::Second(Or::First(answer)) => either(answer),
         Or::Second(Or::Second(answer)) => either(answer),
+    }
+}
+
+/// What many word steps of the one of them tell.
+#[inline(always)]
+fn told(
+    turn: Turn<Or<Or<Answer, Answer>, Or<Or<Answer, Answer>, Or<Answer, Answer>>>>,
+) -> Turn<Answer>
+    ensures { result ≡ told_turn control.given turn }
+{
+    match turn {
+        Turn::Done(answer) => Turn::Done(given(answer)),
+        Turn::More => Turn::More,
+        Turn::Died => Turn::Died,
     }
 }
 
@@ -159,6 +174,11 @@ impl Machine for Command {
             Turn::More => Turn::More,
             Turn::Died => Turn::Died,
         }
+    }
+
+    #[inline(always)]
+    fn run<S: Site>(&mut self, site: &S, words: &mut S::Words, life: &mut Life) -> Turn<Answer> {
+        told(self.one.run(site, words, life))
     }
 
     ghost laws = { command_laws (put_laws (put_root_laws open_laws locate_laws replace_laws enter_laws)) (copy_laws fetch_laws (put_root_laws open_laws locate_laws replace_laws enter_laws)) del_laws get_laws send_key_laws (recv_laws fetch_head_laws take_head_laws (put_root_laws open_laws locate_laws replace_laws enter_laws)) };

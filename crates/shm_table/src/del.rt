@@ -16,7 +16,7 @@ use crate::unlatch::Unlatch;
 use crate::unlink::Unlink;
 use plans::{Calls, Or, Plan, Task};
 use shm_count::UpFault;
-use shm_graph::{Ask, Machine, Me, Site, Turn};
+use shm_graph::{Ask, Life, Machine, Me, Site, Turn};
 use shm_script::Answer;
 use shm_words::ADDRESS_LIMIT;
 use std::marker::Model;
@@ -139,6 +139,11 @@ impl Machine for Del {
     #[inline(always)]
     fn act<S: Site>(&mut self, site: &S, words: &mut S::Words) -> Turn<Answer> {
         self.calls.act(site, words)
+    }
+
+    #[inline(always)]
+    fn run<S: Site>(&mut self, site: &S, words: &mut S::Words, life: &mut Life) -> Turn<Answer> {
+        self.calls.run(site, words, life)
     }
 
     ghost laws = { calls_laws del_parts del_plan del_laws };

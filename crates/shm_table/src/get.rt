@@ -12,7 +12,7 @@ use crate::find::Found;
 use crate::locate::Locate;
 use crate::unlatch::Unlatch;
 use plans::{Calls, Or, Plan, Task, Word};
-use shm_graph::{Ask, Machine, Me, Site, Turn};
+use shm_graph::{Ask, Life, Machine, Me, Site, Turn};
 use shm_script::Answer;
 use shm_words::ADDRESS_LIMIT;
 use std::marker::Model;
@@ -131,6 +131,11 @@ impl Machine for Get {
     #[inline(always)]
     fn act<S: Site>(&mut self, site: &S, words: &mut S::Words) -> Turn<Answer> {
         self.calls.act(site, words)
+    }
+
+    #[inline(always)]
+    fn run<S: Site>(&mut self, site: &S, words: &mut S::Words, life: &mut Life) -> Turn<Answer> {
+        self.calls.run(site, words, life)
     }
 
     ghost laws = { calls_laws get_parts get_plan get_laws };

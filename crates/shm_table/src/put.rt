@@ -16,7 +16,7 @@ use crate::put_root::{PutRoot, settled};
 use plans::{Calls, Or, Plan, Task};
 use shm_alloc::{Alloc, AllocFault, Near, Request};
 use shm_count::{EraSpent, Made};
-use shm_graph::{Ask, Machine, Me, Site, Turn};
+use shm_graph::{Ask, Life, Machine, Me, Site, Turn};
 use shm_ref::DropRoot;
 use shm_script::Answer;
 use shm_words::ADDRESS_LIMIT;
@@ -157,6 +157,11 @@ impl Machine for Put {
     #[inline(always)]
     fn act<S: Site>(&mut self, site: &S, words: &mut S::Words) -> Turn<Answer> {
         self.calls.act(site, words)
+    }
+
+    #[inline(always)]
+    fn run<S: Site>(&mut self, site: &S, words: &mut S::Words, life: &mut Life) -> Turn<Answer> {
+        self.calls.run(site, words, life)
     }
 
     ghost laws = { calls_laws put_parts put_plan (put_laws (put_root_laws open_laws locate_laws replace_laws enter_laws)) };

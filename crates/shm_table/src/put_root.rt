@@ -19,7 +19,7 @@ use crate::replace::Replace;
 use crate::unlatch::Unlatch;
 use plans::{Calls, Or, Plan};
 use shm_count::EraSpent;
-use shm_graph::{Ask, Machine, Me, Site, Turn};
+use shm_graph::{Ask, Life, Machine, Me, Site, Turn};
 use shm_ref::DropRoot;
 use shm_words::ADDRESS_LIMIT;
 use std::marker::Model;
@@ -149,6 +149,16 @@ impl Machine for PutRoot {
     #[inline(always)]
     fn act<S: Site>(&mut self, site: &S, words: &mut S::Words) -> Turn<Result<bool, PutFault>> {
         self.calls.act(site, words)
+    }
+
+    #[inline(always)]
+    fn run<S: Site>(
+        &mut self,
+        site: &S,
+        words: &mut S::Words,
+        life: &mut Life,
+    ) -> Turn<Result<bool, PutFault>> {
+        self.calls.run(site, words, life)
     }
 
     ghost laws = { calls_laws put_root_parts put_root_plan (put_root_laws open_laws locate_laws replace_laws enter_laws) };

@@ -20,7 +20,7 @@ use crate::put_root::{PutRoot, settled};
 use crate::take_head::TakeHead;
 use plans::{Calls, Or, Plan, Task};
 use shm_count::EraSpent;
-use shm_graph::{Ask, Machine, Me, Site, Turn};
+use shm_graph::{Ask, Life, Machine, Me, Site, Turn};
 use shm_ref::DropRoot;
 use shm_script::Answer;
 use shm_words::ADDRESS_LIMIT;
@@ -168,6 +168,11 @@ impl Machine for RecvKey {
     #[inline(always)]
     fn act<S: Site>(&mut self, site: &S, words: &mut S::Words) -> Turn<Answer> {
         self.calls.act(site, words)
+    }
+
+    #[inline(always)]
+    fn run<S: Site>(&mut self, site: &S, words: &mut S::Words, life: &mut Life) -> Turn<Answer> {
+        self.calls.run(site, words, life)
     }
 
     ghost laws = { calls_laws recv_parts recv_plan (recv_laws fetch_head_laws take_head_laws (put_root_laws open_laws locate_laws replace_laws enter_laws)) };

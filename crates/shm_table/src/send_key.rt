@@ -13,7 +13,7 @@ use crate::find::Found;
 use crate::locate::Locate;
 use crate::unlatch::Unlatch;
 use plans::{Calls, Or, Plan, Task, Word};
-use shm_graph::{Ask, Machine, Me, Site, Turn};
+use shm_graph::{Ask, Life, Machine, Me, Site, Turn};
 use shm_queue::{Send, SendFault};
 use shm_script::Answer;
 use shm_words::ADDRESS_LIMIT;
@@ -144,6 +144,11 @@ impl Machine for SendKey {
     #[inline(always)]
     fn act<S: Site>(&mut self, site: &S, words: &mut S::Words) -> Turn<Answer> {
         self.calls.act(site, words)
+    }
+
+    #[inline(always)]
+    fn run<S: Site>(&mut self, site: &S, words: &mut S::Words, life: &mut Life) -> Turn<Answer> {
+        self.calls.run(site, words, life)
     }
 
     ghost laws = { calls_laws send_key_parts send_key_plan send_key_laws };

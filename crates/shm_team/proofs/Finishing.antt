@@ -2,12 +2,13 @@
 use Rattle.std.proofs.Common.{◌≡◌, ◌≢◌, Bool, true, false, List, [], inl, inr, refl, sym, ap, ◌∙◌, subst}
 use Rattle.std.specs.Prelude.{slice_index}
 use Rattle.shm_graph.specs.{declared.{ask.Me.Me, run.Account.Account}, Agents.{acts, last_agent}, Held.is_loose}
-use Rattle.shm_graph.specs.Runs.{fell_by, told_left}
+use Rattle.shm_graph.specs.Runs.{fell_by, first_account, told_left}
 use Rattle.shm_count.specs.Roots.{member}
 use Rattle.shm_script.specs.{Logged.Logged, declared.log.Entry.Entry, Values.Scripted}
 use Rattle.shm_agents.specs.declared.agents.Standing.{Standing, TheVariants.{AtWork, Dead, Gone}}
 use Rattle.shm_agents.specs.Agents.{IsFold, Playing, AgentsStand, is_standing_dead, logged}
-use Rattle.shm_agents.specs.{Courses.{AreCommandsTold, AreScriptAgents}, Logs.{AreUnspent, IsLogOf}, Turns.lives_of}
+use Rattle.shm_agents.specs.{Courses.{AreCommandsTold, AreScriptAgents}, Logs.{AreUnspent, IsLogOf}, Taken.HasTaken}
+use Rattle.shm_agents.specs.Turns.{lives_of}
 use Rattle.shm_agents.proofs.Over.{IsOver, is_over, over_fell, over_fold, over_gone, over_log, over_table, over_unspent}
 use Rattle.shm_agents.proofs.Rested.{stands_agents, stands_told}
 use Rattle.shm_pool.specs.{Posts.IsPosted, Tokens.{IsOut, Token}}
@@ -86,4 +87,5 @@ module _ (s : Scripted) (x : Playing) (t : Token) (posted : IsPosted t x.me.who)
           fold = subst (λ (a : Account). IsFold l.entries a.memo) (sym account) (subst (λ (es : List Entry). IsFold es e.memo) (sym entries) (over_fold s x e over));
           table = ap (λ (a : Account). is_loose a.memo.part) account ∙ over_table s x e over;
           gone = λ vacant. ap (λ (a : Account). a.memo.status) account ∙ (over_gone s x e over (not_dead x.standing (sym dead ∙ vacant))).0;
+          taken = subst (λ (a : Account). HasTaken me s.lines (first_account t.of.start s.client) a) (sym account) (subst (λ (m : Me). HasTaken m s.lines (first_account t.of.start m.who) e) (is_me t s x h) h.taken);
         }

@@ -1,4 +1,6 @@
 pub mod Calling
+pub mod Staying
+pub mod Recoverers
 pub mod Visiting
 pub mod Resting
 pub mod Finishing

@@ -1,24 +1,33 @@
 -- what the agents of a visit leave
 use Rattle.std.proofs.Common.{◌≡◌, ℕ, Bool, true, false, cond, List, [], ◌∷◌, ◌++◌, append-nil, append_assoc, refl, sym, ap, ◌∙◌, subst, inl, inr}
-use Rattle.std.specs.Prelude.{Ok, slice_index}
+use Rattle.std.specs.Prelude.{◌<◌, Ok, slice_index}
+use Rattle.shm_words.specs.Layout.{GeometryFits}
 use Rattle.shm_graph.specs.declared.{ask.Me.Me, memo.{Agent.Agent, Fate.{Fate, TheVariants.{Acts, Ended}}, Kind.Kind}}
 use Rattle.shm_graph.specs.declared.memo.{Kind.TheVariants.{Client, Recoverer}, Memo.Memo, Seen.Seen, Status.Status}
 use Rattle.shm_graph.specs.declared.{memo.Status.TheVariants.Gone, run.{Account.Account, LoggedLine.LoggedLine}}
-use Rattle.shm_graph.specs.{declared.spot.Spot.TheVariants.Hold, Agents.is_gone, Asks.Trail, Events.Event}
-use Rattle.shm_graph.specs.{Held.is_loose, Runs.{account_entered, begun_by, told_by, told_left}}
-use Rattle.plans.specs.CallsControl.{calls_control, calls_of}
-use Rattle.shm_queue.specs.Drain.{Control.{drain_line, drain_parts, draining, drain_steered}, DrainLeaves, drain_plan}
-use Rattle.shm_recover.specs.{Join.join_line, Leave.{Control.leave_line, MayLeave}, Recover.Control.recover_line}
+use Rattle.shm_graph.specs.{declared.spot.Spot.TheVariants.Hold, Agents.{is_gone, recovers}, Asks.Trail, Events.Event}
+use Rattle.shm_graph.specs.{Held.is_loose, Runs.{account_entered, begun_by, told_by, told_left}, Whole.gives_now}
+use Rattle.plans.specs.{CallsControl.{calls_control, calls_of, calls_does}, CallsFit.{CallsFits, CallsGives}}
+use Rattle.plans.specs.Proved.CallsKeep.{calls_begin, calls_laws}
+use Rattle.shm_queue.specs.Drain.Control.{drain_line, drain_parts, draining, drain_steered}
+use Rattle.shm_queue.specs.{Drain.{DrainLeaves, MayDrain, drain_plan}, Proved.Drain.Laws.drain_laws}
+use Rattle.shm_queue.specs.Proved.Take.Laws.{take_laws}
+use Rattle.shm_queue.proofs.Steady.{drain_steady}
+use Rattle.shm_recover.specs.{Join.join_line, Machines.{leave, Recovering.recover}}
+use Rattle.shm_recover.specs.Leave.{Control.{leave_line, leave_parts, leaving, leave_steered}, MayLeave, leave_plan}
+use Rattle.shm_recover.specs.Proved.{Leave.Laws.{leave_begin, leave_laws}, Recover.Laws.recover_begin}
+use Rattle.shm_recover.specs.Recover.{Control.{recover_line, recover_parts, recovering, recover_steered}, recover_plan}
+use Rattle.shm_recover.proofs.Steady.{leave_steady, recover_steady}
 use Rattle.kind_parts.specs.Reparting.{map_in}
 use Rattle.shm_agents.specs.Courses.{IsAside}
-use Rattle.shm_agents.proofs.Growing.{begun_end}
+use Rattle.shm_agents.proofs.{Growing.begun_end, WorkLaws.recoveries}
 use Rattle.shm_pool.specs.{declared.reply.Reply.TheVariants.Done, Called.HasCalled}
-use Rattle.shm_pool.specs.{Calls.{CallSteps, IsBetween, Shown, TellsLine, shown}, Endings.ClientMayLeave}
-use Rattle.shm_pool.specs.Tokens.{Acting, me_of}
+use Rattle.shm_pool.specs.Calls.{CallSteps, IsBetween, Shown, TellsLine, shown}
+use Rattle.shm_pool.specs.{Endings.{ClientMayLeave, EndIsTold, HasLeft}, Tokens.{Acting, Its, Token, me_of}}
 use Rattle.shm_replay.specs.Closings.{SameTable}
 use Rattle.shm_replay.proofs.Visited.{table_then}
-use Rattle.shm_team.specs.Visits.{AreAside, HasRun, IsVisited}
-use Rattle.shm_team.proofs.Calling.{call_agents}
+use Rattle.shm_team.specs.Visits.{AreAside, HasRun, HasStayed, IsVisited}
+use Rattle.shm_team.proofs.{Calling.call_agents, Staying.{AreSame, same_steps, stayed_call, stayed_then}}
 
 -- ---- memos
 
@@ -125,13 +134,55 @@ module _ (t t' : Acting) (before left n : ℕ) (h : HasCalled drain_parts drain_
         h.done.told.over,
       )
 
+  drain_table : SameTable t.account.memo t'.account.memo
+  drain_table = same_part t.account.memo t'.account.memo (ap (λ (x : Memo). x.part) left_so.1.drained.rest)
+
+  -- each of its steps leaves the map as it was
+  drain_same : (here : t.dead ≡ false) → ClientMayLeave t.of t.account → AreSame t.account.memo t.account ((h.done.call here).steps ++ (h.done.call here).last)
+  drain_same here may =
+      let me : Me = me_of t.of t.account in
+      let k = calls_control drain_parts drain_steered in
+      let m = calls_of drain_steered (draining me) in
+      let c = h.done.call here in
+      let may_drain : MayDrain me t.account.memo = record { geometry = may.0.may.geometry; who = may.0.may.who; here = may.0.may.here; idle = may.0.may.idle; none = may.0.takes } in
+      let fits = calls_begin drain_parts drain_plan (drain_laws take_laws) (draining me) t.account.memo refl refl (may_drain, refl, refl, refl, refl) in
+      same_steps k (CallsFits drain_parts drain_plan) (CallsGives drain_parts drain_plan) (calls_laws drain_parts drain_plan (drain_laws take_laws)) drain_steady t.account.memo (shown k m) true m t.account c.steps c.last refl may.0.may.who refl fits c.going c.ends (h.done.events here).steps (h.done.events here).made
+      (subst (λ (z : Account). SameTable t.account.memo z.memo) c.account drain_table)
+
+  pub drain_stayed : t.dead ≡ false → ClientMayLeave t.of t.account → HasStayed t.account t'.account
+  drain_stayed here may = stayed_call (shown (calls_control drain_parts drain_steered) (calls_of drain_steered (draining (me_of t.of t.account)))) t.account t'.account true before left (h.done.call here) (drain_same here may)
+
   -- the agent of t ran it, behind these lines
   pub drain_ran : t.dead ≡ false → IsBetween t.account → (e : Account) (lines : List (List ℕ)) → HasRun Client lines Acts e t.account → HasRun Client (lines ++ drain_line ∷ []) Acts e t'.account
   drain_ran here between e lines ran =
-      let rest = left_so.1.drained.rest in
       run_more Client lines (shown (calls_control drain_parts drain_steered) (calls_of drain_steered (draining (me_of t.of t.account)))) e t.account t'.account _ _ Acts (inr (inr (inl refl))) ran (h.done.call here) h.done.told
-      (acts_still t'.account.memo.status (ap (λ (x : Memo). is_gone x.status) rest ∙ ap is_gone between.idle.live))
-      (same_part t.account.memo t'.account.memo (ap (λ (x : Memo). x.part) rest))
+      (acts_still t'.account.memo.status (ap (λ (x : Memo). is_gone x.status) left_so.1.drained.rest ∙ ap is_gone between.idle.live))
+      drain_table
+
+-- ---- a leaving, and a recovery
+
+-- each step of them leaves the map as it was
+pub leave_stayed : (p : Its) (e : Account) (u : Token) (before left : ℕ) → ClientMayLeave p e → HasLeft p e before left u → SameTable e.memo u.account.memo → HasStayed e u.account
+leave_stayed p e u before left may x same =
+    let me : Me = me_of p e in
+    let m = calls_of leave_steered (leaving me) in
+    let c = x.answered.call in
+    let fits = calls_begin leave_parts leave_plan leave_laws (leaving me) e.memo refl refl (leave_begin me e.memo may.0) in
+    stayed_call (shown leave m) e u.account true before left c
+    (same_steps leave (CallsFits leave_parts leave_plan) (CallsGives leave_parts leave_plan) (calls_laws leave_parts leave_plan leave_laws) leave_steady e.memo (shown leave m) true m e c.steps c.last refl may.0.may.who refl fits c.going c.ends x.answered.driven.steps x.answered.driven.made
+    (subst (λ (z : Account). SameTable e.memo z.memo) c.account same))
+
+pub recover_stayed : (e : Account) (u : Token) (p : Its) (before left : ℕ) → GeometryFits p.start.geometry → e.who < p.start.geometry.clients → recovers e.memo ≡ true
+    → EndIsTold recover (CallsFits recover_parts recover_plan) (gives_now (CallsGives recover_parts recover_plan)) (calls_does recover_parts recover_plan) (calls_of recover_steered (recovering (me_of p e))) p e before left u
+    → SameTable e.memo u.account.memo → HasStayed e u.account
+recover_stayed e u p before left sizes who recoverer x same =
+    let me : Me = me_of p e in
+    let m = calls_of recover_steered (recovering me) in
+    let c = x.answered.call in
+    let fits = calls_begin recover_parts recover_plan recoveries (recovering me) e.memo refl refl (recover_begin me e.memo (record { geometry = sizes; who = who; recoverer = recoverer })) in
+    stayed_call (shown recover m) e u.account true before left c
+    (same_steps recover (CallsFits recover_parts recover_plan) (CallsGives recover_parts recover_plan) (calls_laws recover_parts recover_plan recoveries) recover_steady e.memo (shown recover m) true m e c.steps c.last refl who refl fits c.going c.ends x.answered.driven.steps x.answered.driven.made
+    (subst (λ (z : Account). SameTable e.memo z.memo) c.account same))
 
 -- ---- the visit
 
@@ -139,8 +190,8 @@ abbrev client_lines : List (List ℕ)
 client_lines = join_line ∷ drain_line ∷ leave_line ∷ []
 
 -- of an identity that no agent's death left
-pub visited_vacant : (e f : Account) → e.running ≡ [] → HasRun Client client_lines Ended e f → f.who ≡ e.who → f.memo.status ≡ Gone → IsVisited false e f
-visited_vacant e f rests h who gone =
+pub visited_vacant : (e f : Account) → e.running ≡ [] → HasRun Client client_lines Ended e f → HasStayed e f → f.who ≡ e.who → f.memo.status ≡ Gone → IsVisited false e f
+visited_vacant e f rests h stayed who gone =
     record {
       who = who;
       others = record { kind = Client; steps = h.steps; fate = Ended } ∷ [];
@@ -153,11 +204,12 @@ visited_vacant e f rests h who gone =
       aside = h.aside;
       gone = gone;
       table = h.table;
+      stayed = stayed;
     }
 
 -- and of one whose last agent died
-pub visited_corpse : (e m f : Account) → HasRun Recoverer (recover_line ∷ []) Ended e m → HasRun Client client_lines Ended m f → m.who ≡ e.who → f.who ≡ m.who → f.memo.status ≡ Gone → IsVisited true e f
-visited_corpse e m f r h whom who gone =
+pub visited_corpse : (e m f : Account) → HasRun Recoverer (recover_line ∷ []) Ended e m → HasRun Client client_lines Ended m f → HasStayed e m → HasStayed m f → m.who ≡ e.who → f.who ≡ m.who → f.memo.status ≡ Gone → IsVisited true e f
+visited_corpse e m f r h first then whom who gone =
     let a : Agent = record { kind = Recoverer; steps = r.steps; fate = Ended } in
     let b : Agent = record { kind = Client; steps = h.steps; fate = Ended } in
     record {
@@ -172,4 +224,5 @@ visited_corpse e m f r h whom who gone =
       aside = aside_both r.more h.more r.aside h.aside;
       gone = gone;
       table = table_then e.memo m.memo f.memo r.table h.table;
+      stayed = stayed_then e m f first then;
     }

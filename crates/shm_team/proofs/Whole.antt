@@ -1,10 +1,10 @@
 -- a pool of whose identities all is done, once it is settled, is a run of the trace
-use Rattle.std.proofs.Common.{◌≡◌, ℕ, ◌%◌, ◌<◌, false, List, [], refl, sym, ap, ◌∙◌, subst}
+use Rattle.std.proofs.Common.{◌≡◌, ℕ, ◌%◌, ◌<◌, Bool, false, List, [], refl, sym, ap, ◌∙◌, subst}
 use Rattle.std.specs.{Prelude.{Option, Some, None, slice_get, slice_index, slice_index_or}, Ordering.nat_cmp}
 use Rattle.std.specs.FinMap as finmap
 use Rattle.shm_graph.specs.declared.{ask.Me.Me, memo.Agent.Agent, run.{Account.Account, LoggedLine.LoggedLine}}
-use Rattle.shm_graph.specs.{declared.run.Start.Start, Held.is_loose, Runs.{account_at, first_account, told_left}}
-use Rattle.shm_graph.specs.Tables.{find}
+use Rattle.shm_graph.specs.{declared.run.Start.Start, Agents.last_agent, Held.is_loose}
+use Rattle.shm_graph.specs.{Runs.{account_at, fell_by, first_account, told_left}, Tables.find}
 use Rattle.shm_graph.proofs.States.FirstHeld.{same_everywhere}
 use Rattle.shm_count.specs.Roots.{member}
 use Rattle.kind_parts.specs.Reparting.{chain_in, map_in}
@@ -15,11 +15,12 @@ use Rattle.shm_pool.specs.Tokens as shared
 use Rattle.shm_script.specs.{Logged.Logged, Ranges.AreApart, Values.{Scripted, Traced}}
 use Rattle.shm_agents.specs.{Logs.{AreUnspent, BeganWith, IsLog, IsLogOf, begun_first}, Turns.{lives_of, script_in}}
 use Rattle.shm_agents.specs.Courses.{AreCommandsTold}
-use Rattle.shm_agents.proofs.{Courses.told_aside, Growing.{began_more, first_more, log_on}}
+use Rattle.shm_agents.proofs.{Courses.{agents_fell, told_aside}, Growing.{began_more, first_more, log_on}}
 use Rattle.shm_replay.specs.Replays.{fold_in, start_of}
 use Rattle.shm_replay.proofs.{Starting.script_client, WholeRun.{script_at, table_by}}
 use Rattle.shm_team.specs.{declared.left.Left.Left, Dones.{IsDoneBy, logs_in}, Lefts.{account_in, is_corpse}}
-use Rattle.shm_team.specs.{Rans.{HasAgents, IsTeamRun, MayHaveBegun, entries_in}, Visits.IsVisited}
+use Rattle.shm_team.specs.Rans.{HasAgents, HasTurns, IsTeamRun, MayHaveBegun, MayHaveTaken, entries_in}
+use Rattle.shm_team.specs.Visits.{IsVisited}
 use Rattle.shm_team.proofs.Telling.{aside_told, entries_none, entries_some, fold_none, fold_some, logs_all, logs_are}
 
 -- the closed pool with the turns of its run
@@ -91,6 +92,16 @@ module _ (t : Traced) (few : (k : ℕ) (s : Scripted) → slice_get t.scripts k 
     own_agents None h = (ap (λ (x : Account). x.memo.agents) (ap account_in h.1), ap (λ (x : Account). x.begun) (ap account_in h.1), ap is_corpse h.1)
     own_agents (Some s) h = h.2.agents
 
+    -- its turns, and whether the last one had died
+    own_taken : (s : Option Scripted) → script_in t.scripts c ≡ s → Done s → MayHaveTaken s p.start c a
+    own_taken None is h = ap account_in h.1 ∙ ap (λ (z : Start). first_account z c) of
+    own_taken (Some s) is h =
+        subst (λ (d : ℕ). MayHaveTaken (Some s) p.start d a) (script_client t.scripts c s is) (subst (λ (z : Start). MayHaveTaken (Some s) z s.client a) of h.2.taken)
+
+    own_dead : (s : Option Scripted) → Done s → is_corpse k ≡ fell_by (last_agent a.memo.agents)
+    own_dead None h = ap is_corpse h.1 ∙ sym (ap (λ (x : Account). fell_by (last_agent x.memo.agents)) (ap account_in h.1))
+    own_dead (Some s) h = sym (agents_fell s.lines (lives_of s.life) a.memo.agents a.begun (is_corpse k) h.2.agents)
+
     own_told : (s : Option Scripted) → script_in t.scripts c ≡ s → Done s → AreCommandsTold (its c) (told_left (is_corpse k) a) (entries_in ls c)
     own_told None is h =
         subst (λ (z : Left). AreCommandsTold (its c) (told_left (is_corpse z) (account_in z)) (entries_in ls c)) (sym h.1) (entries_none t.scripts os c have is)
@@ -115,6 +126,17 @@ module _ (t : Traced) (few : (k : ℕ) (s : Scripted) → slice_get t.scripts k 
         closers = v.closers;
       }
 
+  turns : (c : ℕ) → c < t.clients → HasTurns (script_in t.scripts c) p.start c (account_at p.accounts c)
+  turns c l =
+      let w = each c l in
+      let v = w.visited in
+      record {
+        left = account_in w.left;
+        own = own_taken c w.left (script_in t.scripts c) refl w.done;
+        begun = subst (MayHaveBegun (script_in t.scripts c) (account_in w.left).memo.agents (account_in w.left).begun) (own_dead c w.left (script_in t.scripts c) w.done) (own_agents c w.left (script_in t.scripts c) w.done);
+        visited = subst (λ (b : Bool). IsVisited b (account_in w.left) (account_at p.accounts c)) (own_dead c w.left (script_in t.scripts c) w.done) v;
+      }
+
   told : (c : ℕ) → c < t.clients → AreCommandsTold (its c) (account_at p.accounts c).told (entries_in ls c)
   told c l =
       let w = each c l in
@@ -131,6 +153,7 @@ module _ (t : Traced) (few : (k : ℕ) (s : Scripted) → slice_get t.scripts k 
         logs = logs_are p t.scripts os (λ k s e. let (x, at, who, log, room) = log_at k s e in (x, at, log));
         unspent = logs_all (λ (l : Logged). AreUnspent l.entries) t.scripts os (λ k s e. let (x, at, who, log, room) = log_at k s e in (x, at, room));
         agents = agents;
+        turns = turns;
         told = told;
         table = λ c. chain_in (memo_of p c).part;
         is = λ c l.

@@ -1,15 +1,15 @@
 -- what is done of the identities of a trace, whoever did it
 use Rattle.std.specs.Prelude.{◌≡◌, ℕ, suc, false, Option, Some, None, List, [], ◌∷◌, ◌++◌, slice_index, slice_index_or}
-use Rattle.shm_graph.specs.{declared.memo.Status.TheVariants.Gone, Held.is_loose, Runs.told_left}
+use Rattle.shm_graph.specs.{declared.memo.Status.TheVariants.Gone, Held.is_loose, Runs.{first_account, told_left}}
 use Rattle.shm_count.specs.Roots.{member}
 use Rattle.shm_agents.specs.{Agents.IsFold, Courses.{AreCommandsTold, AreScriptAgents}, Logs.{AreUnspent, IsLogOf}}
-use Rattle.shm_agents.specs.Turns.{lives_of, script_in}
+use Rattle.shm_agents.specs.{Taken.HasTaken, Turns.{lives_of, script_in}}
 use Rattle.shm_pool.specs.Tokens.{Its, token_first}
 use Rattle.shm_script.specs.{Logged.Logged, Values.{Scripted, Traced}}
 use Rattle.shm_team.specs.declared.{done.Done.Done, left.Left.{Left, TheVariants.Vacant}}
 use Rattle.shm_team.specs.Lefts.{IsGivenBack, account_in, is_corpse}
 
--- The agents of the script s have nothing left to do in the pool p. The log is that of its client, by what is told of the identity; the agents are those of the script, and where the last one died the token is a corpse; no other command was told, and none was refused for a spent era; the identity's map is the fold of the log; and where the token is vacant the identity is gone
+-- The agents of the script s have nothing left to do in the pool p. The log is that of its client, by what is told of the identity; the agents are those of the script, and where the last one died the token is a corpse; no other command was told, and none was refused for a spent era; the identity's map is the fold of the log; where the token is vacant the identity is gone; and all its turns are those of the script's agents
 pub record IsFinished (p : Its) (s : Scripted) (l : Logged) (k : Left) : Type 0 where
   pub token : IsGivenBack p k
   pub who : (account_in k).who ≡ s.client
@@ -20,6 +20,7 @@ pub record IsFinished (p : Its) (s : Scripted) (l : Logged) (k : Left) : Type 0 
   pub fold : IsFold l.entries (account_in k).memo
   pub table : is_loose (account_in k).memo.part ≡ false
   pub gone : is_corpse k ≡ false → (account_in k).memo.status ≡ Gone
+  pub taken : HasTaken (member p.start.geometry s.client) s.lines (first_account p.start s.client) (account_in k)
 
 -- the log and the token of an identity that has this script; where it has none there is no log, and nobody has joined it
 abbrev pub IsDoneBy : Option Scripted → Its → ℕ → Option Logged → Left → Type 0

@@ -2,14 +2,16 @@
 use Rattle.std.specs.Prelude.{◌≡◌, ℕ, ◌==◌, ◌<◌, Bool, false, if◌then◌else◌, Option, Some, None, List, [], ◌∷◌, ◌++◌, length, slice_index_or}
 use Rattle.std.specs.List.{AllByRecursion}
 use Rattle.std.specs.FinMap as finmap
-use Rattle.shm_graph.specs.{declared.{memo.Agent.Agent, run.Account.Account, table.Entry.Entry}, Runs.account_at}
-use Rattle.shm_graph.specs.{Spots.see, Tables.{IsTable, map_of}}
+use Rattle.shm_graph.specs.declared.{memo.Agent.Agent, run.{Account.Account, Start.Start}, table.Entry.Entry}
+use Rattle.shm_graph.specs.{Agents.last_agent, Runs.{account_at, fell_by, first_account}, Spots.see}
+use Rattle.shm_graph.specs.Tables.{IsTable, map_of}
 use Rattle.shm_count.specs.Roots.{member}
 use Rattle.shm_plain.specs.{Closings.IsClosedRun, Pools.Pool}
 use Rattle.shm_pool.specs.Tokens.{End, Its, Token}
 use Rattle.shm_pool.specs.Tokens as shared
 use Rattle.shm_script.specs.{Logged.Logged, declared.log.Entry.Entry as LogEntry, Values.{Scripted, Traced}}
-use Rattle.shm_agents.specs.{Courses.{AreCommandsTold, AreScriptAgents}, Turns.script_in, Logs.{AreLogs, AreUnspent}}
+use Rattle.shm_agents.specs.{Courses.{AreCommandsTold, AreScriptAgents}, Logs.{AreLogs, AreUnspent}, Taken.HasTaken}
+use Rattle.shm_agents.specs.Turns.{script_in}
 use Rattle.shm_replay.specs.Replays.{fold_in, start_of}
 use Rattle.shm_team.specs.{declared.done.Done.Done, Dones.{logs_done, logs_in}, Lefts.{account_in, is_corpse}}
 use Rattle.shm_team.specs.Visits.{AreClosers, IsVisited}
@@ -31,6 +33,18 @@ pub record HasAgents (script : Option Scripted) (e : Account) : Type 0 where
   pub own : MayHaveBegun script first before dead
   pub closers : AreClosers dead others lines
 
+-- the turns of an account are those of the agents of an identity's script; where there is none nobody has joined
+abbrev pub MayHaveTaken : Option Scripted → Start → ℕ → Account → Type 0
+MayHaveTaken None start c e = e ≡ first_account start c
+MayHaveTaken (Some s) start c e = HasTaken (member start.geometry c) s.lines (first_account start c) e
+
+-- The turns of an identity are those of its script's agents, as many as these have word steps and lives, and then those of a visit; `left` is what is accounted for in between
+pub record HasTurns (script : Option Scripted) (start : Start) (c : ℕ) (f : Account) : Type 0 where
+  pub left : Account
+  pub own : MayHaveTaken script start c left
+  pub begun : MayHaveBegun script left.memo.agents left.begun (fell_by (last_agent left.memo.agents))
+  pub visited : IsVisited (fell_by (last_agent left.memo.agents)) left f
+
 -- the entries of the log of an identity; none where no log is of it
 abbrev pub entries_in : List Logged → ℕ → List LogEntry
 entries_in [] c = []
@@ -48,6 +62,8 @@ pub record IsTeamRun (t : Traced) (p : Pool) (ls : List Logged) : Type 0 where
   pub unspent : AllByRecursion (λ (l : Logged). AreUnspent l.entries) ls
   -- the agents of each identity are those of its script, and then those of a visit
   pub agents : (c : ℕ) → c < t.clients → HasAgents (script_in t.scripts c) (account_at p.accounts c)
+  -- their turns are those that its script gives, and then those of the visit
+  pub turns : (c : ℕ) → c < t.clients → HasTurns (script_in t.scripts c) p.start c (account_at p.accounts c)
   -- what was told of its commands is the entries of its log, and besides no command but one that was cut without effect
   pub told : (c : ℕ) → c < t.clients → AreCommandsTold (member p.start.geometry c) (account_at p.accounts c).told (entries_in ls c)
   -- the words hold this table

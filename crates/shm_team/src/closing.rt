@@ -9,7 +9,7 @@ ghost use Rattle.shm_queue.specs.Drain.Control.{drain_line};
 ghost use Rattle.shm_recover.specs.{Join.join_line, Leave.Control.leave_line, Recover.Control.recover_line};
 ghost use Rattle.shm_pool.specs.{Calls.IsBetween, Endings.ClientMayLeave};
 ghost use Rattle.shm_team.specs.{declared.done.Done.Done as ADone, Lefts.{IsGivenBack, account_in, is_corpse}};
-ghost use Rattle.shm_team.specs.Visits.{AreVisits, HasRun, IsVisited};
+ghost use Rattle.shm_team.specs.Visits.{AreVisits, HasRun, HasStayed, IsVisited};
 
 use crate::done::Done;
 use crate::left::Left;
@@ -37,7 +37,10 @@ fn recover<R: Wait>(rt: &R, pool: &SharedPool, corpse: Corpse) -> Vacant
     ensures of { (result.of ≡ corpse.of) × (result.account.who ≡ corpse.account.who) }
     ensures gone { result.account.memo.status ≡ Gone }
     ensures ran { HasRun ARecoverer (recover_line ∷ []) Ended (account_died corpse.account) result.account }
+    ensures stayed { HasStayed (account_died corpse.account) result.account }
 {
+    // for the proof: the account stood
+    corpse.client();
     match corpse.recover(pool, &mut Life::of(LIFE)) {
         Ok(token) => token,
         Err(_) => never(rt),
@@ -52,6 +55,7 @@ fn join<R: Wait>(rt: &R, pool: &SharedPool, token: Vacant, life: &mut Life) -> C
     ensures between { IsBetween result.account }
     ensures may { ClientMayLeave result.of result.account }
     ensures ran { HasRun AClient (join_line ∷ []) Acts token.account result.account }
+    ensures stayed { HasStayed token.account result.account }
 {
     match token.join(pool, life) {
         Ok(client) => client,
@@ -69,6 +73,7 @@ fn drain<R: Wait>(rt: &R, pool: &SharedPool, client: &mut Client, life: &mut Lif
     ensures here { client.new.dead ≡ false }
     ensures may { ClientMayLeave client.new.of client.new.account }
     ensures ran { (e : AnAccount) (lines : List (List ℕ)) → HasRun AClient lines Acts e client.old.account → HasRun AClient (lines ++ drain_line ∷ []) Acts e client.new.account }
+    ensures stayed { HasStayed client.old.account client.new.account }
 {
     match client.drain(pool, life) {
         Reply::Done(Ok(_)) => {}
@@ -84,6 +89,7 @@ fn leave<R: Wait>(rt: &R, pool: &SharedPool, client: Client, life: &mut Life) ->
     ensures of { (result.of ≡ client.of) × (result.account.who ≡ client.account.who) }
     ensures gone { result.account.memo.status ≡ Gone }
     ensures ran { (e : AnAccount) (lines : List (List ℕ)) → HasRun AClient lines Acts e client.account → HasRun AClient (lines ++ leave_line ∷ []) Ended e result.account }
+    ensures stayed { HasStayed client.account result.account }
 {
     match client.leave(pool, life) {
         Ok(token) => token,
@@ -97,6 +103,7 @@ fn enter<R: Wait>(rt: &R, pool: &SharedPool, token: Vacant) -> Vacant
     ensures of { (result.of ≡ token.of) × (result.account.who ≡ token.account.who) }
     ensures gone { result.account.memo.status ≡ Gone }
     ensures ran { HasRun AClient (join_line ∷ drain_line ∷ leave_line ∷ []) Ended token.account result.account }
+    ensures stayed { HasStayed token.account result.account }
 {
     let mut life = Life::of(LIFE);
     let mut client = join(rt, pool, token, &mut life);

@@ -36,7 +36,7 @@ steps-preserved g c =
       who = e.same.1 ∙ i.who;
       going = e.finished ∙ ap is_done is;
       undone = not_true c.step.new.self.done (c.step.result ≡ Done (Ok tt)) (e.done alive).0 (more_ok c.step.result is);
-      working = λ on. works_on c.args.corpse.account c.args.steps c.steps.life.left c.step.new.life.left c.steps.rescuer c.step.new.self on k.0 k.1 (i.working on) c.step.result k.2 is;
+      working = λ on. works_on (me_of c.args.corpse.of c.args.corpse.account) c.args.corpse.account c.args.steps c.steps.life.left c.step.new.life.left c.steps.rescuer c.step.new.self on k.0 k.1 (i.working on) c.step.result k.2 is;
     }
 
 pub returns-in-Died-clause-of : goal.returns-in-Died-clause-of

@@ -1,4 +1,4 @@
-use Rattle.shm_team.proofs.Visiting.{drain_here, drain_may, drain_ran}
+use Rattle.shm_team.proofs.Visiting.{drain_here, drain_may, drain_ran, drain_stayed}
 use Rattle.shm_team.proofs.closing.drain.Goals as goal
 
 pub drain-requires-clause-untaken : goal.drain-requires-clause-untaken
@@ -12,3 +12,6 @@ returns-in-Done-Ok-clause-may g c = drain_may c.args.client.now c.drain.new.self
 
 pub returns-in-Done-Ok-clause-ran : goal.returns-in-Done-Ok-clause-ran
 returns-in-Done-Ok-clause-ran g c = drain_ran c.args.client.now c.drain.new.self _ _ c.in-Done-Ok.field-0-0 (rw c.in-Done-Ok.field-0-is at c.in-Done-Ok.ensures.called) c.requires.here c.requires.between
+
+pub returns-in-Done-Ok-clause-stayed : goal.returns-in-Done-Ok-clause-stayed
+returns-in-Done-Ok-clause-stayed g c = drain_stayed c.args.client.now c.drain.new.self _ _ c.in-Done-Ok.field-0-0 (rw c.in-Done-Ok.field-0-is at c.in-Done-Ok.ensures.called) c.requires.here c.requires.may

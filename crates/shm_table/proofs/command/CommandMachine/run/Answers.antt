@@ -1,0 +1,15 @@
+use Rattle.shm_graph.proofs.Machines.ManySteps.{mapped_goes, mapped_runs}
+use Rattle.shm_table.specs.Command.{command_parts, given}
+use Rattle.shm_table.proofs.command.CommandMachine.run.Goals as goal
+
+pub run-requires : goal.run-requires
+run-requires g c =
+    let s = c.args.site.now in
+    mapped_goes given command_parts (g.S.Site.may s) (g.S.Site.made s) (g.S.Site.seen s) c.args.life.now.left c.args.self.now c.self.inside.one c.args.words.now c.self.view_is c.requires
+
+pub returns : goal.returns
+returns g c =
+    let s = c.args.site.now in
+    let r = c.run in
+    mapped_runs given command_parts (g.S.Site.may s) (g.S.Site.made s) (g.S.Site.seen s) c.args.life.now.left c.args.self.now c.self.inside.one c.args.words.now c.self.view_is
+    (record { left = r.new.life.left; machine = r.new.self; words = r.new.words; turn = r.result }) r.ensures c.told.result c.told.ensures
