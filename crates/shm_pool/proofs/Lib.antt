@@ -17,3 +17,4 @@ pub mod Lasting
 pub mod Rescuing
 pub mod Posting
 pub mod Told
+pub mod Running

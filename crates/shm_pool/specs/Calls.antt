@@ -1,8 +1,8 @@
 -- a step and a whole call in the account of the caller
-use Rattle.std.specs.Prelude.{◌≡◌, ℕ, ◌+◌, Bool, true, false, if◌then◌else◌, List, [], ◌∷◌, ◌++◌, length}
-use Rattle.shm_graph.specs.declared.{ask.{Me.Me, Turn.Turn}, memo.{Memo.Memo, Step.Step}, run.Account.Account}
-use Rattle.shm_graph.specs.{Agents.is_gone, Asks.{Trail, call_before, pair}, CallEvents.events_of, Events.Event}
-use Rattle.shm_graph.specs.{Idle.IsIdle, Laws.{Control, step_of, turn_of}}
+use Rattle.std.specs.Prelude.{◌≡◌, ℕ, ◌+◌, Bool, true, false, if◌then◌else◌, Option, Some, None, List, [], ◌∷◌, ◌++◌, length}
+use Rattle.shm_graph.specs.declared.{ask.{Me.Me, Turn.{Turn, TheVariants.Done}}, memo.{Memo.Memo, Step.Step}}
+use Rattle.shm_graph.specs.{declared.run.Account.Account, Agents.is_gone, Asks.{Trail, call_before, pair}}
+use Rattle.shm_graph.specs.{CallEvents.events_of, Events.Event, Idle.IsIdle, Laws.{Control, step_of, turn_of}}
 use Rattle.shm_graph.specs.Runs.{account_after, told_by, told_left, begun_by}
 use Rattle.shm_graph.specs.{Tells.{Tells, after_all, machine_steps, tells_along}, Whole.Learns}
 use Rattle.shm_pool.specs.Rules.{IsMade}
@@ -108,6 +108,11 @@ pub record TellsLine (line : List ℕ) (r r' : Account) : Type 0 where
 pub record IsBetween (e : Account) : Type 0 where
   pub idle : IsIdle e.who e.memo
   pub over : e.memo.over ≡ true
+
+-- what many word steps told: the answer of the last one, or none where no life was left
+abbrev pub answer_in : {A : Type 0} → Turn A → Option A
+answer_in (Done a) = Some a
+answer_in _ = None
 
 -- an agent ends where its machine is done and leaves the status gone
 abbrev pub acts_still : Bool → Memo → Bool

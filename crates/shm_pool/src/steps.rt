@@ -1,14 +1,15 @@
-//! One word step of any machine on the table.
+//! One word step of any machine on the table, or all until it has answered.
 
 ghost use Rattle.std.specs.Prelude.{◌≡◌, ℕ, ◌+◌, ◌<◌, ◌↔◌, [], ◌∷◌, true, false, if◌then◌else◌, IfSome, IsNone};
 ghost use Rattle.shm_words.specs.Layout.{GeometryFits, address, total_of};
 ghost use Rattle.shm_words.specs.declared.place.Place.TheVariants as APlace;
 ghost use Rattle.shm_graph.specs.declared.memo.Kind.TheVariants.{Client as AClient, Recoverer as ARecoverer};
 ghost use Rattle.shm_graph.specs.{declared.memo.Memo.Memo, Agents.{acts, recovers}, Held.status_word};
-ghost use Rattle.shm_graph.specs.Laws.{is_died, is_done, is_some, turn_of};
+ghost use Rattle.shm_graph.specs.{ManySteps.{HasRun, MayRun}, Laws.{is_died, is_done, is_some, turn_of}};
 ghost use Rattle.shm_graph.specs.{Runs.{MayBegin, account_died, account_entered, Stood}, Whole.{fits_now, gives_now}};
 ghost use Rattle.shm_pool.specs.{Rules.{IsOf, IsAlone, alone, AccountTold}, Sites.{MayMake, Made, last_word}};
-ghost use Rattle.shm_pool.specs.{Calls.{ClientStepped, Drives, TellsLine, acts_still, StillFits}, Tokens.has_left};
+ghost use Rattle.shm_pool.specs.Calls.{ClientStepped, Drives, TellsLine, acts_still, answer_in, StillFits};
+ghost use Rattle.shm_pool.specs.Tokens.{has_left};
 
 use crate::rule::{ClientBegins, Dies, Place, ReadsStatus, RecovererBegins, Say, Top};
 use crate::site::OnTable;
@@ -45,6 +46,24 @@ fn act_place<M: Machine>(top: &Top, place: &mut Place, m: &mut M) -> Turn<M::Ans
     act_as::<Brand, M>(top, place, m)
 }
 
+/// The word steps of a machine until it is finished or no life is left; each tells what U says.
+#[inline(always)]
+fn run_as<U: Say, M: Machine>(
+    top: &Top,
+    place: &mut Place,
+    m: &mut M,
+    life: &mut Life,
+) -> Turn<M::Answer>
+    requires { MayRun M.control (MayMake top.now.key top.now.table_id U.then) (λ before ask after. Made U.then before after) (λ before ask after. last_word after) life.old.left m.old place.old }
+    ensures { HasRun M.control (λ before ask after. Made U.then before after) (λ before ask after. last_word after) life.old.left m.old place.old (record { left = life.new.left; machine = m.new; words = place.new; turn = result }) }
+{
+    let site = OnTable::<U> {
+        top,
+        says: PhantomData,
+    };
+    m.run(&site, place, life)
+}
+
 /// One step of a machine, unless no life is left.
 #[inline(always)]
 pub(crate) fn step_place<M: Machine>(
@@ -74,6 +93,17 @@ pub(crate) fn step_place<M: Machine>(
     act_place(top, place, m)
 }
 
+/// The answer that many word steps told.
+#[inline(always)]
+fn answered<A>(turn: Turn<A>) -> Option<A>
+    ensures { result ≡ answer_in turn }
+{
+    match turn {
+        Turn::Done(answer) => Some(answer),
+        Turn::More | Turn::Died => None,
+    }
+}
+
 /// The steps of a machine until it is finished; none where no life is left before.
 #[inline(always)]
 pub(crate) fn run_place<M: Machine>(
@@ -99,12 +129,11 @@ pub(crate) fn run_place<M: Machine>(
     ensures who { (alone place.new).who ≡ (alone place.old).who }
     ensures kind { recovers (alone place.new).memo ≡ recovers (alone place.old).memo }
 {
-    'steps: loop {
-        match step_place(top, place, m, life) {
-            Turn::More => {}
-            Turn::Done(answer) => return Some(answer),
-            Turn::Died => return None,
-        }
+    // The first word step begins the machine's call anew; what the others tell is told by that call.
+    match step_place(top, place, m, life) {
+        Turn::More => answered(run_as::<Brand, M>(top, place, m, life)),
+        Turn::Done(answer) => Some(answer),
+        Turn::Died => None,
     }
 }
 
