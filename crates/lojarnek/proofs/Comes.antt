@@ -40,9 +40,9 @@ named_reached t b at n = reached_by t b (at.ready.rests.between at.alive) n
 
 -- ---- what came
 
-module _ {T : Type 0} (did : T → Type 0) (spent : ℕ → Acts → Acts → Type 0) where
+module _ {T : Type 0} (did : T → Type 0) (why : Error → Acts → Acts → Type 0) where
   -- the client died in an operation
-  pub died_came : {M A : Type 0} {k : Control M A} {does : M → ℕ → Event} {leaves : M → Memo → Memo → Trail → List Event → A → Type 0} {ends : M → A → Type 0} {m : M} (t t' : Acting) (before after : ℕ) (bs : List ℕ) → t.dead ≡ false → HasDone k does leaves ends m t t' before after Lost → Rests t' → HasCome did spent (acts_of t before) (acts_of t' after) bs (Err (Died false))
+  pub died_came : {M A : Type 0} {k : Control M A} {does : M → ℕ → Event} {leaves : M → Memo → Memo → Trail → List Event → A → Type 0} {ends : M → A → Type 0} {m : M} (t t' : Acting) (before after : ℕ) (bs : List ℕ) → t.dead ≡ false → HasDone k does leaves ends m t t' before after Lost → Rests t' → HasCome did why (acts_of t before) (acts_of t' after) bs (Err (Died false))
   died_came t t' before after bs alive h rests =
       record {
         same = done_same Lost alive h;
@@ -53,41 +53,41 @@ module _ {T : Type 0} (did : T → Type 0) (spent : ℕ → Acts → Acts → Ty
       }
 
   -- it answered
-  pub ok_came : (c c' : Acts) (bs : List ℕ) (x : T) → SameClient c c' → IsAtBlocks c'.token → KnowsRoots c'.token bs → did x → HasCome did spent c c' bs (Ok x)
+  pub ok_came : (c c' : Acts) (bs : List ℕ) (x : T) → SameClient c c' → IsAtBlocks c'.token → KnowsRoots c'.token bs → did x → HasCome did why c c' bs (Ok x)
   ok_came c c' bs x same at knows h = record { same = same; ready = at.ready; knows = knows; dead = at.alive; done = h }
 
   -- it was refused
-  pub err_came : (c c' : Acts) (bs : List ℕ) (e : Error) → SameClient c c' → IsAtBlocks c'.token → KnowsRoots c'.token bs → false ≡ is_death {T = T} (Err e) → Denies spent c c' e → HasCome did spent c c' bs (Err e)
+  pub err_came : (c c' : Acts) (bs : List ℕ) (e : Error) → SameClient c c' → IsAtBlocks c'.token → KnowsRoots c'.token bs → false ≡ is_death {T = T} (Err e) → Denies why c c' e → HasCome did why c c' bs (Err e)
   err_came c c' bs e same at knows lives h = record { same = same; ready = at.ready; knows = knows; dead = at.alive ∙ lives; done = h }
 
 -- ---- what a caller reads off it
 
-module _ {T : Type 0} (did : T → Type 0) (spent : ℕ → Acts → Acts → Type 0) (c c' : Acts) (bs : List ℕ) (r : Result T Error) where
-  pub came_ok : HasCome did spent c c' bs r → IfOk r did
+module _ {T : Type 0} (did : T → Type 0) (why : Error → Acts → Acts → Type 0) (c c' : Acts) (bs : List ℕ) (r : Result T Error) where
+  pub came_ok : HasCome did why c c' bs r → IfOk r did
   came_ok h = by r h.done
     where
-      by : (x : Result T Error) → MatchResult x did (Denies spent c c') → IfOk x did
+      by : (x : Result T Error) → MatchResult x did (Denies why c c') → IfOk x did
       by (Ok x) d = d
       by (Err e) d = tt
 
-  pub came_err : HasCome did spent c c' bs r → IfErr r (Denies spent c c')
+  pub came_err : HasCome did why c c' bs r → IfErr r (Denies why c c')
   came_err h = by r h.done
     where
-      by : (x : Result T Error) → MatchResult x did (Denies spent c c') → IfErr x (Denies spent c c')
+      by : (x : Result T Error) → MatchResult x did (Denies why c c') → IfErr x (Denies why c c')
       by (Ok x) d = tt
       by (Err e) d = d
 
 -- of a call with two clauses on what it answered
-module _ {T : Type 0} (A B : T → Type 0) (spent : ℕ → Acts → Acts → Type 0) (c c' : Acts) (bs : List ℕ) (r : Result T Error) where
-  pub came_first : HasCome (λ x. A x × B x) spent c c' bs r → IfOk r A
-  came_first h = by r (came_ok (λ x. A x × B x) spent c c' bs r h)
+module _ {T : Type 0} (A B : T → Type 0) (why : Error → Acts → Acts → Type 0) (c c' : Acts) (bs : List ℕ) (r : Result T Error) where
+  pub came_first : HasCome (λ x. A x × B x) why c c' bs r → IfOk r A
+  came_first h = by r (came_ok (λ x. A x × B x) why c c' bs r h)
     where
       by : (x : Result T Error) → IfOk x (λ y. A y × B y) → IfOk x A
       by (Ok x) d = d.0
       by (Err e) d = tt
 
-  pub came_second : HasCome (λ x. A x × B x) spent c c' bs r → IfOk r B
-  came_second h = by r (came_ok (λ x. A x × B x) spent c c' bs r h)
+  pub came_second : HasCome (λ x. A x × B x) why c c' bs r → IfOk r B
+  came_second h = by r (came_ok (λ x. A x × B x) why c c' bs r h)
     where
       by : (x : Result T Error) → IfOk x (λ y. A y × B y) → IfOk x B
       by (Ok x) d = d.1
@@ -103,8 +103,8 @@ if_alive c' (Ok x) h = h
 if_alive c' (Err e) h = tt
 
 -- nothing was wrong, and the client lived
-pub came_tested : {T : Type 0} (did : T → Type 0) (spent : ℕ → Acts → Acts → Type 0) (w : Option Error) (c c' : Acts) (bs : List ℕ) (r : Result T Error) → w ≡ None → c.token.dead ≡ false → HasCome did spent c c' bs r → WasTested w c c' r
-came_tested did spent w c c' bs r right alive h = tested_ran w c c' r right alive (if_alive c' r h.dead)
+pub came_tested : {T : Type 0} (did : T → Type 0) (why : Error → Acts → Acts → Type 0) (w : Option Error) (c c' : Acts) (bs : List ℕ) (r : Result T Error) → w ≡ None → c.token.dead ≡ false → HasCome did why c c' bs r → WasTested w c c' r
+came_tested did why w c c' bs r right alive h = tested_ran w c c' r right alive (if_alive c' r h.dead)
 
 -- ---- refusals before the first word step
 
@@ -115,17 +115,17 @@ pub first_tested : (T : Type 0) (w : Option Error) (c : Acts) (e : Error) → Is
 first_tested T w c e h = elim h.is [ inl is ↦ tested_wrong T w c e (sym is) | inr x ↦ dead_tested T w c e x.0 x.2 ]
 
 -- and such a refusal leaves what any does
-pub first_denied : (spent : ℕ → Acts → Acts → Type 0) (c : Acts) (e : Error) → IsWrongOn c e → Denies spent c c e
-first_denied spent c (Died d) h = dead_before c c h.0 refl
-first_denied spent c (EraSpent e) h = absurd h
-first_denied spent c RootsFull h = absurd h
-first_denied spent c (Full s b) h = absurd h
-first_denied spent c (CountFull b n) h = absurd h
-first_denied spent c (QueueFull a) h = absurd h
-first_denied spent c (NoSuchWord j n) h = absurd h
-first_denied spent c (NotAuthor a) h = absurd h
-first_denied spent c (WrongAuthor a) h = absurd h
-first_denied spent c e h = (h, refl)
+pub first_denied : (why : Error → Acts → Acts → Type 0) (c : Acts) (e : Error) → IsWrongOn c e → Denies why c c e
+first_denied why c (Died d) h = dead_before c c h.0 refl
+first_denied why c (EraSpent e) h = absurd h
+first_denied why c RootsFull h = absurd h
+first_denied why c (Full s b) h = absurd h
+first_denied why c (CountFull b n) h = absurd h
+first_denied why c (QueueFull a) h = absurd h
+first_denied why c (NoSuchWord j n) h = absurd h
+first_denied why c (NotAuthor a) h = absurd h
+first_denied why c (WrongAuthor a) h = absurd h
+first_denied why c e h = (h, refl)
 
 pub same_self : (c : Acts) → SameClient c c
 same_self c = record { of = refl; who = refl; left = omega arith }

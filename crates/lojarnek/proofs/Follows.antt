@@ -20,9 +20,9 @@ use Rattle.shm_pool.specs.{declared.reply.Reply.{Reply, TheVariants.{Died, Done}
 use Rattle.shm_pool.specs.Tokens.{Acting, Its, me_of}
 use Rattle.lojarnek.specs.declared.error.Error.{Error}
 use Rattle.lojarnek.specs.Blocks.{Denies, HasCome, IsRooted, KeepsRoots, OnlyRoot, StandsOn, names}
-use Rattle.lojarnek.specs.Following.{Follows, HasFollowed, HasLooked, HasRooted, WhyUnfollowed}
+use Rattle.lojarnek.specs.Following.{Follows, HasFollowed, HasLooked, HasRooted, WhyNotFollowed, WhyUnfollowed, WhyUnrooted}
 use Rattle.lojarnek.specs.{Refusing.{is_death, share_error}, Roots.{IsHolding, account_root}, Standing.{Acts, acts_of}}
-use Rattle.lojarnek.specs.Setting.{HasGiven, HasHeld, SpentSet}
+use Rattle.lojarnek.specs.Setting.{HasGiven, HasHeld}
 use Rattle.lojarnek.specs.declared.error.Error.TheVariants as error
 use Rattle.lojarnek.proofs.{Comes.{err_came, named_here, ok_came, roots_kept, same_then}, Done.{done_lives, done_same}}
 use Rattle.lojarnek.proofs.{Latches.died_ended, Setting.{ended_came, ended_then, roots_then}}
@@ -93,10 +93,10 @@ module _ (t t' : Acting) (before left a b j : ℕ) (at : IsHolding a t) where
   )
 
   pub unlooked_now : (n : ℕ) → Looks (Done (Err (look.NoSuchRef n))) → HasLooked a b j (acts_of t before) (acts_of t' left) (Done (Err (error.NoSuchWord j n)))
-  unlooked_now n h = (done_same (Done (Err (look.NoSuchRef n))) at.alive h.done, look_on (Err (look.NoSuchRef n)) h, look_keeps (Err (look.NoSuchRef n)) h, h.done.left_so.high)
+  unlooked_now n h = (done_same (Done (Err (look.NoSuchRef n))) at.alive h.done, look_on (Err (look.NoSuchRef n)) h, look_keeps (Err (look.NoSuchRef n)) h, (h.done.left_so.high, refl))
 
   pub unheld_now : Looks (Done (Err look.NotHeld)) → HasLooked a b j (acts_of t before) (acts_of t' left) (Done (Err (error.WrongAuthor a)))
-  unheld_now h = (done_same (Done (Err look.NotHeld)) at.alive h.done, look_on (Err look.NotHeld) h, look_keeps (Err look.NotHeld) h, tt)
+  unheld_now h = (done_same (Done (Err look.NotHeld)) at.alive h.done, look_on (Err look.NotHeld) h, look_keeps (Err look.NotHeld) h, refl)
 
   pub look_died : Looks Died → HasLooked a b j (acts_of t before) (acts_of t' left) Died
   look_died h = died_ended at.alive h.done h.rests
@@ -130,7 +130,7 @@ module _ (t t' : Acting) (before left a b : ℕ) (at : IsHolding a t) where
         record { low = h.done.left_so.low; empty = h.done.left_so.empty; least = h.done.left_so.before; named = here'; others = others' },
       )
 
-  why_unshared : (f : ShareFault) → Shares (Done (Err f)) → WhyUnfollowed c (share_error f)
+  why_unshared : (f : ShareFault) → Shares (Done (Err f)) → WhyUnrooted c (share_error f)
   why_unshared (share.EraSpent e) h = (share_spent (me_of t.of t.account) b t.account.memo t'.account.memo _ _ e h.done.left_so).0
   why_unshared share.RootsFull h = h.done.left_so.all
   why_unshared (share.CountFull d n) h = h.done.left_so.full
@@ -145,13 +145,20 @@ module _ (t t' : Acting) (before left a b : ℕ) (at : IsHolding a t) where
 
 -- ---- both under one latch
 
-why_then : (c d : Acts) (e : Error) → KeepsRoots c d → WhyUnfollowed d e → WhyUnfollowed c e
-why_then c d (error.NoSuchWord j n) keeps h = h
-why_then c d (error.WrongAuthor a) keeps h = h
-why_then c d (error.EraSpent n) keeps h = h
-why_then c d error.RootsFull keeps h = λ k low none. h k low (keeps k ∙ none)
-why_then c d (error.CountFull b n) keeps h = h
-why_then c d e keeps h = absurd h
+why_then : (a j : ℕ) (c d : Acts) (e : Error) → KeepsRoots c d → WhyUnfollowed a j d e → WhyUnfollowed a j c e
+why_then a j c d (error.NoSuchWord i n) keeps h = h
+why_then a j c d (error.WrongAuthor x) keeps h = h
+why_then a j c d (error.EraSpent n) keeps h = h
+why_then a j c d error.RootsFull keeps h = λ k low none. h k low (keeps k ∙ none)
+why_then a j c d (error.CountFull b n) keeps h = h
+why_then a j c d e keeps h = absurd h
+
+-- what isn't rooted isn't followed
+unrooted_then : (a j : ℕ) (c d : Acts) (e : Error) → KeepsRoots c d → WhyUnrooted d e → WhyUnfollowed a j c e
+unrooted_then a j c d (error.EraSpent n) keeps h = h
+unrooted_then a j c d error.RootsFull keeps h = λ k low none. h k low (keeps k ∙ none)
+unrooted_then a j c d (error.CountFull b n) keeps h = h
+unrooted_then a j c d e keeps h = absurd h
 
 -- what was rooted from d to e was so from c to f, where the roots of c and d name the same, and those of e and f
 rooted_then : (c d e f : Acts) (k : ℕ) → KeepsRoots c d → IsRooted k (names e k) d e → KeepsRoots e f → IsRooted k (names f k) c f
@@ -191,24 +198,24 @@ module _ (a b j x : ℕ) (c d e : Acts) (bs : List ℕ) (h : HasLooked a b j c d
   )
 
   pub followed_unrooted : (f : Error) → HasRooted a x d e bs (Done (Err f)) → HasFollowed a b j c e bs (Done (Err f))
-  followed_unrooted f g = (same_then c d e h.0 g.0, g.1, g.2, (why_then c d f h.2 g.3.0, roots_then c d e h.2 g.3.1))
+  followed_unrooted f g = (same_then c d e h.0 g.0, g.1, g.2, (unrooted_then a j c d f h.2 g.3.0, roots_then c d e h.2 g.3.1))
 
   pub followed_died : HasRooted a x d e bs Died → HasFollowed a b j c e bs Died
   followed_died g = ended_then c d e h.0 g
 
 -- ---- with the latch taken and given back
 
-unfollowed_lives : (T : Type 0) (c : Acts) (e : Error) → WhyUnfollowed c e → false ≡ is_death {T = T} (Err e)
-unfollowed_lives T c (error.Died z) h = absurd h
-unfollowed_lives T c e h = refl
+unfollowed_lives : (T : Type 0) (a j : ℕ) (c : Acts) (e : Error) → WhyUnfollowed a j c e → false ≡ is_death {T = T} (Err e)
+unfollowed_lives T a j c (error.Died z) h = absurd h
+unfollowed_lives T a j c e h = refl
 
-unfollowed_denied : (c f : Acts) (e : Error) → WhyUnfollowed c e → StandsOn c f → Denies SpentSet c f e
-unfollowed_denied c f (error.NoSuchWord j n) h stands = (h, stands)
-unfollowed_denied c f (error.WrongAuthor a) h stands = stands
-unfollowed_denied c f (error.EraSpent n) h stands = ((h, stands.roots), stands.alive)
-unfollowed_denied c f error.RootsFull h stands = (h, stands)
-unfollowed_denied c f (error.CountFull b n) h stands = (h, stands)
-unfollowed_denied c f e h stands = absurd h
+unfollowed_denied : (a j : ℕ) (c f : Acts) (e : Error) → WhyUnfollowed a j c e → StandsOn c f → Denies (WhyNotFollowed a j) c f e
+unfollowed_denied a j c f (error.NoSuchWord i n) h stands = (h.0, stands, h.1)
+unfollowed_denied a j c f (error.WrongAuthor x) h stands = (stands, h)
+unfollowed_denied a j c f (error.EraSpent n) h stands = ((h, stands.roots), stands.alive)
+unfollowed_denied a j c f error.RootsFull h stands = (h, stands, tt)
+unfollowed_denied a j c f (error.CountFull b n) h stands = (h, stands, tt)
+unfollowed_denied a j c f e h stands = absurd h
 
 module _ (a b j : ℕ) (c d e f : Acts) (bs : List ℕ) (held : HasHeld a c d (Done tt)) where
   follows_then : (o : Option ℕ) → Follows b j o d e → KeepsRoots e f → Follows b j o c f
@@ -219,17 +226,17 @@ module _ (a b j : ℕ) (c d e f : Acts) (bs : List ℕ) (held : HasHeld a c d (D
   )
   follows_then None h after = (roots_then c e f (roots_then c d e held.2 h.0) after, λ x word. h.1 x (subst (λ (ks : List Stored). Contains ks (record { spot = Body b j; value = x })) (sym held.3) word))
 
-  pub follow_came : (r : Result (Option ℕ) Error) → HasFollowed a b j d e bs (Done r) → HasGiven e f (Done tt) → HasCome (λ o. Follows b j o c f) SpentSet c f bs r
+  pub follow_came : (r : Result (Option ℕ) Error) → HasFollowed a b j d e bs (Done r) → HasGiven e f (Done tt) → HasCome (λ o. Follows b j o c f) (WhyNotFollowed a j) c f bs r
   follow_came (Ok o) h g =
-      ok_came (λ (o : Option ℕ). Follows b j o c f) SpentSet c f bs o (same_then c e f (same_then c d e held.0 h.0) g.0) g.1 (λ none alive k low. g.2 k ∙ h.2 k low) (follows_then o h.3 g.2)
+      ok_came (λ (o : Option ℕ). Follows b j o c f) (WhyNotFollowed a j) c f bs o (same_then c e f (same_then c d e held.0 h.0) g.0) g.1 (λ none alive k low. g.2 k ∙ h.2 k low) (follows_then o h.3 g.2)
   follow_came (Err x) h g =
-      let why : WhyUnfollowed c x = why_then c d x held.2 h.3.0 in
+      let why : WhyUnfollowed a j c x = why_then a j c d x held.2 h.3.0 in
       let keeps : KeepsRoots c f = roots_then c e f (roots_then c d e held.2 h.3.1) g.2 in
-      err_came (λ (o : Option ℕ). Follows b j o c f) SpentSet c f bs x (same_then c e f (same_then c d e held.0 h.0) g.0) g.1 (λ none alive k low. g.2 k ∙ h.2 k low) (unfollowed_lives (Option ℕ) c x why)
-      (unfollowed_denied c f x why (record { alive = g.1.alive; roots = keeps }))
+      err_came (λ (o : Option ℕ). Follows b j o c f) (WhyNotFollowed a j) c f bs x (same_then c e f (same_then c d e held.0 h.0) g.0) g.1 (λ none alive k low. g.2 k ∙ h.2 k low) (unfollowed_lives (Option ℕ) a j c x why)
+      (unfollowed_denied a j c f x why (record { alive = g.1.alive; roots = keeps }))
 
-  pub follow_died : HasFollowed a b j d e bs Died → HasCome (λ o. Follows b j o c e) SpentSet c e bs (Err (error.Died false))
-  follow_died h = ended_came (λ (o : Option ℕ). Follows b j o c e) SpentSet c e bs false (ended_then c d e held.0 h)
+  pub follow_died : HasFollowed a b j d e bs Died → HasCome (λ o. Follows b j o c e) (WhyNotFollowed a j) c e bs (Err (error.Died false))
+  follow_died h = ended_came (λ (o : Option ℕ). Follows b j o c e) (WhyNotFollowed a j) c e bs false (ended_then c d e held.0 h)
 
-  pub follow_kept : (r : Result (Option ℕ) Error) (done : Bool) → HasFollowed a b j d e bs (Done r) → HasGiven e f Died → HasCome (λ o. Follows b j o c f) SpentSet c f bs (Err (error.Died done))
-  follow_kept r done h g = ended_came (λ (o : Option ℕ). Follows b j o c f) SpentSet c f bs done (ended_then c e f (same_then c d e held.0 h.0) g)
+  pub follow_kept : (r : Result (Option ℕ) Error) (done : Bool) → HasFollowed a b j d e bs (Done r) → HasGiven e f Died → HasCome (λ o. Follows b j o c f) (WhyNotFollowed a j) c f bs (Err (error.Died done))
+  follow_kept r done h g = ended_came (λ (o : Option ℕ). Follows b j o c f) (WhyNotFollowed a j) c f bs done (ended_then c e f (same_then c d e held.0 h.0) g)

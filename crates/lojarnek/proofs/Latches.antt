@@ -46,12 +46,12 @@ module _ (me : Me) (r0 r : Memo) (tr : Trail) (es : List Event) (h : Released me
       let binds : stays (record { spot = Body b j; value = d }) ≡ true = or_right (is_dying loosed b) _ (and_from (is_reached me.who loosed b) _ reached (or_left (is_latch_of me.who r0.latch) _ (own_latch held))) in
       subst (λ (ks : List Stored). Contains ks (record { spot = Body b j; value = d })) (sym known_now) (Contains-filter stays r0.known _ known binds)
 
-why_unset : (wide : Bool) (c b j d : ℕ) (m r : Memo) (f : SetFault) → m.latch ≡ Some c → SetTold wide c b j d m r f → WhyUnset c j f
+why_unset : (wide : Bool) (c b j d : ℕ) (m r : Memo) (f : SetFault) → m.latch ≡ Some c → SetTold wide c b j d m r f → WhyUnset c j d f
 why_unset wide c b j d m r (set.NotAuthor a) held h = h.3
 why_unset wide c b j d m r (set.NoSuchRef n) held h = h.4
 why_unset wide c b j d m r set.NotHeld held h = h.4 held
 why_unset wide c b j d m r (set.EraSpent e) held h = h
-why_unset wide c b j d m r (set.CountFull b' n) held h = h.2
+why_unset wide c b j d m r (set.CountFull b' n) held h = h
 
 -- ---- how many word steps were made
 
@@ -174,7 +174,7 @@ module _ (t t' : Acting) (before left b j d : ℕ) (at : IsHolding t.account.who
       named_root t.account.who t'.account.memo named.root b (h.rests.between (done_lives r h.done)).idle.op named.low named.some
       ((set_lasts (setting (me_of t.of t.account) b j d) t.account.memo t'.account.memo _ _ r h.done.left_so).roots named.root ∙ named.named)
 
-  set_says : (r : Result (Unit {0}) SetFault) → Sets (Done r) → MatchResult r (λ u. KnowsReference b j d (acts_of t' left)) (WhyUnset t.account.who j)
+  set_says : (r : Result (Unit {0}) SetFault) → Sets (Done r) → MatchResult r (λ u. KnowsReference b j d (acts_of t' left)) (WhyUnset t.account.who j d)
   set_says (Ok u) h = set_known (setting (me_of t.of t.account) b j d) t.account.memo t'.account.memo _ _ (Ok u) h.done.left_so (named_still (Ok u) h)
   set_says (Err f) h =
       why_unset t.of.start.geometry.wide t.account.who b j d t.account.memo t'.account.memo f at.latch

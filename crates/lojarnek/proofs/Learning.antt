@@ -9,8 +9,9 @@ use Rattle.shm_count.proofs.Waiting.{same_queues}
 use Rattle.shm_ref.specs.RootOf.{naming, naming_plan}
 use Rattle.shm_table.specs.Staying.{IsSpent}
 use Rattle.shm_pool.specs.{declared.reply.Reply.TheVariants.{Died, Done}, Called.HasCalled, Tokens.{Acting, me_of}}
-use Rattle.lojarnek.specs.{Blocks.{HasCome, HasLearnt, KeepsRoots, Spent}, Roots.{IsAtBlocks, account_root}}
+use Rattle.lojarnek.specs.{Blocks.{HasCome, HasLearnt, KeepsRoots}, Roots.{IsAtBlocks, account_root}}
 use Rattle.lojarnek.specs.{Standing.{Acts, acts_of}, Tables.SameClient}
+use Rattle.lojarnek.specs.declared.error.Error.{Error}
 use Rattle.lojarnek.specs.declared.error.Error.TheVariants as error
 use Rattle.lojarnek.proofs.{Comes.{err_came, named_here, same_then, still_at}, Done.{done_lives, done_same}}
 use Rattle.lojarnek.proofs.{Ready.dead_ready, Naming.knows_dead}
@@ -52,24 +53,21 @@ learnt_died t0 first t t' before left bs k h call =
 
 -- ---- after an operation that found the eras spent
 
-module _ {T : Type 0} (did : T → Type 0) (left : Acts → Acts → Type 0) (c d e : Acts) (bs : List ℕ) (same : SameClient c d) where
+module _ {T : Type 0} (did : T → Type 0) (why : Error → Acts → Acts → Type 0) (c d e : Acts) (bs : List ℕ) (same : SameClient c d) where
   -- the roots are known again, and its eras are spent still
-  pub spent_learnt : (era : ℕ) → IsSpent c.token.account.who era d.token.account.memo → HasLearnt d e bs (Done tt) → left c e → HasCome did (Spent left) c e bs (Err (error.EraSpent era))
-  spent_learnt era spent h stays =
-      err_came did (Spent left) c e bs (error.EraSpent era) (same_then c d e same h.0) h.1 h.2 refl (
-        (
-          (
-            spent.0,
-            (let is : own_word e.token.account.memo.own (Era c.token.account.who c.token.account.who) ≡ own_word d.token.account.memo.own (Era c.token.account.who c.token.account.who) = ap (λ (m : Memo). own_word m.own (Era c.token.account.who c.token.account.who)) h.3 in
-                let most : era ≤ own_word d.token.account.memo.own (Era c.token.account.who c.token.account.who) = spent.1 in omega arith),
-          ),
-          stays,
+  pub spent_learnt : (era : ℕ) → IsSpent c.token.account.who era d.token.account.memo → HasLearnt d e bs (Done tt) → (IsSpent c.token.account.who era e.token.account.memo → why (error.EraSpent era) c e) → HasCome did why c e bs (Err (error.EraSpent era))
+  spent_learnt era spent h so =
+      err_came did why c e bs (error.EraSpent era) (same_then c d e same h.0) h.1 h.2 refl (
+        so (
+          spent.0,
+          (let is : own_word e.token.account.memo.own (Era c.token.account.who c.token.account.who) ≡ own_word d.token.account.memo.own (Era c.token.account.who c.token.account.who) = ap (λ (m : Memo). own_word m.own (Era c.token.account.who c.token.account.who)) h.3 in
+              let most : era ≤ own_word d.token.account.memo.own (Era c.token.account.who c.token.account.who) = spent.1 in omega arith),
         ),
         h.1.alive,
       )
 
   -- it died
-  pub spent_died : HasLearnt d e bs Died → HasCome did (Spent left) c e bs (Err (error.Died false))
+  pub spent_died : HasLearnt d e bs Died → HasCome did why c e bs (Err (error.Died false))
   spent_died h =
       record {
         same = same_then c d e same h.0;

@@ -17,7 +17,7 @@ use Rattle.shm_alloc.proofs.{MadeBlocks.block_inside, MadeRoots.made_word}
 use Rattle.shm_table.specs.Staying.{IsSpent}
 use Rattle.shm_pool.specs.{declared.reply.Reply.TheVariants.Done, Called.HasAllocatedNear, Tokens.{Acting, me_of}}
 use Rattle.shm_pool.proofs.Replied.{ready}
-use Rattle.lojarnek.specs.Blocks.{Denies, HasCome, IsMade, KeepsRoots, KnowsWord, OnlyRoot, Spent, names}
+use Rattle.lojarnek.specs.Blocks.{Denies, HasCome, IsMade, KeepsRoots, KnowsWord, OnlyRoot, WhyNotMade, names}
 use Rattle.lojarnek.specs.{Refusing.{alloc_error, is_death}, Roots.{IsAtBlocks, KnowsRoots}, Standing.{Acts, acts_of}}
 use Rattle.lojarnek.proofs.{Comes.{err_came, named_here, ok_came, roots_kept, still_at}, Done.{done_lives, done_same}}
 use Rattle.lojarnek.proofs.Naming.{knows_kept, knows_set}
@@ -142,9 +142,9 @@ module _ (t t' : Acting) (before left n : ℕ) (xs : List ℕ) (near : Near) (at
         (subst (λ (z : Bool). (g : ℕ) × Knows t'.account.memo (Tag x.block) g × (j < tag_plain z g) × Knows t'.account.memo (Body x.block (tag_refs z g + j)) (slice_index xs j)) (sym (ap (λ (z : Me). z.geometry.wide) (same_me (Ok x) h)))
         (made_words h.machine.me h.machine.request t.account.memo t'.account.memo x h.done.left_so.holds.gives xs (omega arith) h.asked.count few h.asked.plain (omega arith) j low))
 
-    pub made_came : (bs bs' : List ℕ) → KnowsRoots t bs → n ≤ 16 → length xs ≤ 8 → slice_index bs' x.root ≡ x.block → ((j : ℕ) → j ≢ x.root → slice_index bs' j ≡ slice_index bs j) → HasCome (λ (y : Made). IsMade xs y.root c c') (Spent KeepsRoots) c c' bs' (Ok x)
+    pub made_came : (bs bs' : List ℕ) → KnowsRoots t bs → n ≤ 16 → length xs ≤ 8 → slice_index bs' x.root ≡ x.block → ((j : ℕ) → j ≢ x.root → slice_index bs' j ≡ slice_index bs j) → HasCome (λ (y : Made). IsMade xs y.root c c') WhyNotMade c c' bs' (Ok x)
     made_came bs bs' knows refs few at' others' =
-        ok_came (λ (y : Made). IsMade xs y.root c c') (Spent KeepsRoots) c c' bs' x (done_same (Done (Ok x)) at.alive h.done) (made_still (Ok x) h)
+        ok_came (λ (y : Made). IsMade xs y.root c c') WhyNotMade c c' bs' x (done_same (Done (Ok x)) at.alive h.done) (made_still (Ok x) h)
         (knows_set t t' bs bs' x.root x.block at.kind at.alive knows here others at' others')
         (record {
           rooted = record { low = facts.low; empty = facts.empty; least = facts.before; named = refl; others = others };
@@ -159,11 +159,11 @@ module _ (t t' : Acting) (before left n : ℕ) (xs : List ℕ) (near : Near) (at
     why : Unmade t.account.who t.account.memo t'.account.memo f
     why = subst (λ (w : ℕ). Unmade w t.account.memo t'.account.memo f) (ap (λ (z : Me). z.who) h.asked.of) (unmade h.machine t.account.memo t'.account.memo _ _ f h.done.left_so)
 
-  unmade_denied : (f : AllocFault) (h : HasAllocatedNear n xs near t t' before left (Done (Err f))) → Denies (Spent KeepsRoots) c c' (alloc_error f)
+  unmade_denied : (f : AllocFault) (h : HasAllocatedNear n xs near t t' before left (Done (Err f))) → Denies WhyNotMade c c' (alloc_error f)
   unmade_denied (alloc.EraSpent e) h = ((why (alloc.EraSpent e) h, kept (alloc.EraSpent e) h), done_lives (Err (alloc.EraSpent e)) h.done)
-  unmade_denied alloc.RootsFull h = (why alloc.RootsFull h, record { alive = done_lives (Err alloc.RootsFull) h.done; roots = kept alloc.RootsFull h })
-  unmade_denied (alloc.Full s b) h = (why (alloc.Full s b) h, record { alive = done_lives (Err (alloc.Full s b)) h.done; roots = kept (alloc.Full s b) h })
+  unmade_denied alloc.RootsFull h = (why alloc.RootsFull h, record { alive = done_lives (Err alloc.RootsFull) h.done; roots = kept alloc.RootsFull h }, tt)
+  unmade_denied (alloc.Full s b) h = (why (alloc.Full s b) h, record { alive = done_lives (Err (alloc.Full s b)) h.done; roots = kept (alloc.Full s b) h }, tt)
 
-  pub unmade_came : (f : AllocFault) (bs : List ℕ) → KnowsRoots t bs → HasAllocatedNear n xs near t t' before left (Done (Err f)) → HasCome (λ (y : Made). IsMade xs y.root c c') (Spent KeepsRoots) c c' bs (Err (alloc_error f))
+  pub unmade_came : (f : AllocFault) (bs : List ℕ) → KnowsRoots t bs → HasAllocatedNear n xs near t t' before left (Done (Err f)) → HasCome (λ (y : Made). IsMade xs y.root c c') WhyNotMade c c' bs (Err (alloc_error f))
   unmade_came f bs knows h =
-      err_came (λ (y : Made). IsMade xs y.root c c') (Spent KeepsRoots) c c' bs (alloc_error f) (done_same (Done (Err f)) at.alive h.done) (made_still (Err f) h) (knows_kept t t' bs at.kind at.alive knows (kept f h)) (alloc_lives Made f) (unmade_denied f h)
+      err_came (λ (y : Made). IsMade xs y.root c c') WhyNotMade c c' bs (alloc_error f) (done_same (Done (Err f)) at.alive h.done) (made_still (Err f) h) (knows_kept t t' bs at.kind at.alive knows (kept f h)) (alloc_lives Made f) (unmade_denied f h)

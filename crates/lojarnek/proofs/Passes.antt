@@ -18,8 +18,8 @@ use Rattle.shm_queue.proofs.RefusedTakes.{drain_most, take_most}
 use Rattle.shm_table.specs.Staying.{IsSpent}
 use Rattle.shm_pool.specs.{declared.reply.Reply.TheVariants.Done, Called.HasCalled, Tokens.{Acting, me_of}}
 use Rattle.lojarnek.specs.Blocks.{Denies, HasCome, KeepsNamed, KeepsRoots, OnlyRoot, Spent, names}
-use Rattle.lojarnek.specs.{Passing.{SendsBlock, Takes, TakesAll}, Refusing.{is_death, send_error}}
-use Rattle.lojarnek.specs.{Roots.{IsAtBlocks, KnowsRoots}, Standing.{Acts, acts_of}}
+use Rattle.lojarnek.specs.Passing.{SendsBlock, Takes, TakesAll, WhyNotReceived, WhyNotSent}
+use Rattle.lojarnek.specs.{Refusing.{is_death, send_error}, Roots.{IsAtBlocks, KnowsRoots}, Standing.{Acts, acts_of}}
 use Rattle.lojarnek.specs.declared.error.Error.TheVariants as error
 use Rattle.lojarnek.proofs.{Comes.{err_came, named_here, ok_came, roots_kept, still_at}, Done.{done_lives, done_same}}
 use Rattle.lojarnek.proofs.Naming.{knows_kept, knows_set}
@@ -70,19 +70,19 @@ module _ (t t' : Acting) (before left to block : ℕ) (at : IsAtBlocks t) where
   still : (a : Result ℕ SendFault) → Called a → IsAtBlocks t'
   still a h = still_at t t' before left at (done_same (Done a) at.alive h.done) (done_lives a h.done) h.rests (send_queues (sending (me_of t.of t.account) to block) t.account.memo t'.account.memo _ _ a h.done.left_so)
 
-  denied : (f : SendFault) → Called (Err f) → Denies (Spent KeepsRoots) c c' (send_error f to)
-  denied (send.QueueFull w n) h = (send_full (me_of t.of t.account) to block t.account.memo t'.account.memo _ _ w n h.done.left_so, record { alive = done_lives (Err (send.QueueFull w n)) h.done; roots = kept (Err (send.QueueFull w n)) h })
+  denied : (f : SendFault) → Called (Err f) → Denies (WhyNotSent to block) c c' (send_error f to)
+  denied (send.QueueFull w n) h = (send_full (me_of t.of t.account) to block t.account.memo t'.account.memo _ _ w n h.done.left_so, record { alive = done_lives (Err (send.QueueFull w n)) h.done; roots = kept (Err (send.QueueFull w n)) h }, refl)
   denied (send.EraSpent e) h = ((send_spent (me_of t.of t.account) to block t.account.memo t'.account.memo _ _ e h.done.left_so, kept (Err (send.EraSpent e)) h), done_lives (Err (send.EraSpent e)) h.done)
-  denied (send.CountFull d n) h = (h.done.left_so.1, record { alive = done_lives (Err (send.CountFull d n)) h.done; roots = kept (Err (send.CountFull d n)) h })
+  denied (send.CountFull d n) h = (h.done.left_so.1, record { alive = done_lives (Err (send.CountFull d n)) h.done; roots = kept (Err (send.CountFull d n)) h }, h.done.left_so.2)
 
-  pub sent_came : (n : ℕ) (bs : List ℕ) → KnowsRoots t bs → Called (Ok n) → HasCome Did (Spent KeepsRoots) c c' bs (Ok tt)
+  pub sent_came : (n : ℕ) (bs : List ℕ) → KnowsRoots t bs → Called (Ok n) → HasCome Did (WhyNotSent to block) c c' bs (Ok tt)
   sent_came n bs knows h =
-      ok_came Did (Spent KeepsRoots) c c' bs tt (done_same (Done (Ok n)) at.alive h.done) (still (Ok n) h) (knows_kept t t' bs at.kind at.alive knows (kept (Ok n) h))
+      ok_came Did (WhyNotSent to block) c c' bs tt (done_same (Done (Ok n)) at.alive h.done) (still (Ok n) h) (knows_kept t t' bs at.kind at.alive knows (kept (Ok n) h))
       (ap (λ (x : Memo). x.sent) h.done.left_so.sent.rest, kept (Ok n) h)
 
-  pub unsent_came : (f : SendFault) (bs : List ℕ) → KnowsRoots t bs → Called (Err f) → HasCome Did (Spent KeepsRoots) c c' bs (Err (send_error f to))
+  pub unsent_came : (f : SendFault) (bs : List ℕ) → KnowsRoots t bs → Called (Err f) → HasCome Did (WhyNotSent to block) c c' bs (Err (send_error f to))
   unsent_came f bs knows h =
-      err_came Did (Spent KeepsRoots) c c' bs (send_error f to) (done_same (Done (Err f)) at.alive h.done) (still (Err f) h) (knows_kept t t' bs at.kind at.alive knows (kept (Err f) h)) (send_lives (Unit {0}) f to) (denied f h)
+      err_came Did (WhyNotSent to block) c c' bs (send_error f to) (done_same (Done (Err f)) at.alive h.done) (still (Err f) h) (knows_kept t t' bs at.kind at.alive knows (kept (Err f) h)) (send_lives (Unit {0}) f to) (denied f h)
 
 -- ---- a receive
 
@@ -147,9 +147,9 @@ module _ (t t' : Acting) (before left from : ℕ) (at : IsAtBlocks t) where
   others : (x : Made) → Received (Ok x) → OnlyRoot x.root d d'
   others x h j n = named_here t t' h.done.same.1 j ∙ take_others (me_of t.of t.account) from t.account.memo t'.account.memo _ _ x.block x.root h.done.left_so j n
 
-  pub received_came : (x : Made) (bs bs' : List ℕ) → KnowsRoots t bs → slice_index bs' x.root ≡ x.block → ((j : ℕ) → j ≢ x.root → slice_index bs' j ≡ slice_index bs j) → Received (Ok x) → HasCome Took (Spent KeepsNamed) d d' bs' (Ok (Some x.root))
+  pub received_came : (x : Made) (bs bs' : List ℕ) → KnowsRoots t bs → slice_index bs' x.root ≡ x.block → ((j : ℕ) → j ≢ x.root → slice_index bs' j ≡ slice_index bs j) → Received (Ok x) → HasCome Took WhyNotReceived d d' bs' (Ok (Some x.root))
   received_came x bs bs' knows at' others' h =
-      ok_came Took (Spent KeepsNamed) d d' bs' (Some x.root) (done_same (Done (Ok x)) at.alive h.done) (received_at (Ok x) h)
+      ok_came Took WhyNotReceived d d' bs' (Some x.root) (done_same (Done (Ok x)) at.alive h.done) (received_at (Ok x) h)
       (knows_set t t' bs bs' x.root x.block at.kind at.alive knows (here x h) (others x h) at' others')
       (record {
         rooted = record { low = h.done.left_so.look.peeked.low; empty = h.done.left_so.look.peeked.empty; least = h.done.left_so.look.peeked.before; named = refl; others = others x h };
@@ -157,23 +157,23 @@ module _ (t t' : Acting) (before left from : ℕ) (at : IsAtBlocks t) where
         received = take_received (me_of t.of t.account) from t.account.memo t'.account.memo _ _ x.block x.root h.done.left_so ∙ ap (lane_with t.account.memo.received from) (sym (here x h));
       })
 
-  pub none_came : (n : ℕ) (bs : List ℕ) → KnowsRoots t bs → Received (Err (peek.Empty n)) → HasCome Took (Spent KeepsNamed) d d' bs (Ok None)
+  pub none_came : (n : ℕ) (bs : List ℕ) → KnowsRoots t bs → Received (Err (peek.Empty n)) → HasCome Took WhyNotReceived d d' bs (Ok None)
   none_came n bs knows h =
       let same : KeepsRoots d d' = roots_kept t t' h.done.same.1 (λ k. ap (λ (x : Memo). root_word t.account.who x k) h.done.left_so.same) in
-      ok_came Took (Spent KeepsNamed) d d' bs None (done_same (Done (Err (peek.Empty n))) at.alive h.done) (received_at (Err (peek.Empty n)) h) (knows_kept t t' bs at.kind at.alive knows same)
+      ok_came Took WhyNotReceived d d' bs None (done_same (Done (Err (peek.Empty n))) at.alive h.done) (received_at (Err (peek.Empty n)) h) (knows_kept t t' bs at.kind at.alive knows same)
       (record { roots = same; received = ap (λ (x : Memo). x.received) h.done.left_so.same })
 
-  pub rootless_came : (bs : List ℕ) → KnowsRoots t bs → Received (Err peek.RootsFull) → HasCome Took (Spent KeepsNamed) d d' bs (Err error.RootsFull)
+  pub rootless_came : (bs : List ℕ) → KnowsRoots t bs → Received (Err peek.RootsFull) → HasCome Took WhyNotReceived d d' bs (Err error.RootsFull)
   rootless_came bs knows h =
       let same : KeepsRoots d d' = roots_kept t t' h.done.same.1 (λ k. h.done.left_so.2.untouched.own (Root t.account.who k) refl) in
-      err_came Took (Spent KeepsNamed) d d' bs error.RootsFull (done_same (Done (Err peek.RootsFull)) at.alive h.done) (received_at (Err peek.RootsFull) h) (knows_kept t t' bs at.kind at.alive knows same) refl
-      (h.done.left_so.3.1, record { alive = done_lives (Err peek.RootsFull) h.done; roots = same })
+      err_came Took WhyNotReceived d d' bs error.RootsFull (done_same (Done (Err peek.RootsFull)) at.alive h.done) (received_at (Err peek.RootsFull) h) (knows_kept t t' bs at.kind at.alive knows same) refl
+      (h.done.left_so.3.1, record { alive = done_lives (Err peek.RootsFull) h.done; roots = same }, tt)
 
-  pub counted_came : (b n : ℕ) (bs : List ℕ) → KnowsRoots t bs → Received (Err (peek.CountFull b n)) → HasCome Took (Spent KeepsNamed) d d' bs (Err (error.CountFull b n))
+  pub counted_came : (b n : ℕ) (bs : List ℕ) → KnowsRoots t bs → Received (Err (peek.CountFull b n)) → HasCome Took WhyNotReceived d d' bs (Err (error.CountFull b n))
   counted_came b n bs knows h =
       let same : KeepsRoots d d' = roots_kept t t' h.done.same.1 (λ k. h.done.left_so.1.untouched.own (Root t.account.who k) refl) in
-      err_came Took (Spent KeepsNamed) d d' bs (error.CountFull b n) (done_same (Done (Err (peek.CountFull b n))) at.alive h.done) (received_at (Err (peek.CountFull b n)) h) (knows_kept t t' bs at.kind at.alive knows same) refl
-      (h.done.left_so.2.1, record { alive = done_lives (Err (peek.CountFull b n)) h.done; roots = same })
+      err_came Took WhyNotReceived d d' bs (error.CountFull b n) (done_same (Done (Err (peek.CountFull b n))) at.alive h.done) (received_at (Err (peek.CountFull b n)) h) (knows_kept t t' bs at.kind at.alive knows same) refl
+      (h.done.left_so.2.1, record { alive = done_lives (Err (peek.CountFull b n)) h.done; roots = same }, tt)
 
   -- its eras are spent, as it was found, and each root that named a block names it
   pub received_spent : (e : ℕ) → Received (Err (peek.EraSpent e)) → IsSpent t.account.who e t'.account.memo × KeepsNamed d d'

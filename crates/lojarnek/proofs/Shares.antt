@@ -13,7 +13,7 @@ use Rattle.shm_ref.proofs.RootKeeps.{drop_queues, drop_roots, share_left}
 use Rattle.shm_queue.proofs.Queues.{other_root}
 use Rattle.shm_table.specs.Staying.{IsSpent}
 use Rattle.shm_pool.specs.{declared.reply.Reply.TheVariants.{Died, Done}, Called.HasCalled, Tokens.{Acting, me_of}}
-use Rattle.lojarnek.specs.Blocks.{Denies, HasCome, HasLearnt, IsRooted, KeepsRoots, OnlyRoot, Spent, names}
+use Rattle.lojarnek.specs.Blocks.{Denies, HasCome, HasLearnt, IsRooted, KeepsRoots, OnlyRoot, Spent, WhyNotShared, names}
 use Rattle.lojarnek.specs.{Refusing.{is_death, share_error}, Roots.{IsAtBlocks, KnowsRoots}, Standing.{Acts, acts_of}}
 use Rattle.lojarnek.specs.Tables.{SameClient}
 use Rattle.lojarnek.specs.declared.error.Error.TheVariants as error
@@ -57,10 +57,10 @@ module _ (t t' : Acting) (before left block : ℕ) (at : IsAtBlocks t) where
   shared_others root h j n = named_here t t' h.done.same.1 j ∙ share_others (me_of t.of t.account) block t.account.memo t'.account.memo _ _ root h.done.left_so j n
 
   pub shared_came : (root : ℕ) (bs bs' : List ℕ) → KnowsRoots t bs → slice_index bs' root ≡ block → ((j : ℕ) → j ≢ root → slice_index bs' j ≡ slice_index bs j)
-      → HasCalled rooting_parts rooting_plan (rooting (me_of t.of t.account) block) t t' before left (Done (Ok root)) → HasCome (λ (k : ℕ). IsRooted k block c c') (Spent KeepsRoots) c c' bs' (Ok root)
+      → HasCalled rooting_parts rooting_plan (rooting (me_of t.of t.account) block) t t' before left (Done (Ok root)) → HasCome (λ (k : ℕ). IsRooted k block c c') (WhyNotShared block) c c' bs' (Ok root)
   shared_came root bs bs' knows here others h =
       let same : SameClient c c' = done_same (Done (Ok root)) at.alive h.done in
-      ok_came (λ (k : ℕ). IsRooted k block c c') (Spent KeepsRoots) c c' bs' root same
+      ok_came (λ (k : ℕ). IsRooted k block c c') (WhyNotShared block) c c' bs' root same
       (still_at t t' before left at same (done_lives (Ok root) h.done) h.rests (share_left (me_of t.of t.account) block t.account.memo t'.account.memo _ _ (Ok root) h.done.left_so))
       (knows_set t t' bs bs' root block at.kind at.alive knows (shared_here root h) (shared_others root h) here others)
       (record { low = h.done.left_so.low; empty = h.done.left_so.empty; least = h.done.left_so.before; named = shared_here root h; others = shared_others root h })
@@ -68,16 +68,16 @@ module _ (t t' : Acting) (before left block : ℕ) (at : IsAtBlocks t) where
   shared_same : (f : ShareFault) → HasCalled rooting_parts rooting_plan (rooting (me_of t.of t.account) block) t t' before left (Done (Err f)) → KeepsRoots c c'
   shared_same f h = roots_kept t t' h.done.same.1 (share_same (me_of t.of t.account) block t.account.memo t'.account.memo _ _ f h.done.left_so)
 
-  shared_denied : (f : ShareFault) → HasCalled rooting_parts rooting_plan (rooting (me_of t.of t.account) block) t t' before left (Done (Err f)) → Denies (Spent KeepsRoots) c c' (share_error f)
+  shared_denied : (f : ShareFault) → HasCalled rooting_parts rooting_plan (rooting (me_of t.of t.account) block) t t' before left (Done (Err f)) → Denies (WhyNotShared block) c c' (share_error f)
   shared_denied (share.EraSpent e) h = ((share_spent (me_of t.of t.account) block t.account.memo t'.account.memo _ _ e h.done.left_so, shared_same (share.EraSpent e) h), done_lives (Err (share.EraSpent e)) h.done)
-  shared_denied share.RootsFull h = (h.done.left_so.all, record { alive = done_lives (Err share.RootsFull) h.done; roots = shared_same share.RootsFull h })
-  shared_denied (share.CountFull b n) h = (h.done.left_so.full, record { alive = done_lives (Err (share.CountFull b n)) h.done; roots = shared_same (share.CountFull b n) h })
+  shared_denied share.RootsFull h = (h.done.left_so.all, record { alive = done_lives (Err share.RootsFull) h.done; roots = shared_same share.RootsFull h }, tt)
+  shared_denied (share.CountFull b n) h = (h.done.left_so.full, record { alive = done_lives (Err (share.CountFull b n)) h.done; roots = shared_same (share.CountFull b n) h }, (h.done.left_so.block, h.done.left_so.read))
 
   pub unshared_came : (f : ShareFault) (bs : List ℕ) → KnowsRoots t bs
-      → HasCalled rooting_parts rooting_plan (rooting (me_of t.of t.account) block) t t' before left (Done (Err f)) → HasCome (λ (k : ℕ). IsRooted k block c c') (Spent KeepsRoots) c c' bs (Err (share_error f))
+      → HasCalled rooting_parts rooting_plan (rooting (me_of t.of t.account) block) t t' before left (Done (Err f)) → HasCome (λ (k : ℕ). IsRooted k block c c') (WhyNotShared block) c c' bs (Err (share_error f))
   unshared_came f bs knows h =
       let same : SameClient c c' = done_same (Done (Err f)) at.alive h.done in
-      err_came (λ (k : ℕ). IsRooted k block c c') (Spent KeepsRoots) c c' bs (share_error f) same
+      err_came (λ (k : ℕ). IsRooted k block c c') (WhyNotShared block) c c' bs (share_error f) same
       (still_at t t' before left at same (done_lives (Err f) h.done) h.rests (share_left (me_of t.of t.account) block t.account.memo t'.account.memo _ _ (Err f) h.done.left_so))
       (knows_kept t t' bs at.kind at.alive knows (shared_same f h)) (share_lives ℕ f) (shared_denied f h)
 
@@ -119,7 +119,7 @@ module _ (t t' : Acting) (before left root : ℕ) (at : IsAtBlocks t) where
     Dropped x = (names f root ≡ 0) × OnlyRoot root d f
 
     pub redropped_came : HasLearnt d' f bs (Done tt) → HasCome Dropped (Spent (OnlyRoot root)) d f bs (Err (error.EraSpent e.era))
-    redropped_came x = let s = dropped_spent e h in spent_learnt Dropped (OnlyRoot root) d d' f bs (done_same (Done (Err e)) at.alive h.done) e.era s.0 x (λ j n. learnt_roots d' f bs x j ∙ s.1 j n)
+    redropped_came x = let s = dropped_spent e h in spent_learnt Dropped (Spent (OnlyRoot root)) d d' f bs (done_same (Done (Err e)) at.alive h.done) e.era s.0 x (λ it. (it, λ j n. learnt_roots d' f bs x j ∙ s.1 j n))
 
     pub redropped_died : HasLearnt d' f bs Died → HasCome Dropped (Spent (OnlyRoot root)) d f bs (Err (error.Died false))
-    redropped_died x = spent_died Dropped (OnlyRoot root) d d' f bs (done_same (Done (Err e)) at.alive h.done) x
+    redropped_died x = spent_died Dropped (Spent (OnlyRoot root)) d d' f bs (done_same (Done (Err e)) at.alive h.done) x

@@ -11,8 +11,9 @@ use Rattle.shm_count.specs.{Roots.root_word, Tear.Memos.Knows, Waiting.LeavesQue
 use Rattle.shm_ref.specs.declared.answer.NoSuchWord.{NoSuchWord as Fault}
 use Rattle.shm_ref.specs.Read.{ReadLeaves, WasRead, read_plan, reading}
 use Rattle.shm_pool.specs.{declared.reply.Reply.TheVariants.Done, Called.HasCalled, Tokens.{Acting, Its, me_of}}
-use Rattle.lojarnek.specs.{declared.error.Error.TheVariants.NoSuchWord, Blocks.{HasCome, IsWord, KeepsRoots, Spent}}
-use Rattle.lojarnek.specs.{Roots.{IsAtBlocks, KnowsRoots}, Standing.{Acts, acts_of}}
+use Rattle.lojarnek.specs.declared.error.Error.TheVariants.{NoSuchWord}
+use Rattle.lojarnek.specs.{Blocks.{HasCome, IsWord, KeepsRoots, WhyNotRead}, Roots.{IsAtBlocks, KnowsRoots}}
+use Rattle.lojarnek.specs.Standing.{Acts, acts_of}
 use Rattle.lojarnek.proofs.{Comes.{err_came, ok_came, roots_kept, still_at}, Done.{done_lives, done_same}}
 use Rattle.lojarnek.proofs.Naming.{knows_kept}
 
@@ -80,12 +81,12 @@ module _ (t t' : Acting) (before left block word : ℕ) (at : IsAtBlocks t) wher
             (read_now (me_of t.of t.account) block word t.account.memo t'.account.memo _ _ v h.done.left_so);
       }
 
-  pub read_came : (v : ℕ) (bs : List ℕ) → KnowsRoots t bs → Called (Ok v) → HasCome (λ (x : ℕ). IsWord block word x c c' × KeepsRoots c c') (Spent KeepsRoots) c c' bs (Ok v)
+  pub read_came : (v : ℕ) (bs : List ℕ) → KnowsRoots t bs → Called (Ok v) → HasCome (λ (x : ℕ). IsWord block word x c c' × KeepsRoots c c') (WhyNotRead word) c c' bs (Ok v)
   read_came v bs knows h =
-      ok_came (λ (x : ℕ). IsWord block word x c c' × KeepsRoots c c') (Spent KeepsRoots) c c' bs v (done_same (Done (Ok v)) at.alive h.done) (still (Ok v) h)
+      ok_came (λ (x : ℕ). IsWord block word x c c' × KeepsRoots c c') (WhyNotRead word) c c' bs v (done_same (Done (Ok v)) at.alive h.done) (still (Ok v) h)
       (knows_kept t t' bs at.kind at.alive knows (kept (Ok v) h)) (is_word v h, kept (Ok v) h)
 
-  pub unread_came : (e : Fault) (bs : List ℕ) → KnowsRoots t bs → Called (Err e) → HasCome (λ (x : ℕ). IsWord block word x c c' × KeepsRoots c c') (Spent KeepsRoots) c c' bs (Err (NoSuchWord word e.plain))
+  pub unread_came : (e : Fault) (bs : List ℕ) → KnowsRoots t bs → Called (Err e) → HasCome (λ (x : ℕ). IsWord block word x c c' × KeepsRoots c c') (WhyNotRead word) c c' bs (Err (NoSuchWord word e.plain))
   unread_came e bs knows h =
-      err_came (λ (x : ℕ). IsWord block word x c c' × KeepsRoots c c') (Spent KeepsRoots) c c' bs (NoSuchWord word e.plain) (done_same (Done (Err e)) at.alive h.done) (still (Err e) h)
-      (knows_kept t t' bs at.kind at.alive knows (kept (Err e) h)) refl (h.done.left_so.high, record { alive = done_lives (Err e) h.done; roots = kept (Err e) h })
+      err_came (λ (x : ℕ). IsWord block word x c c' × KeepsRoots c c') (WhyNotRead word) c c' bs (NoSuchWord word e.plain) (done_same (Done (Err e)) at.alive h.done) (still (Err e) h)
+      (knows_kept t t' bs at.kind at.alive knows (kept (Err e) h)) refl (h.done.left_so.high, record { alive = done_lives (Err e) h.done; roots = kept (Err e) h }, refl)

@@ -2,7 +2,7 @@
 use Rattle.std.specs.Prelude.{◌≡◌, ◌≢◌, ℕ, ◌+◌, ◌<◌, ◌≤◌, ◌⊎◌, ◌==◌, true, false, nat_le, if◌then◌else◌, List, length, slice_index, Option, Some, None, Result, MatchResult}
 use Rattle.shm_words.specs.Tags.{tag_plain, tag_refs}
 use Rattle.shm_graph.specs.{declared.spot.Spot.TheVariants.{Body, Tag, Tail}, Core.core, Views.own_word}
-use Rattle.shm_count.specs.Tear.Memos.{Knows}
+use Rattle.shm_count.specs.{Refusing.ReadsCount, Tear.Memos.Knows}
 use Rattle.shm_table.specs.Staying.{IsSpent}
 use Rattle.shm_pool.specs.declared.reply.Reply.{Reply}
 use Rattle.shm_pool.specs.declared.reply.Reply.TheVariants as reply
@@ -120,37 +120,55 @@ pub record IsRefusedFirst (w : Option Error) (c : Acts) (e : Error) : Type 0 whe
   pub is : (w ≡ Some e) ⊎ ((w ≡ None) × (c.token.dead ≡ true) × (e ≡ Died false))
   pub why : IsWrongOn c e
 
--- the own era e leaves no room for a count step, and `left` says what stays of the roots
-abbrev pub Spent : (Acts → Acts → Type 0) → ℕ → Acts → Acts → Type 0
-Spent left e c c' = IsSpent c.token.account.who e c'.token.account.memo × left c c'
+-- Why a call is refused that takes references away: the own era e leaves no room for a count step, and `left` says what stays of the roots
+abbrev pub Spent : (Acts → Acts → Type 0) → Error → Acts → Acts → Type 0
+Spent left (EraSpent e) c c' = IsSpent c.token.account.who e c'.token.account.memo × left c c'
+Spent left e c c' = ⊥
+
+-- why an allocation is: that, or all roots name blocks, or no block is free
+abbrev pub WhyNotMade : Error → Acts → Acts → Type 0
+WhyNotMade RootsFull c c' = Unit {0}
+WhyNotMade (Full s b) c c' = Unit {0}
+WhyNotMade e c c' = Spent KeepsRoots e c c'
+
+-- Why the block b gets no other root: that, or all roots name blocks, or a header of the block was read that shows its count to be as great as it can be
+abbrev pub WhyNotShared : ℕ → Error → Acts → Acts → Type 0
+WhyNotShared b RootsFull c c' = Unit {0}
+WhyNotShared b (CountFull d n) c c' = (d ≡ b) × ReadsCount d n c'.token.account.memo.call
+WhyNotShared b e c c' = Spent KeepsRoots e c c'
+
+-- why plain word j isn't read: the block has none
+abbrev pub WhyNotRead : ℕ → Error → Acts → Acts → Type 0
+WhyNotRead j (NoSuchWord i n) c c' = i ≡ j
+WhyNotRead j e c c' = ⊥
 
 -- the client lives, and its roots name what they named
 pub record StandsOn (c c' : Acts) : Type 0 where
   pub alive : c'.token.dead ≡ false
   pub roots : KeepsRoots c c'
 
--- Why a call on blocks was refused. Refused before its first word step it changed nothing; after any other refusal but for want of eras the client lives, and its roots name what they named; `spent` says what is so where its eras are spent
-abbrev pub Denies : (ℕ → Acts → Acts → Type 0) → Acts → Acts → Error → Type 0
-Denies spent c c' (Died d) = IsDeadNow c c'
-Denies spent c c' (EraSpent e) = spent e c c' × (c'.token.dead ≡ false)
-Denies spent c c' RootsFull = ((k : ℕ) → k < 16 → names c k ≢ 0) × StandsOn c c'
-Denies spent c c' (Full s b) = ((k : ℕ) × (k < 16) × (names c k ≡ 0)) × StandsOn c c'
-Denies spent c c' (CountFull b n) = (n ≡ 1023) × StandsOn c c'
-Denies spent c c' (QueueFull to) = (8 ≤ own_word c.token.account.memo.own (Tail c.token.account.who to)) × StandsOn c c'
-Denies spent c c' (NoSuchWord j n) = (n ≤ j) × StandsOn c c'
-Denies spent c c' (NotAuthor a) = (a ≢ c.token.account.who) × StandsOn c c'
-Denies spent c c' (WrongAuthor a) = StandsOn c c'
-Denies spent c c' e = IsWrongOn c e × (c' ≡ c)
+-- Why a call on blocks was refused. Refused before its first word step it changed nothing; after any other refusal but for want of eras the client lives, and its roots name what they named; `why` says which refusals the call has, and what else is so
+abbrev pub Denies : (Error → Acts → Acts → Type 0) → Acts → Acts → Error → Type 0
+Denies why c c' (Died d) = IsDeadNow c c'
+Denies why c c' (EraSpent e) = why (EraSpent e) c c' × (c'.token.dead ≡ false)
+Denies why c c' RootsFull = ((k : ℕ) → k < 16 → names c k ≢ 0) × StandsOn c c' × why RootsFull c c'
+Denies why c c' (Full s b) = ((k : ℕ) × (k < 16) × (names c k ≡ 0)) × StandsOn c c' × why (Full s b) c c'
+Denies why c c' (CountFull b n) = (n ≡ 1023) × StandsOn c c' × why (CountFull b n) c c'
+Denies why c c' (QueueFull to) = (8 ≤ own_word c.token.account.memo.own (Tail c.token.account.who to)) × StandsOn c c' × why (QueueFull to) c c'
+Denies why c c' (NoSuchWord j n) = (n ≤ j) × StandsOn c c' × why (NoSuchWord j n) c c'
+Denies why c c' (NotAuthor a) = (a ≢ c.token.account.who) × StandsOn c c' × why (NotAuthor a) c c'
+Denies why c c' (WrongAuthor a) = StandsOn c c' × why (WrongAuthor a) c c'
+Denies why c c' e = IsWrongOn c e × (c' ≡ c)
 
 -- ---- a call of a client that lived
 
 -- It is the same client and ready for a call, and these are what its roots name. It is dead where it was answered so; `did` holds of any other answer, or it was refused
-pub record HasCome {T : Type 0} (did : T → Type 0) (spent : ℕ → Acts → Acts → Type 0) (c c' : Acts) (bs : List ℕ) (r : Result T Error) : Type 0 where
+pub record HasCome {T : Type 0} (did : T → Type 0) (why : Error → Acts → Acts → Type 0) (c c' : Acts) (bs : List ℕ) (r : Result T Error) : Type 0 where
   pub same : SameClient c c'
   pub ready : IsReadyForCall c'.token
   pub knows : KnowsRoots c'.token bs
   pub dead : c'.token.dead ≡ is_death r
-  pub done : MatchResult r did (Denies spent c c')
+  pub done : MatchResult r did (Denies why c c')
 
 -- it is the same client, which died: it is dead, and its budget is used up
 abbrev pub HasEnded : Acts → Acts → Type 0

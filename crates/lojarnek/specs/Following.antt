@@ -17,32 +17,45 @@ Follows b j None c c' = KeepsRoots c c' × ((d : ℕ) → KnowsReference b j d c
 abbrev pub follow_wrong : Acts → ℕ → ℕ → ℕ → Option Error
 follow_wrong c a k j = first_of (kind_wrong c) (first_of (unknown_of c a) (word_wrong 16 Reference c k j))
 
--- why it wasn't followed under a latch
-abbrev pub WhyUnfollowed : Acts → Error → Type 0
-WhyUnfollowed c (NoSuchWord j n) = n ≤ j
-WhyUnfollowed c (WrongAuthor a) = Unit {0}
-WhyUnfollowed c (EraSpent e) = 2 ^ 47 - 4 < e
-WhyUnfollowed c RootsFull = (k : ℕ) → k < 16 → names c k ≢ 0
-WhyUnfollowed c (CountFull b n) = n ≡ 1023
-WhyUnfollowed c e = ⊥
+-- Why reference word j of a block isn't followed that client a made: the block has none, or the client isn't its author, or the eras are spent and the roots name what they named, or all of them name blocks, or the count of the block that it names is as great as it can be
+abbrev pub WhyNotFollowed : ℕ → ℕ → Error → Acts → Acts → Type 0
+WhyNotFollowed a j (NoSuchWord i n) c c' = i ≡ j
+WhyNotFollowed a j (WrongAuthor x) c c' = x ≡ a
+WhyNotFollowed a j (EraSpent e) c c' = (2 ^ 47 - 4 < e) × KeepsRoots c c'
+WhyNotFollowed a j RootsFull c c' = Unit {0}
+WhyNotFollowed a j (CountFull b n) c c' = Unit {0}
+WhyNotFollowed a j e c c' = ⊥
+
+-- why a block got no root under a latch
+abbrev pub WhyUnrooted : Acts → Error → Type 0
+WhyUnrooted c (EraSpent e) = 2 ^ 47 - 4 < e
+WhyUnrooted c RootsFull = (k : ℕ) → k < 16 → names c k ≢ 0
+WhyUnrooted c (CountFull b n) = n ≡ 1023
+WhyUnrooted c e = ⊥
+
+-- and why reference word j of a block wasn't followed under the latch of a
+abbrev pub WhyUnfollowed : ℕ → ℕ → Acts → Error → Type 0
+WhyUnfollowed a j c (NoSuchWord i n) = (n ≤ i) × (i ≡ j)
+WhyUnfollowed a j c (WrongAuthor x) = x ≡ a
+WhyUnfollowed a j c e = WhyUnrooted c e
 
 -- While it holds the latch of a, the client looked at reference word j of the block b, and the block d that it names is in reach, and what the client knew of the word if it did; or it was refused, or it died
 abbrev pub HasLooked : ℕ → ℕ → ℕ → Acts → Acts → Reply (Result ℕ Error) → Type 0
 HasLooked a b j c c' (Done r) =
     SameClient c c' × IsHolding a c'.token × KeepsRoots c c'
-    × MatchResult r (λ d. (d ≢ 0 → is_reached c'.token.account.who c'.token.account.memo d ≡ true) × ((x : ℕ) → KnowsReference b j x c → d ≡ x)) (WhyUnfollowed c)
+    × MatchResult r (λ d. (d ≢ 0 → is_reached c'.token.account.who c'.token.account.memo d ≡ true) × ((x : ℕ) → KnowsReference b j x c → d ≡ x)) (WhyUnfollowed a j c)
 HasLooked a b j c c' Died = HasEnded c c'
 
 -- so it gave the block b a root; or it was refused, or it died
 abbrev pub HasRooted : ℕ → ℕ → Acts → Acts → List ℕ → Reply (Result ℕ Error) → Type 0
 HasRooted a b c c' bs (Done r) =
     SameClient c c' × IsHolding a c'.token × ((k : ℕ) → k < 16 → account_root c'.token.account k ≡ slice_index bs k)
-    × MatchResult r (λ k. IsRooted k b c c') (λ e. WhyUnfollowed c e × KeepsRoots c c')
+    × MatchResult r (λ k. IsRooted k b c c') (λ e. WhyUnrooted c e × KeepsRoots c c')
 HasRooted a b c c' bs Died = HasEnded c c'
 
 -- While it holds the latch of a, the client followed reference word j of the block b, or was refused, and these are what its roots name; or it died
 abbrev pub HasFollowed : ℕ → ℕ → ℕ → Acts → Acts → List ℕ → Reply (Result (Option ℕ) Error) → Type 0
 HasFollowed a b j c c' bs (Done r) =
     SameClient c c' × IsHolding a c'.token × ((k : ℕ) → k < 16 → account_root c'.token.account k ≡ slice_index bs k)
-    × MatchResult r (λ o. Follows b j o c c') (λ e. WhyUnfollowed c e × KeepsRoots c c')
+    × MatchResult r (λ o. Follows b j o c c') (λ e. WhyUnfollowed a j c e × KeepsRoots c c')
 HasFollowed a b j c c' bs Died = HasEnded c c'

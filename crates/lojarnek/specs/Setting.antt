@@ -5,7 +5,8 @@ use Rattle.shm_count.specs.Tear.Memos.{Knows}
 use Rattle.shm_ref.specs.declared.answer.SetFault.{SetFault}
 use Rattle.shm_ref.specs.declared.answer.SetFault.TheVariants as set
 use Rattle.shm_pool.specs.declared.reply.Reply.{Reply, TheVariants.{Died, Done}}
-use Rattle.lojarnek.specs.declared.error.{Error.Error, Bound.TheVariants.Reference}
+use Rattle.lojarnek.specs.declared.error.Error.{Error, TheVariants.{CountFull, EraSpent, NoSuchWord, NotAuthor}}
+use Rattle.lojarnek.specs.declared.error.Bound.TheVariants.{Reference}
 use Rattle.lojarnek.specs.Blocks.{HasEnded, KeepsRoots, first_of, root_wrong, word_wrong}
 use Rattle.lojarnek.specs.{Roots.{IsAtBlocks, IsHolding, IsNamed}, Standing.Acts, Tables.SameClient}
 
@@ -13,9 +14,13 @@ use Rattle.lojarnek.specs.{Roots.{IsAtBlocks, IsHolding, IsNamed}, Standing.Acts
 abbrev pub KnowsReference : ℕ → ℕ → ℕ → Acts → Type 0
 KnowsReference b j d c = Knows c.token.account.memo (Body b j) d
 
--- its eras are spent, and its roots name what they named
-abbrev pub SpentSet : ℕ → Acts → Acts → Type 0
-SpentSet e c c' = (2 ^ 47 - 4 < e) × KeepsRoots c c'
+-- Why reference word j isn't set to name the block d, or none where that is 0: the block has none, or isn't the client's, or its eras are spent and its roots name what they named, or the count of d is as great as it can be
+abbrev pub WhyNotSet : ℕ → ℕ → Error → Acts → Acts → Type 0
+WhyNotSet j d (NoSuchWord i n) c c' = i ≡ j
+WhyNotSet j d (NotAuthor a) c c' = Unit {0}
+WhyNotSet j d (EraSpent e) c c' = (2 ^ 47 - 4 < e) × KeepsRoots c c'
+WhyNotSet j d (CountFull b n) c c' = (b ≡ d) × (d ≢ 0)
+WhyNotSet j d e c c' = ⊥
 
 -- what is wrong with setting reference word j of the block that root k names to the one that root d names, which is tested of a client that lives
 abbrev pub set_wrong : Acts → ℕ → ℕ → ℕ → Option Error
@@ -38,15 +43,15 @@ HasGiven c c' Died = HasEnded c c'
 -- ---- a word that is set under the own latch
 
 -- why it wasn't set
-abbrev pub WhyUnset : ℕ → ℕ → SetFault → Type 0
-WhyUnset c j (set.NotAuthor a) = a ≢ c
-WhyUnset c j (set.NoSuchRef n) = n ≤ j
-WhyUnset c j set.NotHeld = ⊥
-WhyUnset c j (set.EraSpent e) = 2 ^ 47 - 4 < e
-WhyUnset c j (set.CountFull b n) = n ≡ 1023
+abbrev pub WhyUnset : ℕ → ℕ → ℕ → SetFault → Type 0
+WhyUnset c j d (set.NotAuthor a) = a ≢ c
+WhyUnset c j d (set.NoSuchRef n) = n ≤ j
+WhyUnset c j d set.NotHeld = ⊥
+WhyUnset c j d (set.EraSpent e) = 2 ^ 47 - 4 < e
+WhyUnset c j d (set.CountFull b n) = (b ≡ d) × (d ≢ 0) × (n ≡ 1023)
 
 abbrev pub HasSet : ℕ → ℕ → ℕ → Acts → Acts → Reply (Result (Unit {0}) SetFault) → Type 0
 HasSet b j d c c' (Done r) =
     SameClient c c' × IsHolding c.token.account.who c'.token × KeepsRoots c c'
-    × MatchResult r (λ u. KnowsReference b j d c') (WhyUnset c.token.account.who j)
+    × MatchResult r (λ u. KnowsReference b j d c') (WhyUnset c.token.account.who j d)
 HasSet b j d c c' Died = HasEnded c c'

@@ -3,7 +3,7 @@
 
 ghost use Rattle.std.specs.Prelude.{◌≡◌, ◌≢◌, ◌<◌, ◌≤◌, ◌⊎◌, List, ℕ, None, length, IfErr, IfOk};
 ghost use Rattle.shm_pool.specs.Tokens.{Acting};
-ghost use Rattle.lojarnek.specs.Blocks.{Denies, HasCome, IsBeyond, IsBlockOf, IsMade, IsRefusedFirst, IsRooted, IsWord, KeepsRoots, OnlyRoot, Spent, alloc_wrong, names, root_wrong, word_wrong};
+ghost use Rattle.lojarnek.specs.Blocks.{Denies, HasCome, IsBeyond, IsBlockOf, IsMade, IsRefusedFirst, IsRooted, IsWord, KeepsRoots, OnlyRoot, Spent, WhyNotMade, WhyNotRead, WhyNotShared, alloc_wrong, names, root_wrong, word_wrong};
 ghost use Rattle.lojarnek.specs.{Roots.{IsAtBlocks, IsNamed, KnowsRoots}, Standing.acts_of};
 ghost use Rattle.lojarnek.specs.Tables.{SameClient, WasTested};
 
@@ -19,6 +19,7 @@ use shm_pool::{Reply, SharedPool};
 use shm_ref::NoSuchWord;
 
 /// Has the least empty root name a new block.
+#[inline(always)]
 fn make(
     token: &mut shm_pool::Client,
     roots: &mut Roots,
@@ -32,7 +33,7 @@ fn make(
     requires at { IsAtBlocks token.old }
     requires knows { KnowsRoots token.old roots.old.named }
     requires sizes { (refs ≤ 16) × (length plain.now ≤ 8) }
-    ensures { HasCome (λ x. IsMade plain.now x.root (acts_of token.old life.old.left) (acts_of token.new life.new.left)) (Spent KeepsRoots) (acts_of token.old life.old.left) (acts_of token.new life.new.left) roots.new.named result }
+    ensures { HasCome (λ x. IsMade plain.now x.root (acts_of token.old life.old.left) (acts_of token.new life.new.left)) WhyNotMade (acts_of token.old life.old.left) (acts_of token.new life.new.left) roots.new.named result }
 {
     match token.alloc_near(pool, life, refs, plain, near) {
         Ok(Reply::Done(Ok(made))) => {
@@ -46,6 +47,7 @@ fn make(
 }
 
 /// Has the least empty root name a block that another one names.
+#[inline(always)]
 pub(crate) fn share(
     token: &mut shm_pool::Client,
     roots: &mut Roots,
@@ -57,7 +59,7 @@ pub(crate) fn share(
     requires at { IsAtBlocks token.old }
     requires knows { KnowsRoots token.old roots.old.named }
     requires block { IsNamed block token.old }
-    ensures { HasCome (λ k. IsRooted k block (acts_of token.old life.old.left) (acts_of token.new life.new.left)) (Spent KeepsRoots) (acts_of token.old life.old.left) (acts_of token.new life.new.left) roots.new.named result }
+    ensures { HasCome (λ k. IsRooted k block (acts_of token.old life.old.left) (acts_of token.new life.new.left)) (WhyNotShared block) (acts_of token.old life.old.left) (acts_of token.new life.new.left) roots.new.named result }
 {
     match token.share(pool, life, block) {
         Reply::Done(Ok(root)) => {
@@ -70,6 +72,7 @@ pub(crate) fn share(
 }
 
 /// A plain word of a block.
+#[inline(always)]
 fn read(
     token: &mut shm_pool::Client,
     pool: &SharedPool,
@@ -80,7 +83,7 @@ fn read(
     requires pool { token.old.of ≡ pool.now }
     requires at { IsAtBlocks token.old }
     requires block { IsNamed block token.old }
-    ensures { (bs : List ℕ) → KnowsRoots token.old bs → HasCome (λ v. IsWord block word v (acts_of token.old life.old.left) (acts_of token.new life.new.left) × KeepsRoots (acts_of token.old life.old.left) (acts_of token.new life.new.left)) (Spent KeepsRoots) (acts_of token.old life.old.left) (acts_of token.new life.new.left) bs result }
+    ensures { (bs : List ℕ) → KnowsRoots token.old bs → HasCome (λ v. IsWord block word v (acts_of token.old life.old.left) (acts_of token.new life.new.left) × KeepsRoots (acts_of token.old life.old.left) (acts_of token.new life.new.left)) (WhyNotRead word) (acts_of token.old life.old.left) (acts_of token.new life.new.left) bs result }
 {
     match token.read(pool, life, block, word) {
         Reply::Done(Ok(value)) => Ok(value),
@@ -90,6 +93,7 @@ fn read(
 }
 
 /// Makes a root empty. Where the client's eras are spent in that, it reads all its roots again.
+#[inline(always)]
 fn empty(
     token: &mut shm_pool::Client,
     roots: &mut Roots,
@@ -118,6 +122,7 @@ fn empty(
 
 impl Client<'_> {
     /// The block that a root names, where a call on it may be made.
+    #[inline(always)]
     pub(crate) fn block_of(&self, root: u8) -> Result<u32, Error>
         ensures ok { IfOk result (λ b. IsBlockOf root b self.now × (root_wrong self.now root ≡ None)) }
         ensures err { IfErr result (IsRefusedFirst (root_wrong self.now root) self.now) }
@@ -190,7 +195,7 @@ impl Client<'_> {
     fn make(&mut self, refs: u8, plain: &[u64], near: Near) -> Result<Made, Error>
         ensures tested { WasTested (alloc_wrong self.old refs (length plain.now)) self.old self.new result }
         ensures made { IfOk result (λ x. IsMade plain.now x.root self.old self.new) }
-        ensures refused { IfErr result (Denies (Spent KeepsRoots) self.old self.new) }
+        ensures refused { IfErr result (Denies WhyNotMade self.old self.new) }
         ensures stays { SameClient self.old self.new }
     {
         self.may_make(refs, plain.len())?;
@@ -215,7 +220,7 @@ impl Client<'_> {
     pub fn alloc(&mut self, refs: u8, plain: &[u64]) -> Result<u8, Error>
         ensures tested { WasTested (alloc_wrong self.old refs (length plain.now)) self.old self.new result }
         ensures made { IfOk result (λ k. IsMade plain.now k self.old self.new) }
-        ensures refused { IfErr result (Denies (Spent KeepsRoots) self.old self.new) }
+        ensures refused { IfErr result (Denies WhyNotMade self.old self.new) }
         ensures stays { SameClient self.old self.new }
     {
         let first = Near {
@@ -237,7 +242,7 @@ impl Client<'_> {
     pub fn alloc_near(&mut self, refs: u8, plain: &[u64], hint: &mut Hint) -> Result<u8, Error>
         ensures tested { WasTested (alloc_wrong self.old refs (length plain.now)) self.old self.new result }
         ensures made { IfOk result (λ k. IsMade plain.now k self.old self.new) }
-        ensures refused { IfErr result (Denies (Spent KeepsRoots) self.old self.new) }
+        ensures refused { IfErr result (Denies WhyNotMade self.old self.new) }
         ensures stays { SameClient self.old self.new }
     {
         match self.make(refs, plain, hint.near()) {
@@ -280,7 +285,7 @@ impl Client<'_> {
     pub fn share(&mut self, root: u8) -> Result<u8, Error>
         ensures tested { WasTested (root_wrong self.old root) self.old self.new result }
         ensures shared { IfOk result (λ k. IsRooted k (names self.old root) self.old self.new) }
-        ensures refused { IfErr result (Denies (Spent KeepsRoots) self.old self.new) }
+        ensures refused { IfErr result (Denies (WhyNotShared (names self.old root)) self.old self.new) }
         ensures stays { SameClient self.old self.new }
     {
         let block = self.block_of(root)?;
@@ -304,7 +309,7 @@ impl Client<'_> {
         ensures tested { WasTested (word_wrong 8 Bound.Plain self.old root word) self.old self.new result }
         ensures found { IfOk result (λ v. IsWord (names self.old root) word v self.old self.new) }
         ensures roots { IfOk result (λ v. KeepsRoots self.old self.new) }
-        ensures refused { IfErr result (Denies (Spent KeepsRoots) self.old self.new) }
+        ensures refused { IfErr result (Denies (WhyNotRead word) self.old self.new) }
         ensures stays { SameClient self.old self.new }
     {
         let block = self.block_with(root, word, 8, Bound::Plain)?;

@@ -8,6 +8,7 @@ use shm_graph::Life;
 use shm_pool::{Reply, SharedPool};
 
 /// Reads what each root names, in 16 word steps.
+#[inline(never)]
 pub(crate) fn learn(
     token: &mut shm_pool::Client,
     roots: &mut Roots,

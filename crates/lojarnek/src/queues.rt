@@ -1,8 +1,8 @@
 //! Calls on queues of blocks. Each client has a queue to each other one, in which up to eight blocks wait.
 
 ghost use Rattle.std.specs.Prelude.{◌≡◌, ◌≢◌, ◌<◌, List, ℕ, None, Some, IfErr, IfOk};
-ghost use Rattle.lojarnek.specs.Blocks.{Denies, HasCome, IsRefusedFirst, IsWrongOn, KeepsNamed, KeepsRoots, Spent, kind_wrong, names, queue_wrong};
-ghost use Rattle.lojarnek.specs.Passing.{SendsBlock, Takes, TakesAll, send_wrong};
+ghost use Rattle.lojarnek.specs.Blocks.{Denies, HasCome, IsRefusedFirst, IsWrongOn, KeepsRoots, Spent, kind_wrong, names, queue_wrong};
+ghost use Rattle.lojarnek.specs.Passing.{SendsBlock, Takes, TakesAll, WhyNotReceived, WhyNotSent, send_wrong};
 ghost use Rattle.lojarnek.specs.{Roots.{IsAtBlocks, IsNamed, KnowsRoots}, Standing.acts_of};
 ghost use Rattle.lojarnek.specs.Tables.{SameClient, WasTested};
 
@@ -28,7 +28,7 @@ fn send(
     requires at { IsAtBlocks token.old }
     requires to { (to < token.old.of.start.geometry.clients) × (to ≢ token.old.account.who) }
     requires block { IsNamed block token.old }
-    ensures { (bs : List ℕ) → KnowsRoots token.old bs → HasCome (λ u. SendsBlock to block (acts_of token.old life.old.left) (acts_of token.new life.new.left) × KeepsRoots (acts_of token.old life.old.left) (acts_of token.new life.new.left)) (Spent KeepsRoots) (acts_of token.old life.old.left) (acts_of token.new life.new.left) bs result }
+    ensures { (bs : List ℕ) → KnowsRoots token.old bs → HasCome (λ u. SendsBlock to block (acts_of token.old life.old.left) (acts_of token.new life.new.left) × KeepsRoots (acts_of token.old life.old.left) (acts_of token.new life.new.left)) (WhyNotSent to block) (acts_of token.old life.old.left) (acts_of token.new life.new.left) bs result }
 {
     // for the proof: its account stood
     token.client();
@@ -51,7 +51,7 @@ fn receive(
     requires at { IsAtBlocks token.old }
     requires knows { KnowsRoots token.old roots.old.named }
     requires from { (from < token.old.of.start.geometry.clients) × (from ≢ token.old.account.who) }
-    ensures { HasCome (λ o. Takes from o (acts_of token.old life.old.left) (acts_of token.new life.new.left)) (Spent KeepsNamed) (acts_of token.old life.old.left) (acts_of token.new life.new.left) roots.new.named result }
+    ensures { HasCome (λ o. Takes from o (acts_of token.old life.old.left) (acts_of token.new life.new.left)) WhyNotReceived (acts_of token.old life.old.left) (acts_of token.new life.new.left) roots.new.named result }
 {
     match token.receive(pool, life, from) {
         Reply::Done(Ok(made)) => {
@@ -123,7 +123,7 @@ impl Client<'_> {
         ensures tested { WasTested (send_wrong self.old to root) self.old self.new result }
         ensures sent { IfOk result (λ u. SendsBlock to (names self.old root) self.old self.new) }
         ensures roots { IfOk result (λ u. KeepsRoots self.old self.new) }
-        ensures refused { IfErr result (Denies (Spent KeepsRoots) self.old self.new) }
+        ensures refused { IfErr result (Denies (WhyNotSent to (names self.old root)) self.old self.new) }
         ensures stays { SameClient self.old self.new }
     {
         self.may_pass(to)?;
@@ -142,7 +142,7 @@ impl Client<'_> {
     pub fn receive(&mut self, from: u8) -> Result<Option<u8>, Error>
         ensures tested { WasTested (queue_wrong self.old from) self.old self.new result }
         ensures received { IfOk result (λ o. Takes from o self.old self.new) }
-        ensures refused { IfErr result (Denies (Spent KeepsNamed) self.old self.new) }
+        ensures refused { IfErr result (Denies WhyNotReceived self.old self.new) }
         ensures stays { SameClient self.old self.new }
     {
         self.may_pass(from)?;

@@ -14,6 +14,7 @@ use shm_pool::{Reply, SharedPool};
 use shm_script::{Answer, Line};
 
 /// Whether this answer, which the command of a line was going to give, says that it took effect.
+#[inline(never)]
 fn had_effect(line: &Line, effect: Option<Answer>) -> bool
     ensures { result ≡ had_effect line.now effect }
 {
@@ -27,6 +28,7 @@ fn had_effect(line: &Line, effect: Option<Answer>) -> bool
 
 impl Client<'_> {
     /// What is wrong with the call of a line: whether the pool is for tables is tested, and the clients that it names.
+    #[inline(always)]
     fn wrong(&self, line: &Line) -> Option<Error>
         ensures is { result ≡ wrong_of self.now line.now }
         ensures why { IfSome result (IsWrong self.now) }
@@ -45,6 +47,7 @@ impl Client<'_> {
     }
 
     /// Tests the number of a client.
+    #[inline(always)]
     pub(crate) fn unknown(&self, client: u8) -> Option<Error>
         ensures is { result ≡ unknown_of self.now client }
         ensures why { IfSome result (IsWrong self.now) }
@@ -58,6 +61,7 @@ impl Client<'_> {
     }
 
     /// Tests whether it is the number of another client.
+    #[inline(always)]
     pub(crate) fn no_peer(&self, client: u8) -> Option<Error>
         ensures is { result ≡ (if client == self.now.token.account.who then Some (Error.ToItself client) else unknown_of self.now client) }
         ensures why { IfSome result (IsWrong self.now) }
@@ -71,6 +75,7 @@ impl Client<'_> {
     }
 
     /// Runs the command of a line.
+    #[inline(always)]
     pub(crate) fn run(&mut self, line: &Line) -> Result<Answer, Error>
         requires { KeysFit line.now }
         ensures tested { WasTested (wrong_of self.old line.now) self.old self.new result }
@@ -86,6 +91,7 @@ impl Client<'_> {
     }
 
     /// Runs the command of a line with which nothing is wrong, by a client that lives.
+    #[inline(always)]
     fn command(&mut self, line: &Line) -> Result<Answer, Error>
         requires may { MayBeRun self.old }
         requires right { wrong_of self.old line.now ≡ None }
@@ -106,6 +112,7 @@ impl Client<'_> {
 }
 
 /// Runs the command of a line by a client that is ready for it.
+#[inline(always)]
 fn carry(
     token: &mut shm_pool::Client,
     pool: &SharedPool,

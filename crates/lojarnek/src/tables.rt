@@ -23,6 +23,7 @@ fn refusal(answer: Answer, to: u8) -> Error
 }
 
 /// Whether a number was stored.
+#[inline(always)]
 fn stored(answer: Answer) -> Result<(), Error>
     ensures { result ≡ stored_of answer }
 {
@@ -33,6 +34,7 @@ fn stored(answer: Answer) -> Result<(), Error>
 }
 
 /// The number that was found.
+#[inline(always)]
 fn found(answer: Answer) -> Result<Option<u64>, Error>
     ensures { result ≡ found_of answer }
 {
@@ -44,6 +46,7 @@ fn found(answer: Answer) -> Result<Option<u64>, Error>
 }
 
 /// Whether the key was there.
+#[inline(always)]
 fn was_there(answer: Answer, to: u8) -> Result<bool, Error>
     ensures { result ≡ there_of answer to }
 {

@@ -1,15 +1,15 @@
 //! The replay of a trace as a table, as lines of word steps and as a picture.
 
-ghost use Rattle.std.specs.Prelude.{◌≡◌, Err, IfOk, List, None, OnOk, Some, ℕ};
+ghost use Rattle.std.specs.Prelude.{◌≡◌, Err, IfOk, List, None, OnOk, Some, [], ℕ};
 ghost use Rattle.shm_io.specs.{Faults.Rose, Writing.Appends};
 ghost use Rattle.shm_view.specs.{Svg.picture_text, declared.svg.Picture.Picture as APicture};
-ghost use Rattle.run_view.specs.Piped.{IsTold};
+ghost use Rattle.run_view.specs.Replays.{IsStepsText};
 ghost use Rattle.run_view.specs.declared.pipe.Stop.TheVariants as stop;
 
 use crate::draw::draw;
 use crate::events::Events;
 use crate::out::{Out, ROOM};
-use crate::pipe::{Begun, Pipe, Stop, Writer};
+use crate::pipe::{Begun, Stop, Writer};
 use crate::spots::Classes;
 use crate::steps::Steps;
 use crate::window::Window;
@@ -29,7 +29,7 @@ pub fn run_steps<K: Sink>(
     window: Window,
     sink: &mut K,
 ) -> Result<(), Stop>
-    ensures written { OnOk result ((text : List ℕ) × Appends (K.held sink.old) (K.held sink.new) text) }
+    ensures written { OnOk result ((text : List ℕ) × IsStepsText trace.now window text × Appends (K.held sink.old) (K.held sink.new) text) }
     ensures memory { result ≡ Err stop.Memory → sink.new ≡ sink.old }
     ensures fault { result ≡ Err stop.Fault → Rose (K.faults sink.old) (K.faults sink.new) }
 {
@@ -49,29 +49,27 @@ fn steps_by<'a, K: Sink, B: Begun<K>>(
     writer: Writer<'a, K>,
 ) -> Writer<'a, K>
     requires sink { B.sink ≡ Some writer.sink }
+    requires window { B.window ≡ window }
     requires fresh { writer.stop ≡ None }
     ensures name { result.sink.ghost_name ≡ writer.entry.sink.ghost_name }
-    ensures told { IsTold K.held K.faults writer.entry.sink.now result.stop result.sink.now }
+    ensures written { result.stop ≡ None → (text : List ℕ) × IsStepsText trace.now window text × Appends (K.held writer.entry.sink.now) (K.held result.sink.now) text }
+    ensures memory { result.stop ≡ Some stop.Memory → result.sink.now ≡ writer.entry.sink.now }
+    ensures fault { result.stop ≡ Some stop.Fault → Rose (K.faults writer.entry.sink.now) (K.faults result.sink.now) }
 {
     let kept = match Vec::with_capacity(alloc, ROOM) {
         Ok(kept) => kept,
         Err(_) => return short(writer),
     };
     let steps = Steps {
-        out: Out::new(Pipe::<K, B>::new(writer), kept),
+        out: Out::<K, B>::new(writer, kept),
         window,
         turns: 0,
     };
     match tell(alloc, trace, steps) {
-        Ok(steps) => {
-            let mut steps = steps;
-            steps.end();
-            let Steps { out, .. } = steps;
-            out.end().writer()
-        }
+        Ok(steps) => steps.end(),
         Err(steps) => {
             let Steps { out, .. } = steps;
-            short(out.pipe().writer())
+            short(out.writer())
         }
     }
 }
@@ -109,7 +107,9 @@ fn short<'a, K: Sink>(writer: Writer<'a, K>) -> Writer<'a, K>
 }
 
 // memory for the classes of pages and for what is kept of the lines
-fn room(alloc: Global, trace: &Trace) -> Result<(Classes, Vec<u8>), AllocError> {
+fn room(alloc: Global, trace: &Trace) -> Result<(Classes, Vec<u8>), AllocError>
+    ensures { IfOk result (λ r. r.1.items ≡ []) }
+{
     Ok((
         Classes::new(alloc, trace)?,
         Vec::with_capacity(alloc, ROOM)?,
@@ -126,14 +126,16 @@ fn words_by<'a, 't, K: Sink, B: Begun<K>>(
     requires sink { B.sink ≡ Some writer.sink }
     requires fresh { writer.stop ≡ None }
     ensures name { result.sink.ghost_name ≡ writer.entry.sink.ghost_name }
-    ensures told { IsTold K.held K.faults writer.entry.sink.now result.stop result.sink.now }
+    ensures written { result.stop ≡ None → (text : List ℕ) × Appends (K.held writer.entry.sink.now) (K.held result.sink.now) text }
+    ensures memory { result.stop ≡ Some stop.Memory → result.sink.now ≡ writer.entry.sink.now }
+    ensures fault { result.stop ≡ Some stop.Fault → Rose (K.faults writer.entry.sink.now) (K.faults result.sink.now) }
 {
     let (classes, kept) = match room(alloc, trace) {
         Ok(room) => room,
         Err(_) => return short(writer),
     };
     let words = Words {
-        out: Out::new(Pipe::<K, B>::new(writer), kept),
+        out: Out::<K, B>::new(writer, kept),
         trace,
         classes,
         window,
@@ -144,11 +146,11 @@ fn words_by<'a, 't, K: Sink, B: Begun<K>>(
             let mut words = words;
             words.end();
             let Words { out, .. } = words;
-            out.end().writer()
+            out.end()
         }
         Err(words) => {
             let Words { out, .. } = words;
-            short(out.pipe().writer())
+            short(out.writer())
         }
     }
 }

@@ -1,5 +1,9 @@
 //! Pieces of work as text.
 
+ghost use Rattle.std.specs.Prelude.{◌++◌};
+ghost use Rattle.shm_script.specs.Text.{line_spelled, spaced};
+ghost use Rattle.run_view.specs.{Piped.Adds, Tables.task_spelled};
+
 use crate::out::Out;
 use crate::pipe::Begun;
 use shm_io::Sink;
@@ -9,7 +13,9 @@ use std::alloc::AllocError;
 
 impl<'a, K: Sink, B: Begun<K>> Out<'a, K, B> {
     /// Goes on with what a piece of work is.
-    pub fn task(&mut self, task: Task) {
+    pub fn task(&mut self, task: Task)
+        ensures { Adds K.held K.faults self.old self.new (task_spelled task) }
+    {
         match task {
             Task::Join => self.text("join"),
             Task::Command(line) => self.line(line),
@@ -19,31 +25,42 @@ impl<'a, K: Sink, B: Begun<K>> Out<'a, K, B> {
     }
 
     // goes on with a command
-    fn line(&mut self, line: Line) {
+    fn line(&mut self, line: Line)
+        ensures { Adds K.held K.faults self.old self.new (line_spelled line) }
+    {
         match line {
-            Line::Put { key, number } => self.command("put", &[u64::from(key), number]),
-            Line::Del { key } => self.command("del", &[u64::from(key)]),
+            Line::Put { key, number } => self.command("put", u64::from(key), number),
+            Line::Del { key } => {
+                self.text("del");
+                self.spaced(u64::from(key));
+            }
             Line::Get { author, key } => {
-                self.command("get", &[u64::from(author), u64::from(key)]);
+                self.command("get", u64::from(author), u64::from(key));
             }
             Line::Copy { key, author, other } => {
-                self.command(
-                    "copy",
-                    &[u64::from(key), u64::from(author), u64::from(other)],
-                );
+                self.command("copy", u64::from(key), u64::from(author));
+                self.spaced(u64::from(other));
             }
-            Line::Send { to, key } => self.command("send", &[u64::from(to), u64::from(key)]),
-            Line::Recv { from, key } => self.command("recv", &[u64::from(from), u64::from(key)]),
+            Line::Send { to, key } => self.command("send", u64::from(to), u64::from(key)),
+            Line::Recv { from, key } => self.command("recv", u64::from(from), u64::from(key)),
         }
     }
 
-    // goes on with the name of a command and its numbers
-    fn command(&mut self, name: &str, numbers: &[u64]) {
+    // goes on with the name of a command and two numbers
+    fn command(&mut self, name: &str, first: u64, second: u64)
+        ensures { Adds K.held K.faults self.old self.new (name.now ++ spaced first ++ spaced second) }
+    {
         self.text(name);
-        for number in numbers {
-            self.text(" ");
-            self.number(*number);
-        }
+        self.spaced(first);
+        self.spaced(second);
+    }
+
+    // goes on with a blank and a number
+    fn spaced(&mut self, number: u64)
+        ensures { Adds K.held K.faults self.old self.new (spaced number) }
+    {
+        self.text(" ");
+        self.number(number);
     }
 }
 

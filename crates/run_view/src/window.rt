@@ -1,5 +1,8 @@
 //! Which turns of a run are shown.
 
+ghost use Rattle.std.specs.Prelude.{◌≡◌};
+ghost use Rattle.run_view.specs.Tables.{meets};
+
 /// The turns from one number to another, both with it; the first turn has number 1.
 #[derive(Clone, Copy, Debug, PartialEq, Eq, Drop)]
 pub struct Window {
@@ -14,7 +17,9 @@ impl Window {
     }
 
     /// Whether it has one of the turns from `first` to `last`.
-    pub fn meets(self, first: u64, last: u64) -> bool {
+    pub fn meets(self, first: u64, last: u64) -> bool
+        ensures { result ≡ meets self first last }
+    {
         first <= self.to && self.from <= last
     }
 

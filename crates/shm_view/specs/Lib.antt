@@ -2,5 +2,8 @@ pub mod Sums
 pub mod Kinds
 pub mod Chains
 pub mod Figures
+pub mod Tables
+pub mod Texts
+pub mod FiguresJson
 pub mod Svg
 pub mod Changes

@@ -1,7 +1,7 @@
 //! Pieces of work as far as a replay's turns have shown them.
 
 ghost use Rattle.std.specs.Prelude.{◌≡◌};
-ghost use Rattle.shm_watch.specs.Columns.{begins_with, decides_with, fresh, is_over, next_point};
+ghost use Rattle.shm_watch.specs.{Columns.{begins_with, decides_with, fresh, is_over, next_point}, Spans.{first_turn, last_turn}};
 
 use shm_script::Line;
 
@@ -65,7 +65,9 @@ impl Span {
     }
 
     /// The turn up to which it has come.
-    pub fn now(self) -> u64 {
+    pub fn now(self) -> u64
+        ensures { result ≡ last_turn self }
+    {
         match self.fate {
             Fate::Dies { turn } => turn,
             _ => self.last.turn,
@@ -73,7 +75,9 @@ impl Span {
     }
 
     /// The turn of its first word step; where it has made none that up to which it has come.
-    pub fn first(self) -> u64 {
+    pub fn first(self) -> u64
+        ensures { result ≡ first_turn self }
+    {
         match self.begins {
             Some(point) => point.turn,
             None => self.now(),

@@ -3,7 +3,9 @@ use Rattle.std.specs.Prelude.{◌≡◌, ℕ, ◌⊎◌, List, Option, Some, Non
 use Rattle.shm_audit.specs.{declared.fault.ImageFault.ImageFault, Faults.image_fault_of}
 use Rattle.shm_io.specs.{Faults.Rose, Reading.TakesFront, Writing.Appends}
 use Rattle.shm_view.specs.Changes.{first_of, second_of}
-use Rattle.shm_script.specs.{declared.fault.TraceFault.TraceFault, Faults.fault_of}
+use Rattle.shm_script.specs.{declared.fault.TraceFault.TraceFault, Faults.fault_of, Text.text_of, Values.Traced}
+use Rattle.run_view.specs.{declared.window.Window.Window, Replays.IsStepsText}
+use Rattle.view_program.specs.declared.job.TraceForm.{TraceForm, TheVariants.{Steps, Words, Run}}
 
 -- how many bytes of an image are read at most: one more than that of the largest pool has
 abbrev pub image_limit : ℕ
@@ -56,9 +58,25 @@ ReadsTrace left left' holds = (trace : List ℕ) × TakesFront left left' trace_
 abbrev pub IsWritten : Option (List ℕ) → Option (List ℕ) → Type 0
 IsWritten held held' = (text : List ℕ) × Appends held held' text
 
--- an image, two images or a trace without a fault were read, and a text was written
+-- what is written of the replay of a trace: as `steps` the table of these turns; of the word steps and of a picture a text is all that is said
+abbrev pub IsShownText : TraceForm → Window → Traced → List ℕ → Type 0
+IsShownText Steps window t text = IsStepsText t window text
+IsShownText Words window t text = Unit {0}
+IsShownText Run window t text = Unit {0}
+
+-- it was written
+abbrev pub IsShownReplay : TraceForm → Window → Traced → Option (List ℕ) → Option (List ℕ) → Type 0
+IsShownReplay form window t held held' = (text : List ℕ) × IsShownText form window t text × Appends held held' text
+
+-- the same of the trace that these bytes spell
+abbrev pub IsShownTrace : TraceForm → Window → Option (List ℕ) → Option (List ℕ) → List ℕ → Type 0
+IsShownTrace form window held held' trace = IsFaultlessTrace trace × (t : Traced) × (trace ≡ text_of t) × IsShownReplay form window t held held'
+
+-- an image or two images without a fault were read, and a text was written; or a trace was, and its replay was written in one of the forms
 abbrev pub IsShown : Option (List ℕ) → Option (List ℕ) → Option (List ℕ) → Option (List ℕ) → Type 0
-IsShown left left' held held' = (ReadsImage left left' IsFaultless ⊎ (ReadsImages left left' AreFaultless ⊎ ReadsTrace left left' IsFaultlessTrace)) × IsWritten held held'
+IsShown left left' held held' =
+    (ReadsImage left left' IsFaultless × IsWritten held held')
+    ⊎ ((ReadsImages left left' AreFaultless × IsWritten held held') ⊎ ((form : TraceForm) × (window : Window) × ReadsTrace left left' (IsShownTrace form window held held')))
 
 -- an image or a trace with a fault was read, or two images of which one has a fault
 abbrev pub IsRefused : Option (List ℕ) → Option (List ℕ) → Type 0

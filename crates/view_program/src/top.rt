@@ -5,7 +5,7 @@ ghost use Rattle.shm_audit.specs.{Faults.image_fault_of, Stops.StopsBy};
 ghost use Rattle.shm_io.specs.{Faults.Rose, Reading.TakesFront};
 ghost use Rattle.shm_script.specs.{Drafts.IsFault, Faults.fault_of};
 ghost use Rattle.run_view.specs.declared.pipe.Stop.TheVariants as stop;
-ghost use Rattle.view_program.specs.Calls.{AreFaultless, HasImageFault, HasTraceFault, HaveFault, IsAnswer, IsFaultless, IsFaultlessTrace, IsRead, IsRefused, IsSent, IsShown, IsStatus, IsStop, IsTold, IsWritten, ReadsImage, ReadsImages, ReadsTrace};
+ghost use Rattle.view_program.specs.Calls.{AreFaultless, HasImageFault, HasTraceFault, HaveFault, IsAnswer, IsFaultless, IsRead, IsRefused, IsSent, IsShown, IsShownReplay, IsShownTrace, IsStatus, IsStop, IsTold, IsWritten, ReadsImage, ReadsImages, ReadsTrace};
 
 use crate::job::{ImageForm, Job, TraceForm, job_of};
 use crate::misuse::misuse_text;
@@ -109,7 +109,7 @@ fn view_trace<S: Source, K: Sink>(
     sink: &mut K,
 ) -> Outcome
     ensures status { IsRead result.status }
-    ensures shown { result.status ≡ 0 → ReadsTrace (S.left source.old) (S.left source.new) IsFaultlessTrace × IsWritten (K.held sink.old) (K.held sink.new) }
+    ensures shown { result.status ≡ 0 → ReadsTrace (S.left source.old) (S.left source.new) (IsShownTrace form window (K.held sink.old) (K.held sink.new)) }
     ensures refused { result.status ≡ 3 → ReadsTrace (S.left source.old) (S.left source.new) HasTraceFault }
     ensures unwritten { result.status ≢ 0 → result.status ≢ 5 → sink.new ≡ sink.old }
     ensures read_fault { result.status ≡ 4 → Rose (S.faults source.old) (S.faults source.new) }
@@ -180,7 +180,7 @@ fn show_trace<K: Sink>(
     sink: &mut K,
 ) -> Outcome
     ensures status { IsAnswer result.status }
-    ensures shown { result.status ≡ 0 → IsFaultlessTrace trace.now × IsWritten (K.held sink.old) (K.held sink.new) }
+    ensures shown { result.status ≡ 0 → IsShownTrace form window (K.held sink.old) (K.held sink.new) trace.now }
     ensures refused { result.status ≡ 3 → HasTraceFault trace.now }
     ensures unwritten { result.status ≢ 0 → result.status ≢ 5 → sink.new ≡ sink.old }
     ensures fault { result.status ≡ 5 → Rose (K.faults sink.old) (K.faults sink.new) }
@@ -252,7 +252,7 @@ fn show_replay<K: Sink>(
     sink: &mut K,
 ) -> Outcome
     ensures status { IsTold result.status }
-    ensures written { result.status ≡ 0 → IsWritten (K.held sink.old) (K.held sink.new) }
+    ensures written { result.status ≡ 0 → IsShownReplay form window trace.now (K.held sink.old) (K.held sink.new) }
     ensures unwritten { result.status ≡ 6 → sink.new ≡ sink.old }
     ensures fault { result.status ≡ 5 → Rose (K.faults sink.old) (K.faults sink.new) }
 {

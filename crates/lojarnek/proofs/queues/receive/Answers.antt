@@ -1,6 +1,6 @@
 use Rattle.std.proofs.Common.{◌∙◌, Err}
 use Rattle.shm_queue.specs.declared.answer.PeekFault.TheVariants as peek
-use Rattle.lojarnek.specs.{Blocks.KeepsNamed, Standing.acts_of}
+use Rattle.lojarnek.specs.{Passing.WhyNotReceived, Standing.acts_of}
 use Rattle.lojarnek.proofs.{Comes.died_came, Done.done_same, Learning.{learnt_roots, spent_died, spent_learnt}}
 use Rattle.lojarnek.proofs.Passes.{counted_came, none_came, received_at, received_came, received_spent, rootless_came}
 use Rattle.lojarnek.proofs.queues.receive.Goals as goal
@@ -42,12 +42,12 @@ returns-in-Done c =
     let last = acts_of c.learn.new.token c.learn.new.life.left in
     let h = rw c.in-Done-Err-EraSpent.field-0-is at c.in-Done-Err-EraSpent.ensures.called in
     let spent = received_spent c.args.token.now c.receive.new.self c.args.life.now.left c.receive.new.life.left c.args.from c.requires.at c.in-Done-Err-EraSpent.era (rw c.in-Done-Err-EraSpent.field-0-0-is at h) in
-    spent_learnt _ KeepsNamed first taken last c.learn.new.roots.named (done_same _ c.requires.at.alive c.in-Done-Err-EraSpent.ensures.called.done) c.in-Done-Err-EraSpent.era spent.0 c.in-Done.ensures
-    (λ k some. learnt_roots taken last c.learn.new.roots.named c.in-Done.ensures k ∙ spent.1 k some)
+    spent_learnt _ WhyNotReceived first taken last c.learn.new.roots.named (done_same _ c.requires.at.alive c.in-Done-Err-EraSpent.ensures.called.done) c.in-Done-Err-EraSpent.era spent.0 c.in-Done.ensures
+    (λ it. (it, λ k some. learnt_roots taken last c.learn.new.roots.named c.in-Done.ensures k ∙ spent.1 k some))
 
 pub returns-in-Died-learn : goal.returns-in-Died-learn
 returns-in-Died-learn c =
-    spent_died _ KeepsNamed (acts_of c.args.token.now c.args.life.now.left) (acts_of c.receive.new.self c.receive.new.life.left) (acts_of c.learn.new.token c.learn.new.life.left) c.learn.new.roots.named
+    spent_died _ WhyNotReceived (acts_of c.args.token.now c.args.life.now.left) (acts_of c.receive.new.self c.receive.new.life.left) (acts_of c.learn.new.token c.learn.new.life.left) c.learn.new.roots.named
     (done_same _ c.requires.at.alive c.in-Done-Err-EraSpent.ensures.called.done) c.in-Died-learn.ensures
 
 pub returns-in-Done-Err-RootsFull : goal.returns-in-Done-Err-RootsFull

@@ -43,7 +43,7 @@ returns-in-Died c = λ bs knows.
     ended_came _ _ first last bs c.is_ok-done.result (ended_then first set last (same_then first held set c.in-Done.ensures.0 c.in-Done-set_held.ensures.0) c.in-Died.ensures)
 
 pub set_error-requires : goal.set_error-requires
-set_error-requires c = let h = rw c.in-Err.is at c.in-Done-set_held.ensures in unset_other c.take.new.token.account.who c.args.word c.in-Err.fault h.3
+set_error-requires c = let h = rw c.in-Err.is at c.in-Done-set_held.ensures in unset_other c.take.new.token.account.who c.args.word c.args.to c.in-Err.fault h.3
 
 pub returns-in-Ok : goal.returns-in-Ok
 returns-in-Ok c = λ bs knows.

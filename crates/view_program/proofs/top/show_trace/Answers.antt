@@ -18,7 +18,7 @@ pub returns-in-Ok-clause-status : goal.returns-in-Ok-clause-status
 returns-in-Ok-clause-status g c = answered c.show_replay.result.status c.show_replay.ensures.status
 
 pub returns-in-Ok-clause-shown : goal.returns-in-Ok-clause-shown
-returns-in-Ok-clause-shown g c h = (c.in-Ok.ensures.fault, c.show_replay.ensures.written h)
+returns-in-Ok-clause-shown g c h = (c.in-Ok.ensures.fault, c.in-Ok.trace, c.in-Ok.ensures.found.1, c.show_replay.ensures.written h)
 
 pub returns-in-Ok-clause-refused : goal.returns-in-Ok-clause-refused
 returns-in-Ok-clause-refused g c h = absurd (unrefused c.show_replay.result.status c.show_replay.ensures.status h)

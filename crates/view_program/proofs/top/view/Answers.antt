@@ -4,13 +4,13 @@ use Rattle.view_program.proofs.top.view.Goals as goal
 -- what was read: an image, two images or a trace
 
 pub returns-in-Ok-Some-Changes-clause-shown : goal.returns-in-Ok-Some-Changes-clause-shown
-returns-in-Ok-Some-Changes-clause-shown g c h = (inr (inl (c.view_changes.ensures.shown h).0), (c.view_changes.ensures.shown h).1)
+returns-in-Ok-Some-Changes-clause-shown g c h = inr (inl (c.view_changes.ensures.shown h))
 
 pub returns-in-Ok-Some-Changes-clause-refused : goal.returns-in-Ok-Some-Changes-clause-refused
 returns-in-Ok-Some-Changes-clause-refused g c h = inr (inl (c.view_changes.ensures.refused h))
 
 pub returns-in-Ok-Some-Trace-clause-shown : goal.returns-in-Ok-Some-Trace-clause-shown
-returns-in-Ok-Some-Trace-clause-shown g c h = (inr (inr (c.view_trace.ensures.shown h).0), (c.view_trace.ensures.shown h).1)
+returns-in-Ok-Some-Trace-clause-shown g c h = inr (inr (c.in-Ok-Some-Trace.form, c.in-Ok-Some-Trace.window, c.view_trace.ensures.shown h))
 
 pub returns-in-Ok-Some-Trace-clause-refused : goal.returns-in-Ok-Some-Trace-clause-refused
 returns-in-Ok-Some-Trace-clause-refused g c h = inr (inr (c.view_trace.ensures.refused h))

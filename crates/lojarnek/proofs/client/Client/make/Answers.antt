@@ -1,5 +1,5 @@
 use Rattle.std.proofs.{Common.{sym, subst, ◌∙◌}, lemmas.Result.err_from_is_err_and}
-use Rattle.lojarnek.specs.{Blocks.{KeepsRoots, Spent}, Roots.IsAtBlocks, Standing.Acts}
+use Rattle.lojarnek.specs.{Blocks.WhyNotMade, Roots.IsAtBlocks, Standing.Acts}
 use Rattle.lojarnek.proofs.Comes.{came_err, came_ok, came_tested, first_denied, first_tested}
 use Rattle.lojarnek.proofs.client.Client.make.Goals as goal
 
@@ -7,7 +7,7 @@ pub returns-in_err-may_make-clause-tested : goal.returns-in_err-may_make-clause-
 returns-in_err-may_make-clause-tested c = let p = err_from_is_err_and c.from_residual.result c.from_residual.ensures.1 in rw (p.1, p.2) (first_tested _ _ _ _ (c.in_err-may_make.ensures.err))
 
 pub returns-in_err-may_make-clause-refused : goal.returns-in_err-may_make-clause-refused
-returns-in_err-may_make-clause-refused c = let p = err_from_is_err_and c.from_residual.result c.from_residual.ensures.1 in rw (p.1, p.2) (first_denied (Spent KeepsRoots) _ _ c.in_err-may_make.ensures.err.why)
+returns-in_err-may_make-clause-refused c = let p = err_from_is_err_and c.from_residual.result c.from_residual.ensures.1 in rw (p.1, p.2) (first_denied WhyNotMade _ _ c.in_err-may_make.ensures.err.why)
 
 pub make-result-requires-clause-pool : goal.make-result-requires-clause-pool
 make-result-requires-clause-pool c = sym c.self.invariant.0.0

@@ -1,5 +1,5 @@
 use Rattle.std.proofs.{Common.{◌≢◌, ◌<◌, sym, subst, ◌∙◌}, lemmas.Result.err_from_is_err_and}
-use Rattle.lojarnek.specs.{Blocks.{KeepsNamed, Spent}, Roots.IsAtBlocks, Standing.Acts}
+use Rattle.lojarnek.specs.{Passing.WhyNotReceived, Roots.IsAtBlocks, Standing.Acts}
 use Rattle.lojarnek.proofs.Comes.{came_err, came_ok, came_tested, first_denied, first_tested}
 use Rattle.lojarnek.proofs.Tests.{queue_alone, queue_dead}
 use Rattle.lojarnek.proofs.client.Client.receive.Goals as goal
@@ -8,13 +8,13 @@ pub returns-in_err-may_pass-clause-tested : goal.returns-in_err-may_pass-clause-
 returns-in_err-may_pass-clause-tested c = let p = err_from_is_err_and c.from_residual.result c.from_residual.ensures.1 in rw (p.1, p.2) (first_tested _ _ _ _ (queue_alone _ _ _ c.in_err-may_pass.ensures.err.0 c.in_err-may_pass.ensures.err.1))
 
 pub returns-in_err-may_pass-clause-refused : goal.returns-in_err-may_pass-clause-refused
-returns-in_err-may_pass-clause-refused c = let p = err_from_is_err_and c.from_residual.result c.from_residual.ensures.1 in rw (p.1, p.2) (first_denied (Spent KeepsNamed) _ _ c.in_err-may_pass.ensures.err.1)
+returns-in_err-may_pass-clause-refused c = let p = err_from_is_err_and c.from_residual.result c.from_residual.ensures.1 in rw (p.1, p.2) (first_denied WhyNotReceived _ _ c.in_err-may_pass.ensures.err.1)
 
 pub returns-in_err-may_call-clause-tested : goal.returns-in_err-may_call-clause-tested
 returns-in_err-may_call-clause-tested c = let p = err_from_is_err_and c.from_residual-in_err-may_call.result c.from_residual-in_err-may_call.ensures.1 in rw (p.1, p.2) (first_tested _ _ _ _ (queue_dead _ _ _ c.in_ok-may_pass.ensures.ok.2 c.in_err-may_call.ensures.err))
 
 pub returns-in_err-may_call-clause-refused : goal.returns-in_err-may_call-clause-refused
-returns-in_err-may_call-clause-refused c = let p = err_from_is_err_and c.from_residual-in_err-may_call.result c.from_residual-in_err-may_call.ensures.1 in rw (p.1, p.2) (first_denied (Spent KeepsNamed) _ _ c.in_err-may_call.ensures.err.why)
+returns-in_err-may_call-clause-refused c = let p = err_from_is_err_and c.from_residual-in_err-may_call.result c.from_residual-in_err-may_call.ensures.1 in rw (p.1, p.2) (first_denied WhyNotReceived _ _ c.in_err-may_call.ensures.err.why)
 
 pub receive-result-requires-clause-pool : goal.receive-result-requires-clause-pool
 receive-result-requires-clause-pool c = sym c.self.invariant.0.0

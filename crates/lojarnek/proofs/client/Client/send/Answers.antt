@@ -1,5 +1,5 @@
 use Rattle.std.proofs.{Common.{◌≢◌, ◌<◌, sym, subst, ◌∙◌}, lemmas.Result.err_from_is_err_and}
-use Rattle.lojarnek.specs.{Blocks.{KeepsRoots, Spent, root_wrong}, Passing.send_wrong, Roots.{IsAtBlocks, IsNamed}}
+use Rattle.lojarnek.specs.{Blocks.{names, root_wrong}, Passing.{WhyNotSent, send_wrong}, Roots.{IsAtBlocks, IsNamed}}
 use Rattle.lojarnek.specs.Standing.{Acts}
 use Rattle.lojarnek.proofs.Comes.{block_named, came_err, came_first, came_second, came_tested, first_denied, first_tested}
 use Rattle.lojarnek.proofs.Tests.{queue_first, queue_right, queue_then}
@@ -9,13 +9,13 @@ pub returns-in_err-may_pass-clause-tested : goal.returns-in_err-may_pass-clause-
 returns-in_err-may_pass-clause-tested c = let p = err_from_is_err_and c.from_residual.result c.from_residual.ensures.1 in rw (p.1, p.2) (first_tested _ _ _ _ (queue_first _ _ _ _ c.in_err-may_pass.ensures.err.0 c.in_err-may_pass.ensures.err.1))
 
 pub returns-in_err-may_pass-clause-refused : goal.returns-in_err-may_pass-clause-refused
-returns-in_err-may_pass-clause-refused c = let p = err_from_is_err_and c.from_residual.result c.from_residual.ensures.1 in rw (p.1, p.2) (first_denied (Spent KeepsRoots) _ _ c.in_err-may_pass.ensures.err.1)
+returns-in_err-may_pass-clause-refused c = let p = err_from_is_err_and c.from_residual.result c.from_residual.ensures.1 in rw (p.1, p.2) (first_denied (WhyNotSent c.args.to (names c.args.self.now c.args.root)) _ _ c.in_err-may_pass.ensures.err.1)
 
 pub returns-in_err-block-clause-tested : goal.returns-in_err-block-clause-tested
 returns-in_err-block-clause-tested c = let p = err_from_is_err_and c.from_residual-in_err-block.result c.from_residual-in_err-block.ensures.1 in rw (p.1, p.2) (first_tested _ _ _ _ (queue_then _ _ _ _ c.in_ok-may_pass.ensures.ok.2 c.in_err-block.ensures.err))
 
 pub returns-in_err-block-clause-refused : goal.returns-in_err-block-clause-refused
-returns-in_err-block-clause-refused c = let p = err_from_is_err_and c.from_residual-in_err-block.result c.from_residual-in_err-block.ensures.1 in rw (p.1, p.2) (first_denied (Spent KeepsRoots) _ _ c.in_err-block.ensures.err.why)
+returns-in_err-block-clause-refused c = let p = err_from_is_err_and c.from_residual-in_err-block.result c.from_residual-in_err-block.ensures.1 in rw (p.1, p.2) (first_denied (WhyNotSent c.args.to (names c.args.self.now c.args.root)) _ _ c.in_err-block.ensures.err.why)
 
 pub send-result-requires-clause-pool : goal.send-result-requires-clause-pool
 send-result-requires-clause-pool c = sym c.self.invariant.0.0
@@ -44,7 +44,7 @@ pub returns-clause-roots : goal.returns-clause-roots
 returns-clause-roots c = rw (← c.self.view_is) (came_second _ _ _ _ _ _ _ (c.send-result.ensures c.self.inside.roots.named c.self.invariant.3))
 
 pub returns-clause-refused : goal.returns-clause-refused
-returns-clause-refused c = came_err _ _ _ _ _ _ (rw c.self.view_is at (c.send-result.ensures c.self.inside.roots.named c.self.invariant.3))
+returns-clause-refused c = rw c.in_ok-block.ensures.ok.0.named (came_err _ _ _ _ _ _ (rw c.self.view_is at (c.send-result.ensures c.self.inside.roots.named c.self.invariant.3)))
 
 pub returns-clause-stays : goal.returns-clause-stays
 returns-clause-stays c = let h = rw c.self.view_is at (c.send-result.ensures c.self.inside.roots.named c.self.invariant.3) in h.same
