@@ -136,7 +136,7 @@ impl<J: Pools> Porter<J> {
     ///
     /// # Errors
     ///
-    /// `NoRoom` with the corpse, only where the queue held a corpse for each client of the morgue at one step of this call.
+    /// `NoRoom` with the corpse, where the queue held a corpse for each client of the morgue at one step of this call: that it comes nowhere else is tested, and no clause says it.
     pub fn put<R: Wait>(
         &mut self,
         rt: &R,
@@ -175,7 +175,7 @@ impl<J: Pools> Medic<J> {
         place
     }
 
-    /// Takes the corpse that has waited longest. It may wait in the queue. `None` comes only where the queue was empty at one step of this call.
+    /// Takes a corpse that waits: those of each porter in the order of its puts. It may wait in the queue. `None` comes where the queue was empty at one step of this call: that it comes nowhere else is tested, and no clause says it.
     pub fn take<R: Wait>(&mut self, rt: &R, morgue: &Morgue<J>) -> Option<Taken>
         requires of { self.old.of ≡ morgue.now }
         ensures same { self.new.of ≡ self.old.of }

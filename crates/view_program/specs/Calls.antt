@@ -1,11 +1,16 @@
 -- what a call of the program does
-use Rattle.std.specs.Prelude.{◌≡◌, ℕ, ◌⊎◌, List, Option, Some, None}
+use Rattle.std.specs.Prelude.{◌≡◌, ℕ, ◌⊎◌, List, [], ◌∷◌, codes, Option, Some, None, String, string_bytes}
+use Rattle.std.specs.declared.alloc.Global.{Global}
 use Rattle.shm_audit.specs.{declared.fault.ImageFault.ImageFault, Faults.image_fault_of}
 use Rattle.shm_io.specs.{Faults.Rose, Reading.TakesFront, Writing.Appends}
-use Rattle.shm_view.specs.Changes.{first_of, second_of}
+use Rattle.shm_view.specs.declared.svg.Picture.{Picture}
+use Rattle.shm_view.specs.{Changes.{first_of, second_of}, FiguresJson.IsFiguresJson, Svg.picture_text, Texts.IsFiguresText}
 use Rattle.shm_script.specs.{declared.fault.TraceFault.TraceFault, Faults.fault_of, Text.text_of, Values.Traced}
 use Rattle.run_view.specs.{declared.window.Window.Window, Replays.IsStepsText}
+use Rattle.view_program.specs.declared.job.{ImageForm.ImageForm, Job.Job}
 use Rattle.view_program.specs.declared.job.TraceForm.{TraceForm, TheVariants.{Steps, Words, Run}}
+use Rattle.view_program.specs.declared.job.ImageForm.TheVariants as form
+use Rattle.view_program.specs.declared.job.Job.TheVariants as job
 
 -- how many bytes of an image are read at most: one more than that of the largest pool has
 abbrev pub image_limit : ℕ
@@ -52,11 +57,46 @@ ReadsImages left left' holds = (images : List ℕ) × TakesFront left left' imag
 abbrev pub ReadsTrace : Option (List ℕ) → Option (List ℕ) → (List ℕ → Type 0) → Type 0
 ReadsTrace left left' holds = (trace : List ℕ) × TakesFront left left' trace_limit trace × holds trace
 
+-- ---- what is shown of an image
+
+-- the text of a picture
+abbrev pub IsPictureText : List ℕ → Type 0
+IsPictureText text = (p : Picture) × (text ≡ picture_text p)
+
+-- its figures as text or as JSON, or a picture
+abbrev pub ShowsImage : ImageForm → List ℕ → List ℕ → Type 0
+ShowsImage form.Text image text = IsFiguresText image text
+ShowsImage form.Json image text = IsFiguresJson image text
+ShowsImage (form.Pool client) image text = IsPictureText text
+
+-- this was written
+abbrev pub IsImageWritten : ImageForm → List ℕ → Option (List ℕ) → Option (List ℕ) → Type 0
+IsImageWritten form image held held' = (text : List ℕ) × Appends held held' text × ShowsImage form image text
+
+-- ---- words of a call
+
+-- the first one is `stats`
+abbrev pub AskForFigures : List (String Global) → Type 0
+AskForFigures [] = ⊥
+AskForFigures (word ∷ words) = string_bytes word ≡ codes "stats"
+
+-- figures are asked for
+abbrev pub IsForFigures : Job → Type 0
+IsForFigures (job.Image form.Text) = Unit {0}
+IsForFigures (job.Image form.Json) = Unit {0}
+IsForFigures (job.Image (form.Pool client)) = ⊥
+IsForFigures job.Changes = ⊥
+IsForFigures (job.Trace f window) = ⊥
+
 -- ---- what is done
 
 -- a text was written
 abbrev pub IsWritten : Option (List ℕ) → Option (List ℕ) → Type 0
 IsWritten held held' = (text : List ℕ) × Appends held held' text
+
+-- an image without a fault was read, and its figures were written, as text or as JSON
+abbrev pub AreFiguresWritten : Option (List ℕ) → Option (List ℕ) → Option (List ℕ) → Option (List ℕ) → Type 0
+AreFiguresWritten left left' held held' = ReadsImage left left' (λ image. IsImageWritten form.Text image held held' ⊎ IsImageWritten form.Json image held held')
 
 -- what is written of the replay of a trace: as `steps` the table of these turns; of the word steps and of a picture a text is all that is said
 abbrev pub IsShownText : TraceForm → Window → Traced → List ℕ → Type 0

@@ -1,5 +1,8 @@
 //! What the words of a call ask for: the one module that names `clap`.
 
+ghost use Rattle.std.specs.Prelude.{IfOk, IfSome};
+ghost use Rattle.view_program.specs.Calls.{AskForFigures, IsForFigures};
+
 use clap::error::ErrorKind;
 use clap::{Arg, ArgAction, ArgMatches, Command};
 use run_view::Window;
@@ -45,7 +48,9 @@ const SOME: u64 = 500;
 
 /// What the words ask for, and nothing where they aren't accepted. The first word names a command, and the words after it are read by that
 /// command.
-pub fn job_of(alloc: Global, words: &[String]) -> Result<Option<Job>, AllocError> {
+pub fn job_of(alloc: Global, words: &[String]) -> Result<Option<Job>, AllocError>
+    ensures { AskForFigures words.now → IfOk result (λ asked. IfSome asked IsForFigures) }
+{
     match words {
         [first, ..] => match first.as_str() {
             "stats" => stats_job(alloc, words),
@@ -59,7 +64,9 @@ pub fn job_of(alloc: Global, words: &[String]) -> Result<Option<Job>, AllocError
 }
 
 /// What the words of `stats` ask for.
-fn stats_job(alloc: Global, words: &[String]) -> Result<Option<Job>, AllocError> {
+fn stats_job(alloc: Global, words: &[String]) -> Result<Option<Job>, AllocError>
+    ensures { IfOk result (λ asked. IfSome asked IsForFigures) }
+{
     let command = Command::new(alloc, "stats").arg(flag(alloc, "json"))?;
     match read(command, words)? {
         Some(matches) => {

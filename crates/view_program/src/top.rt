@@ -2,10 +2,10 @@
 
 ghost use Rattle.std.specs.Prelude.{◌≡◌, ◌≢◌, Err, IfErr, IfOk, None, Ok, OnOk};
 ghost use Rattle.shm_audit.specs.{Faults.image_fault_of, Stops.StopsBy};
-ghost use Rattle.shm_io.specs.{Faults.Rose, Reading.TakesFront};
+ghost use Rattle.shm_io.specs.{Faults.Rose, Reading.TakesFront, Writing.Appends};
 ghost use Rattle.shm_script.specs.{Drafts.IsFault, Faults.fault_of};
 ghost use Rattle.run_view.specs.declared.pipe.Stop.TheVariants as stop;
-ghost use Rattle.view_program.specs.Calls.{AreFaultless, HasImageFault, HasTraceFault, HaveFault, IsAnswer, IsFaultless, IsRead, IsRefused, IsSent, IsShown, IsShownReplay, IsShownTrace, IsStatus, IsStop, IsTold, IsWritten, ReadsImage, ReadsImages, ReadsTrace};
+ghost use Rattle.view_program.specs.Calls.{AreFaultless, AreFiguresWritten, AskForFigures, HasImageFault, HasTraceFault, HaveFault, IsAnswer, IsFaultless, IsImageWritten, IsRead, IsRefused, IsSent, IsShown, IsShownReplay, IsShownTrace, IsStatus, IsStop, IsTold, IsWritten, ReadsImage, ReadsImages, ReadsTrace, ShowsImage};
 
 use crate::job::{ImageForm, Job, TraceForm, job_of};
 use crate::misuse::misuse_text;
@@ -50,6 +50,7 @@ pub fn view<S: Source, K: Sink>(
 ) -> Outcome
     ensures status { IsStatus result.status }
     ensures shown { result.status ≡ 0 → IsShown (S.left source.old) (S.left source.new) (K.held sink.old) (K.held sink.new) }
+    ensures figures { result.status ≡ 0 → AskForFigures words.now → AreFiguresWritten (S.left source.old) (S.left source.new) (K.held sink.old) (K.held sink.new) }
     ensures refused { result.status ≡ 3 → IsRefused (S.left source.old) (S.left source.new) }
     ensures unread { result.status ≡ 2 → source.new ≡ source.old }
     ensures unwritten { result.status ≢ 0 → result.status ≢ 5 → sink.new ≡ sink.old }
@@ -74,6 +75,7 @@ fn view_image<S: Source, K: Sink>(
 ) -> Outcome
     ensures status { IsRead result.status }
     ensures shown { result.status ≡ 0 → ReadsImage (S.left source.old) (S.left source.new) IsFaultless × IsWritten (K.held sink.old) (K.held sink.new) }
+    ensures written { result.status ≡ 0 → ReadsImage (S.left source.old) (S.left source.new) (λ image. IsImageWritten form image (K.held sink.old) (K.held sink.new)) }
     ensures refused { result.status ≡ 3 → ReadsImage (S.left source.old) (S.left source.new) HasImageFault }
     ensures unwritten { result.status ≢ 0 → result.status ≢ 5 → sink.new ≡ sink.old }
     ensures read_fault { result.status ≡ 4 → Rose (S.faults source.old) (S.faults source.new) }
@@ -137,6 +139,7 @@ fn read_input<S: Source>(alloc: Global, source: &mut S, limit: usize) -> Result<
 fn show_image<K: Sink>(alloc: Global, form: ImageForm, image: &[u8], sink: &mut K) -> Outcome
     ensures status { IsAnswer result.status }
     ensures shown { result.status ≡ 0 → IsFaultless image.now × IsWritten (K.held sink.old) (K.held sink.new) }
+    ensures written { result.status ≡ 0 → IsImageWritten form image.now (K.held sink.old) (K.held sink.new) }
     ensures refused { result.status ≡ 3 → HasImageFault image.now }
     ensures unwritten { result.status ≢ 0 → result.status ≢ 5 → sink.new ≡ sink.old }
     ensures fault { result.status ≡ 5 → Rose (K.faults sink.old) (K.faults sink.new) }
@@ -198,6 +201,7 @@ fn show_trace<K: Sink>(
 fn write<K: Sink>(alloc: Global, text: &[u8], sink: &mut K) -> Outcome
     ensures status { IsSent result.status }
     ensures written { result.status ≡ 0 → IsWritten (K.held sink.old) (K.held sink.new) }
+    ensures text { result.status ≡ 0 → Appends (K.held sink.old) (K.held sink.new) text.now }
     ensures fault { result.status ≡ 5 → Rose (K.faults sink.old) (K.faults sink.new) }
 {
     match write_all(sink, text) {
@@ -234,6 +238,7 @@ fn stopped(alloc: Global, status: u8) -> Outcome
 /// What is shown of an image.
 fn image_text(alloc: Global, form: ImageForm, image: &[u8]) -> Result<Vec<u8>, AuditStop>
     ensures ok { OnOk result (image_fault_of image.now ≡ None) }
+    ensures shown { IfOk result (λ text. ShowsImage form image.now text.items) }
     ensures err { IfErr result (StopsBy (image_fault_of image.now)) }
 {
     match form {
