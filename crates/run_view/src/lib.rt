@@ -3,7 +3,7 @@
 
 mod draw;
 mod events;
-mod out;
+mod outgoing;
 mod page;
 mod pipe;
 mod sheet;

@@ -8,7 +8,7 @@ ghost use Rattle.run_view.specs.declared.pipe.Stop.TheVariants as stop;
 
 use crate::draw::draw;
 use crate::events::Events;
-use crate::out::{Out, ROOM};
+use crate::outgoing::{Out, ROOM};
 use crate::pipe::{Begun, Stop, Writer};
 use crate::spots::Classes;
 use crate::steps::Steps;

@@ -1,6 +1,6 @@
 //! The names of a pool's words, as they are during a run.
 
-use crate::out::Out;
+use crate::outgoing::Out;
 use crate::pipe::Begun;
 use shm_graph::Ask;
 use shm_io::Sink;

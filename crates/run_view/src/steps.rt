@@ -6,7 +6,7 @@ ghost use Rattle.shm_watch.specs.declared.{shown.Shown.Shown as AShown, span.Spa
 ghost use Rattle.run_view.specs.Piped.{IsSentFrom};
 ghost use Rattle.run_view.specs.Tables.{IsTable, death_of, end_of, heads, heads_at, row_of, span_row, step_of, steps_text, turn_of, turns_line};
 
-use crate::out::Out;
+use crate::outgoing::Out;
 use crate::pipe::{Begun, Writer};
 use crate::window::Window;
 use shm_io::Sink;

@@ -4,7 +4,7 @@ ghost use Rattle.std.specs.Prelude.{◌++◌};
 ghost use Rattle.shm_script.specs.Text.{line_spelled, spaced};
 ghost use Rattle.run_view.specs.{Piped.Adds, Tables.task_spelled};
 
-use crate::out::Out;
+use crate::outgoing::Out;
 use crate::pipe::Begun;
 use shm_io::Sink;
 use shm_script::{Line, line_text, push_text};

@@ -2,7 +2,7 @@
 
 ghost use Rattle.std.specs.Prelude.{List};
 
-use crate::out::Out;
+use crate::outgoing::Out;
 use crate::pipe::Begun;
 use crate::spots::{Classes, at_of};
 use crate::window::Window;

@@ -2,7 +2,7 @@ use Rattle.std.proofs.Common.{◌≡◌, ℕ, List, ap, subst}
 use Rattle.std.specs.Prelude.{Option, Some}
 use Rattle.run_view.specs.{Piped.{Adds, Sending}, Tables.number_right}
 use Rattle.run_view.proofs.Piping.{adds_more}
-use Rattle.run_view.proofs.out.Out.row.Goals as goal
+use Rattle.run_view.proofs.outgoing.Out.row.Goals as goal
 
 in_column : {A : Type 0} {held : A → Option (List ℕ)} {faults : A → ℕ} {x y : Sending A} {m n : Option ℕ} (width : ℕ) → m ≡ n → Adds held faults x y (number_right width m) → Adds held faults x y (number_right width n)
 in_column {A} {held} {faults} {x} {y} width e a = subst (λ (o : Option ℕ). Adds held faults x y (number_right width o)) e a

@@ -1,7 +1,7 @@
 use Rattle.std.proofs.Common.{refl, ap, ◌∙◌, List, ℕ}
 use Rattle.run_view.specs.Piped.{Sending}
 use Rattle.run_view.proofs.Piping.{adds_written, keeps, some_more}
-use Rattle.run_view.proofs.out.Out.keep.Goals as goal
+use Rattle.run_view.proofs.outgoing.Out.keep.Goals as goal
 
 pub invariant_of-self : goal.invariant_of-self
 invariant_of-self g c = some_more g.B.Begun.sink c.self.invariant (keeps _ _ c.args.bytes.now refl refl c.in-Ok.ensures.items)
