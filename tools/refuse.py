@@ -11,7 +11,7 @@ program makes them. Each number is refused alone, and then with all later ones.
   refused, it may also write what it always writes: the kit's Vec asks for less where it was refused more than it needs, and where a thread can't be
   made the caller does its work.
 - rows `want CALL` of t_program, for calls of the libraries: each has to answer that it was refused, and a refused `SharedPool::close` has to
-  close when it is called again with the pool and the tokens that it gave back.
+  close when it is called again with the pool and the tokens that it gave back; so has lojarnek's `Pool::close`, once a client has used the pool again.
 
 It prints a line for each case: how many requests there are, and how each number ended. The status is 1 where one ended otherwise.
 (`rt try --fail-alloc N` refuses one number, of a program that isn't proved yet; but it builds anew for each number.)
@@ -165,7 +165,8 @@ def main():
             ("words that aren't accepted: replay --image --print", ["replay", "--image", "--print"], b""),
         ]
         ends = [program_case(shim, program, *case) for case in cases]
-        calls = [("parse", "refused"), ("replay", "refused"), ("run", "refused"), ("report", "refused"), ("migrate", "refused"), ("plain 2 2", "refused"), ("shared 2 2", "refused"), ("close 2 2", "refused, then made")]
+        calls = [("parse", "refused"), ("replay", "refused"), ("run", "refused"), ("report", "refused"), ("migrate", "refused"), ("plain 2 2", "refused"), ("shared 2 2", "refused"), ("build 2 2", "refused"), ("build 16 256", "refused")]
+        calls += [("close 2 2", "refused, then made"), ("finish 2 2", "refused, then made")]
         ends += [call_case(shim, rows, call, TWO, refused) for call, refused in calls]
     return 0 if all(ends) else 1
 

@@ -4,7 +4,8 @@
     try_sessions.py [RUN ..]    the runs of tools/statement_runs, or those whose names hold one of these texts
 
 From each recorded run a log of sessions is drawn: each agent's word steps are cut into operations, whose machine plays them back; sessions are opened,
-called, closed and killed where the run has beginnings and deaths, some deaths as calls that give up, and calls that change nothing stand between.
+called, closed and killed where the run has beginnings and deaths, some deaths as calls that give up or as answers that leave the identity dead, and calls
+that change nothing stand between.
 `sessions_by`, `words_by` and `turns_by` are taken from specs/ as they stand and translated into Python; `MayHappen` and `IsLog` are written here again,
 clause by clause. The log must be lawful, its words those of the run, and its turns the recorded ones.
 
@@ -24,9 +25,10 @@ RUNS = "tools/statement_runs"
 WRONG = [
     ("who is killed acts still", "shm_sessions.turns_by", "(acts_in (q c)) false", "(acts_in (q c)) (acts_in (q c))"),
     ("who gives up acts still", "shm_sessions.acts_called", "acts_called true b w = false", "acts_called true b w = b"),
-    ("who has left acts still", "shm_sessions.acts_left", "acts_left b (Some a) stage.Vacant = false", "acts_left b (Some a) stage.Vacant = b"),
-    ("a client that has answered has ended", "shm_sessions.acts_left", "acts_left b (Some a) stage.Live = b", "acts_left b (Some a) stage.Live = false"),
-    ("a recoverer that has answered has ended", "shm_sessions.acts_left", "acts_left b (Some a) stage.Dead = b", "acts_left b (Some a) stage.Dead = false"),
+    ("who has left acts still", "shm_sessions.acts_by", "acts_by false b stage.Vacant = false", "acts_by false b stage.Vacant = b"),
+    ("a client that has answered has ended", "shm_sessions.acts_by", "acts_by false b stage.Live = b", "acts_by false b stage.Live = false"),
+    ("a recoverer that has answered has ended", "shm_sessions.acts_by", "acts_by false b stage.Dead = b", "acts_by false b stage.Dead = false"),
+    ("a client whose identity is given up acts still", "shm_sessions.acts_by", "acts_by true b u = false", "acts_by true b u = b"),
     ("a word step leaves the words", "shm_sessions.words_made", "words_set (o.control.asks m) ws", "ws"),
 ]
 
@@ -64,7 +66,7 @@ def playback(plays):
 
 
 def call_of(op, first=0):
-    return Rec(op_=op, first_=first, second_=0, third_=0)
+    return Rec(op_=op, first_=first, second_=0, third_=0, words_=(0,) * 8)
 
 
 # ------------------------------------------------------------------ a log of sessions from a run
@@ -76,7 +78,7 @@ class Drawn:
     def __init__(self, f, g, words, turns, seed):
         self.f, self.g, self.random = f, g, random.Random(seed)
         self.happenings, self.plays, self.words = [], [], []
-        self.open, self.left = {}, {}
+        self.open, self.left, self.given = {}, {}, set()
         for i, turn in enumerate(turns):
             self.turn(turns, i, words[i])
             self.words += [words[i]] * (len(self.happenings) - len(self.words))
@@ -97,6 +99,11 @@ class Drawn:
                 asks.append(turn[2])
         return asks, False
 
+    def dies_after(self, turns, i, c, n):
+        """Whether c dies in the turn after its n-th word step from turn i on."""
+        steps = [k for k in range(i, len(turns)) if turns[k][0] == "Steps" and turns[k][1] == c][:n]
+        return n > 0 and turns[steps[-1] + 1 : steps[-1] + 2] == (("Dies", c),)
+
     def begin(self, turns, i, c, stage):
         """An operation of c from turn i on: it ends after some of the agent's word steps, or with all of them."""
         asks, dies = self.asks_from(turns, i, c)
@@ -111,7 +118,10 @@ class Drawn:
             after = ("Vacant",)
         else:
             after = stage
-            if dies and n == len(asks) and self.random.random() < 0.5:
+            if dies and stage == ("Live",) and self.dies_after(turns, i, c, len(asks)) and self.random.random() < 0.5:
+                n, after = len(asks), ("Dead",)  # its answer gives the identity up
+                self.given.add(c)
+            elif dies and n == len(asks) and self.random.random() < 0.5:
                 n += 1  # it dies in this operation
         self.plays.append(Rec(me_=Rec(geometry_=self.g, who_=c), fresh_=True, asks_=tuple(asks[:n]) + (("Load", 0),) * (n - len(asks)), stage_=after))
         self.left[c] = n
@@ -130,6 +140,8 @@ class Drawn:
             if self.random.random() < 0.3:
                 self.add("Calls", c, call_of(2))  # refused
             self.begin(turns, i + 1, c, self.open[c])
+        elif kind == "Dies" and c in self.given:
+            self.given.remove(c)
         elif kind == "Dies":
             if self.random.random() < 0.5:
                 self.add("Calls", c, call_of(18))
@@ -157,7 +169,7 @@ def may_happen(f, g, o, h, q, ws):
     if h[0] == "Opens" and not (c < g.clients_ and x == NONE and h[2] == f.see(g, ws, ("Status", c))):
         raise Broken(f"opens {c}")
     if h[0] == "Calls":
-        if x == NONE or not all(n < 2**k for n, k in ((h[2].op_, 32), (h[2].first_, 64), (h[2].second_, 64), (h[2].third_, 64))):
+        if x == NONE or not all(n < 2**k for n, k in ((h[2].op_, 32), (h[2].first_, 64), (h[2].second_, 64), (h[2].third_, 64), *((n, 64) for n in h[2].words_))):
             raise Broken(f"calls {c}")
         if x[1].stage_ == ("Live",) and h[2].op_ != 18 and not f.see(g, ws, ("Era", c, c)) <= 2**47 - 4:
             raise Broken(f"room of {c}")

@@ -1,13 +1,18 @@
-/* lojarnek.h: sessions of a shared pool, one word step at a time.
+/* lojarnek.h: sessions of a shared pool, one word step at a time or many.
  *
  * A pool is a table of 64-bit words. The caller says where they lie: in mapped memory, on another machine, in an array, anywhere that has an
  * 8-byte load, store and compare-exchange, each of them atomic and all of them in one order (sequentially consistent). Up to 16 identities
  * work in a pool. In a pool for tables each has a table of keys and numbers of its own that the others may read; in a pool for single blocks
- * each has 16 roots, which name blocks of words that name one another. A session is what one identity is at. It makes no word step
- * itself: it says which one is next, and is told the word that was found.
+ * each has 16 roots, which name blocks of words that name one another. A session is what one identity is at. It says which word step is next,
+ * and is told the word that was found.
  *
  *     lj_said s = lj_put(session, key, number);                the first word step, or a refusal
  *     while (lj_is_step(s)) s = lj_tell(session, make(s));     the next one, or the answer
+ *
+ * Where the words are mapped memory one call makes many word steps by itself:
+ *
+ *     lj_said s = lj_put(session, key, number);
+ *     while (lj_is_step(s)) s = lj_run_on(session, words, total, 4096).said;
  *
  * All that somebody needs to go on after the caller's death is in the pool's words; a session holds nothing else. So a caller may be killed
  * between any two word steps: whoever then has its identity recovers it. lojarnek_map.h does all of this for a mapped file that processes
@@ -15,7 +20,7 @@
  *
  * What no call can test, and stays the caller's:
  * 1. The word steps are made, at the pool's words and in the order in which they are asked for, and what is told is the word that was there
- *    (for a store 0).
+ *    (for a store 0). Of lj_run_on: `words` are the pool's, so many, mapped for reading and writing, and everybody changes them by atomic steps alone.
  * 2. One identity has one session that makes word steps, in the whole world, at any time; and whoever had it before makes no word step any
  *    more, not one that was sent before, either. (lojarnek_map.h: by a lock that the kernel takes back from the dead. lojarnek_fabric.h: by a
  *    key that is revoked.)
@@ -39,8 +44,8 @@ extern "C" {
 
 /* The version of this header: the first number changes where a program has to change. */
 #define LJ_VERSION_MAJOR 1
-#define LJ_VERSION_MINOR 1
-#define LJ_VERSION "1.1"
+#define LJ_VERSION_MINOR 2
+#define LJ_VERSION "1.2"
 
 /* What an identity is at. */
 typedef struct lj_session lj_session;
@@ -82,6 +87,10 @@ enum {
     LJ_LIVE = 33,       /* it has joined; `first` the same */
     LJ_DEAD = 34,       /* it is to be recovered; `first` the same */
     LJ_UNDECIDED = 35,
+
+    /* Of lj_run_on alone: a word was asked for beyond the pool's, so these are no pool's words, or somebody else wrote to them. No word step was made from
+     * then on, and what was in progress is given up. */
+    LJ_BEYOND = 36,
 
     /* A refusal: nothing was done, and nothing changed. */
     LJ_OUT_OF_RANGE = 64, /* sizes, an identity, a key, a status or an operation's number that there isn't */
@@ -125,6 +134,19 @@ lj_said lj_call(lj_session *session, uint32_t op, uint64_t a, uint64_t b, uint64
 
 /* Takes the word that was found, for a store 0: says the next word step, or the answer. LJ_IDLE where nothing had been asked for. */
 lj_said lj_tell(lj_session *session, uint64_t found);
+
+/* What is said after some word steps, and how many were made. */
+typedef struct {
+    lj_said said;
+    uint64_t steps;
+} lj_ran;
+
+/* Makes the word steps that are asked for by itself, until the operation has answered or `steps` were made, and says what lj_tell would have said after the last one: the
+ * answer, or the next word step, and then more may be made in either way. `words` are the pool's words from the first one on, `count` how many there are. They
+ * are read and changed by 8-byte atomic instructions in one order, as lj_tell's caller would; they have to stay where they are during the call. Killed within it, a
+ * process leaves them as one that was killed between two word steps.
+ * LJ_OUT_OF_RANGE where the pool has more words than `count`, and LJ_IDLE where nothing had been asked for: nothing changed then. LJ_BEYOND: above. */
+lj_ran lj_run_on(lj_session *session, uint64_t *words, uint32_t count, uint64_t steps);
 
 enum {
     LJ_OP_JOIN = 1, LJ_OP_LEAVE = 2, LJ_OP_RECOVER = 3,

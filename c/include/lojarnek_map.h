@@ -74,16 +74,21 @@ typedef struct {
     uint64_t steps;
 } lj_client;
 
-/* For tests: called before each word step, and for each identity that was recovered since a command waited in vain. */
-#ifndef LJ_BEFORE_STEP
-#define LJ_BEFORE_STEP(client, said) ((void)0)
-#endif
+/* For tests: called for each identity that was recovered since a command waited in vain; and where LJ_BEFORE_STEP is defined word steps are made one by one, and
+ * it is called before each. */
 #ifndef LJ_RESCUED
 #define LJ_RESCUED(who) ((void)0)
 #endif
 /* After how many word steps of one command a client looks whether somebody is dead. */
 #ifndef LJ_PATIENCE
 #define LJ_PATIENCE 4096
+#endif
+/* How many word steps are made in one call, and what is done after so many, for tests. */
+#ifndef LJ_AT_ONCE
+#define LJ_AT_ONCE(client) LJ_PATIENCE
+#endif
+#ifndef LJ_MADE
+#define LJ_MADE(client, steps) ((void)0)
 #endif
 /* For tests: 1 and 2 are wrong on purpose, so that a test can be seen to find it. */
 #ifndef LJ_SABOTAGE
@@ -327,17 +332,36 @@ static inline void lj_detach(lj_client *client) {
 
 static inline uint32_t lj_rescue(lj_pool *pool, uint32_t but);
 
+/* (inner) Makes some word steps of an operation: how many, and what is said then. Words that somebody else wrote to may end the process, as in lj_make. */
+static inline lj_ran lj_some(lj_client *client, lj_said said) {
+    lj_ran ran;
+#ifdef LJ_BEFORE_STEP
+    LJ_BEFORE_STEP(client, said);
+    ran.said = lj_tell(client->session, lj_make(client->pool, said));
+    ran.steps = 1;
+#else
+    (void)said;
+    ran = lj_run_on(client->session, client->pool->words, client->pool->total, LJ_AT_ONCE(client));
+    if (__builtin_expect(ran.said.code == LJ_BEYOND, 0)) abort();
+#endif
+    return ran;
+}
+
 /* Runs an operation to its answer: makes the word steps that are asked for. A refusal is handed on. A command that waits for the latch of somebody who has died
  * recovers that one, after LJ_PATIENCE word steps; a command that waits for one who is stopped waits. */
 static inline lj_said lj_run(lj_client *client, lj_said said) {
-    uint64_t made = 0;
+    uint64_t waited = 0;
     while (lj_is_step(said)) {
-        LJ_BEFORE_STEP(client, said);
-        said = lj_tell(client->session, lj_make(client->pool, said));
-        if (__builtin_expect(++made % LJ_PATIENCE == 0, 0) && lj_is_step(said) && lj_stage(client->session).code == LJ_LIVE)
-            lj_rescue(client->pool, client->who);
+        lj_ran ran = lj_some(client, said);
+        said = ran.said;
+        client->steps += ran.steps;
+        waited += ran.steps;
+        LJ_MADE(client, ran.steps);
+        if (__builtin_expect(waited >= LJ_PATIENCE, 0) && lj_is_step(said)) {
+            waited = 0;
+            if (lj_stage(client->session).code == LJ_LIVE) lj_rescue(client->pool, client->who);
+        }
     }
-    client->steps += made;
     return said;
 }
 

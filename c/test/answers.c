@@ -209,6 +209,43 @@ static void falls(void) {
     free(pool.words);
 }
 
+/* Word steps that the library makes itself. */
+static void runs(void) {
+    memory pool = memory_new(1, 2, 2);
+    lj_session *s = memory_open(&pool, 0);
+    expect("a run where nothing is asked for", lj_run_on(s, pool.words, pool.total, 9).said.code, LJ_IDLE);
+    lj_said first = lj_join(s);
+    lj_ran ran = lj_run_on(s, pool.words, pool.total, 0);
+    expect("a run of no word step", ran.steps, 0);
+    expect("what is asked for then", memcmp(&ran.said, &first, sizeof first), 0);
+    ran = lj_run_on(s, pool.words, pool.total - 1, 9);
+    expect("a run on too few words", ran.said.code, LJ_OUT_OF_RANGE);
+    expect("its word steps", ran.steps, 0);
+    lj_said ask = lj_ask(s);
+    expect("what is asked for after it", memcmp(&ask, &first, sizeof first), 0);
+    expect("a join", lj_run_on(s, pool.words, pool.total, UINT64_MAX).said.code, LJ_OK);
+    expect("live", lj_stage(s).code, LJ_LIVE);
+    lj_put(s, 7, 42);
+    ran = lj_run_on(s, pool.words, pool.total, 2);
+    expect("a run of two", ran.steps, 2);
+    expect("what it says", lj_is_step(ran.said), 1);
+    ask = lj_ask(s);
+    expect("what is asked for then", memcmp(&ran.said, &ask, sizeof ask), 0);
+    expect("a put", lj_run_on(s, pool.words, pool.total, 1000).said.code, LJ_STORED);
+    lj_get(s, 0, 7);
+    ran = lj_run_on(s, pool.words, pool.total, 1000);
+    expect("a get", ran.said.code, LJ_VALUE);
+    expect("its number", ran.said.first, 42);
+    for (uint32_t at = 0; at < pool.total; at++) if (pool.words[at]) pool.words[at] = 0xfffff;
+    lj_get(s, 0, 7);
+    ran = lj_run_on(s, pool.words, pool.total, 1000);
+    expect("a run on words that are no pool's", ran.said.code, LJ_BEYOND);
+    expect("dead", lj_stage(s).code, LJ_DEAD);
+    expect("what is asked for then", lj_ask(s).code, LJ_IDLE);
+    lj_close(s);
+    free(pool.words);
+}
+
 int main(void) {
     sizes();
     refusals();
@@ -216,6 +253,7 @@ int main(void) {
     answers(2);
     limits();
     falls();
+    runs();
     printf("answers: %d of %d are as wanted\n", tests - bad, tests);
     return bad != 0;
 }

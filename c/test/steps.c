@@ -1,4 +1,5 @@
-/* steps.c: sessions beside recorded word steps of an independent implementation: steps < steps.vectors, steps < singles.vectors. */
+/* steps.c: sessions beside recorded word steps of an independent implementation: steps < steps.vectors, steps < singles.vectors. With an argument, steps by-itself < .., the library makes
+ * each word step itself. */
 #include "memory.h"
 
 typedef struct { lj_session *session; lj_said said; uint64_t sum; unsigned made; } seat;
@@ -6,6 +7,7 @@ typedef struct { lj_session *session; lj_said said; uint64_t sum; unsigned made;
 static memory pool;
 static seat seats[16];
 static int single; /* whether the pool is for single blocks */
+static int by_itself;
 static unsigned line, operations, deaths;
 static unsigned long steps;
 
@@ -39,13 +41,19 @@ static void new_pool(int is_single, uint32_t format, uint32_t clients, uint32_t 
     want("the words of a new pool", sum_of_words(), sum);
 }
 
+static lj_said by_library(seat *s) {
+    lj_ran ran = lj_run_on(s->session, pool.words, pool.total, 1);
+    want("how many were made", ran.steps, 1);
+    return ran.said;
+}
+
 static void make(seat *s, unsigned count) {
     while (count--) {
         if (!lj_is_step(s->said)) wrong("what is said", s->said.code, LJ_LOAD);
         s->sum = mixed(mixed(s->sum, s->said.code), s->said.at);
         if (s->said.code == LJ_EXCHANGE) s->sum = mixed(s->sum, s->said.first);
         if (s->said.code != LJ_LOAD) s->sum = mixed(s->sum, s->said.second);
-        s->said = lj_tell(s->session, memory_make(&pool, s->said));
+        s->said = by_itself ? by_library(s) : lj_tell(s->session, memory_make(&pool, s->said));
         s->made++;
         steps++;
     }
@@ -61,8 +69,10 @@ static void ended(seat *s, unsigned made, uint64_t sum, lj_said said) {
     operations++;
 }
 
-int main(void) {
+int main(int argc, char **argv) {
     char text[256];
+    (void)argv;
+    by_itself = argc > 1;
     while (fgets(text, sizeof text, stdin)) {
         unsigned who, a, b, c, d;
         uint64_t x = 0, y = 0, z = 0, sum;

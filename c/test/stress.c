@@ -10,10 +10,17 @@
  * Numbers carry a check of their own, so that a number from nowhere is noticed. */
 #define _GNU_SOURCE
 #include <stdint.h>
-static void before_step(void *client, const void *said);
 static void rescued(void);
 #define LJ_PATIENCE 256
+#if LJ_SABOTAGE /* those are in word steps that this side makes itself */
+static void before_step(void *client, const void *said);
 #define LJ_BEFORE_STEP(client, said) before_step(client, &(said))
+#else
+static uint64_t at_once(void);
+static void made(uint64_t steps);
+#define LJ_AT_ONCE(client) at_once()
+#define LJ_MADE(client, steps) made(steps)
+#endif
 #define LJ_RESCUED(who) rescued()
 #include "lojarnek_map.h"
 #include <inttypes.h>
@@ -64,6 +71,7 @@ static uint64_t mix(uint64_t x) {
 static uint64_t number(uint32_t low) { return low | (mix(low) & 0xffffffff00000000ULL); }
 static int is_number(uint64_t n) { return n == number((uint32_t)n); }
 
+#if LJ_SABOTAGE
 static void before_step(void *client, const void *said) {
     if (!fuse || --fuse) return;
 #if LJ_SABOTAGE == 3 /* the last word step of who died is made later, as one that was sent before may be */
@@ -79,6 +87,17 @@ static void before_step(void *client, const void *said) {
 #endif
     kill(getpid(), SIGKILL);
 }
+#else
+/* How many word steps are made at once: no more than this process lives for, and mostly some. */
+static uint64_t at_once(void) {
+    if (fuse == 1) kill(getpid(), SIGKILL);
+    uint64_t most = 1 + drawn() % LJ_PATIENCE;
+    return fuse && fuse - 1 < most ? fuse - 1 : most;
+}
+static void made(uint64_t steps) {
+    if (fuse) fuse -= steps;
+}
+#endif
 static void rescued(void) { ADD(rescues, 1); }
 static void doing(uint32_t what) { __atomic_store_n(&all->doing[slot], what, __ATOMIC_SEQ_CST); }
 static int over(void) { return (int)__atomic_load_n(&all->stop, __ATOMIC_RELAXED); }

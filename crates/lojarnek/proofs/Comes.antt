@@ -1,5 +1,6 @@
 -- what comes of calls on blocks: how it is put together, and what a caller reads off it
 use Rattle.std.proofs.Common.{◌≡◌, ℕ, ◌≤◌, true, false, List, Result, Ok, Err, inl, inr, refl, sym, ap, ◌∙◌, subst, arith, MatchResult}
+use Rattle.std.proofs.lemmas.Bool.{true≢false}
 use Rattle.std.specs.Prelude.{Option, None, IfOk, IfErr}
 use Rattle.shm_graph.specs.{declared.memo.Memo.Memo, Asks.Trail, Events.Event, Laws.Control, Reach.is_reached}
 use Rattle.shm_count.specs.{Roots.root_word, Waiting.LeavesQueues}
@@ -116,7 +117,8 @@ first_tested T w c e h = elim h.is [ inl is ↦ tested_wrong T w c e (sym is) | 
 
 -- and such a refusal leaves what any does
 pub first_denied : (why : Error → Acts → Acts → Type 0) (c : Acts) (e : Error) → IsWrongOn c e → Denies why c c e
-first_denied why c (Died d) h = dead_before c c h.0 refl
+first_denied why c (Died true) h = absurd (true≢false h.1)
+first_denied why c (Died false) h = dead_before c c h.0 refl
 first_denied why c (EraSpent e) h = absurd h
 first_denied why c RootsFull h = absurd h
 first_denied why c (Full s b) h = absurd h

@@ -1,7 +1,7 @@
 -- what looks at reference words and shares under a latch leave
-use Rattle.std.proofs.Common.{◌≡◌, ◌≢◌, ℕ, ◌<◌, Bool, true, false, List, [], ◌∷◌, ◌++◌, Result, Ok, Err, inl, inr, refl, sym, ap, ◌∙◌, subst}
+use Rattle.std.proofs.Common.{◌≡◌, ◌≢◌, ℕ, ◌<◌, true, false, List, [], ◌∷◌, ◌++◌, Result, Ok, Err, inl, inr, refl, sym, ap, ◌∙◌, subst}
 use Rattle.std.proofs.lemmas.{Bool.cases_eq, List.Elements.Contains-append_right}
-use Rattle.std.specs.{List.{Contains, filter}, Prelude.{Option, Some, None, slice_index, ◌==◌}}
+use Rattle.std.specs.{List.{Contains, filter}, Prelude.{Option, Some, None, is_ok, slice_index, ◌==◌}}
 use Rattle.shm_graph.specs.declared.{ask.Me.Me, memo.{Memo.Memo, Stored.Stored}, spot.Spot.TheVariants.{Body, Tag}}
 use Rattle.shm_graph.specs.{Asks.Trail, Core.core, Events.Event, Held.is_loose, MemoAfterRead.values_read}
 use Rattle.shm_graph.specs.Reach.{is_reached, learnt, not_at}
@@ -25,7 +25,7 @@ use Rattle.lojarnek.specs.{Refusing.{is_death, share_error}, Roots.{IsHolding, a
 use Rattle.lojarnek.specs.Setting.{HasGiven, HasHeld}
 use Rattle.lojarnek.specs.declared.error.Error.TheVariants as error
 use Rattle.lojarnek.proofs.{Comes.{err_came, named_here, ok_came, roots_kept, same_then}, Done.{done_lives, done_same}}
-use Rattle.lojarnek.proofs.{Latches.died_ended, Setting.{ended_came, ended_then, roots_then}}
+use Rattle.lojarnek.proofs.{Latches.died_ended, Setting.{ended_came, ended_done, ended_then, roots_then}}
 use Rattle.lojarnek.proofs.{Shares.{share_others, share_same, share_spent}, Words.known_queues}
 
 -- ---- a client that holds a latch still
@@ -209,13 +209,13 @@ unfollowed_lives : (T : Type 0) (a j : ℕ) (c : Acts) (e : Error) → WhyUnfoll
 unfollowed_lives T a j c (error.Died z) h = absurd h
 unfollowed_lives T a j c e h = refl
 
-unfollowed_denied : (a j : ℕ) (c f : Acts) (e : Error) → WhyUnfollowed a j c e → StandsOn c f → Denies (WhyNotFollowed a j) c f e
-unfollowed_denied a j c f (error.NoSuchWord i n) h stands = (h.0, stands, h.1)
-unfollowed_denied a j c f (error.WrongAuthor x) h stands = (stands, h)
-unfollowed_denied a j c f (error.EraSpent n) h stands = ((h, stands.roots), stands.alive)
-unfollowed_denied a j c f error.RootsFull h stands = (h, stands, tt)
-unfollowed_denied a j c f (error.CountFull b n) h stands = (h, stands, tt)
-unfollowed_denied a j c f e h stands = absurd h
+unfollowed_denied : (a b j : ℕ) (c f : Acts) (e : Error) → WhyUnfollowed a j c e → StandsOn c f → Denies (WhyNotFollowed a b j) c f e
+unfollowed_denied a b j c f (error.NoSuchWord i n) h stands = (h.0, stands, h.1)
+unfollowed_denied a b j c f (error.WrongAuthor x) h stands = (stands, h)
+unfollowed_denied a b j c f (error.EraSpent n) h stands = ((h, stands.roots), stands.alive)
+unfollowed_denied a b j c f error.RootsFull h stands = (h, stands, tt)
+unfollowed_denied a b j c f (error.CountFull x n) h stands = (h, stands, tt)
+unfollowed_denied a b j c f e h stands = absurd h
 
 module _ (a b j : ℕ) (c d e f : Acts) (bs : List ℕ) (held : HasHeld a c d (Done tt)) where
   follows_then : (o : Option ℕ) → Follows b j o d e → KeepsRoots e f → Follows b j o c f
@@ -226,17 +226,20 @@ module _ (a b j : ℕ) (c d e f : Acts) (bs : List ℕ) (held : HasHeld a c d (D
   )
   follows_then None h after = (roots_then c e f (roots_then c d e held.2 h.0) after, λ x word. h.1 x (subst (λ (ks : List Stored). Contains ks (record { spot = Body b j; value = x })) (sym held.3) word))
 
-  pub follow_came : (r : Result (Option ℕ) Error) → HasFollowed a b j d e bs (Done r) → HasGiven e f (Done tt) → HasCome (λ o. Follows b j o c f) (WhyNotFollowed a j) c f bs r
+  pub follow_came : (r : Result (Option ℕ) Error) → HasFollowed a b j d e bs (Done r) → HasGiven e f (Done tt) → HasCome (λ o. Follows b j o c f) (WhyNotFollowed a b j) c f bs r
   follow_came (Ok o) h g =
-      ok_came (λ (o : Option ℕ). Follows b j o c f) (WhyNotFollowed a j) c f bs o (same_then c e f (same_then c d e held.0 h.0) g.0) g.1 (λ none alive k low. g.2 k ∙ h.2 k low) (follows_then o h.3 g.2)
+      ok_came (λ (o : Option ℕ). Follows b j o c f) (WhyNotFollowed a b j) c f bs o (same_then c e f (same_then c d e held.0 h.0) g.0) g.1 (λ none alive k low. g.2 k ∙ h.2 k low) (follows_then o h.3 g.2)
   follow_came (Err x) h g =
       let why : WhyUnfollowed a j c x = why_then a j c d x held.2 h.3.0 in
       let keeps : KeepsRoots c f = roots_then c e f (roots_then c d e held.2 h.3.1) g.2 in
-      err_came (λ (o : Option ℕ). Follows b j o c f) (WhyNotFollowed a j) c f bs x (same_then c e f (same_then c d e held.0 h.0) g.0) g.1 (λ none alive k low. g.2 k ∙ h.2 k low) (unfollowed_lives (Option ℕ) a j c x why)
-      (unfollowed_denied a j c f x why (record { alive = g.1.alive; roots = keeps }))
+      err_came (λ (o : Option ℕ). Follows b j o c f) (WhyNotFollowed a b j) c f bs x (same_then c e f (same_then c d e held.0 h.0) g.0) g.1 (λ none alive k low. g.2 k ∙ h.2 k low) (unfollowed_lives (Option ℕ) a j c x why)
+      (unfollowed_denied a b j c f x why (record { alive = g.1.alive; roots = keeps }))
 
-  pub follow_died : HasFollowed a b j d e bs Died → HasCome (λ o. Follows b j o c e) (WhyNotFollowed a j) c e bs (Err (error.Died false))
-  follow_died h = ended_came (λ (o : Option ℕ). Follows b j o c e) (WhyNotFollowed a j) c e bs false (ended_then c d e held.0 h)
+  pub follow_died : HasFollowed a b j d e bs Died → HasCome (λ o. Follows b j o c e) (WhyNotFollowed a b j) c e bs (Err (error.Died false))
+  follow_died h = ended_came (λ (o : Option ℕ). Follows b j o c e) (WhyNotFollowed a b j) c e bs (ended_then c d e held.0 h)
 
-  pub follow_kept : (r : Result (Option ℕ) Error) (done : Bool) → HasFollowed a b j d e bs (Done r) → HasGiven e f Died → HasCome (λ o. Follows b j o c f) (WhyNotFollowed a j) c f bs (Err (error.Died done))
-  follow_kept r done h g = ended_came (λ (o : Option ℕ). Follows b j o c f) (WhyNotFollowed a j) c f bs done (ended_then c e f (same_then c d e held.0 h.0) g)
+  -- it died in the giving back
+  pub follow_kept : (r : Result (Option ℕ) Error) → HasFollowed a b j d e bs (Done r) → HasGiven e f Died → HasCome (λ o. Follows b j o c f) (WhyNotFollowed a b j) c f bs (Err (error.Died (is_ok r)))
+  follow_kept (Ok o) h g =
+      ended_done (λ (y : Option ℕ). Follows b j y c f) (WhyNotFollowed a b j) c f bs (ended_then c e f (same_then c d e held.0 h.0) g.0) (o, follows_then o h.3 g.1)
+  follow_kept (Err x) h g = ended_came (λ (o : Option ℕ). Follows b j o c f) (WhyNotFollowed a b j) c f bs (ended_then c e f (same_then c d e held.0 h.0) g.0)

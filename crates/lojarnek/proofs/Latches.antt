@@ -1,4 +1,4 @@
--- what taking latches, setting reference words under them and giving them back leave
+-- what taking latches and setting reference words under them leave, and what stays known once they are given back
 use Rattle.std.proofs.Common.{◌≡◌, ◌≢◌, ℕ, ◌+◌, ◌<◌, ◌≤◌, Bool, true, false, List, [], ◌∷◌, ◌++◌, length, length-append, append-nil, Result, Ok, Err, eqb, refl, sym, ap, ◌∙◌, subst, arith, MatchResult}
 use Rattle.std.proofs.lemmas.Bool.{and_from, eq-eqb, or_left, or_right}
 use Rattle.std.specs.{List.{Contains, filter, list_any}, Prelude.{None, Some}}
@@ -10,15 +10,14 @@ use Rattle.plans.specs.Words.{word_control}
 use Rattle.shm_count.specs.{Roots.root_word, Tear.Memos.Knows}
 use Rattle.shm_count.proofs.RootSpots.{roots_reached}
 use Rattle.shm_ref.specs.{declared.answer.{Busy.Busy, SetFault.SetFault}, Hold.{Control.holding, hold_plan}}
-use Rattle.shm_ref.specs.{Release.{Released, release_plan, releasing}, SetRef.{Control.{set_parts, setting}, set_plan}}
-use Rattle.shm_ref.specs.SetRef.Told.{SetTold}
+use Rattle.shm_ref.specs.SetRef.{Control.{set_parts, setting}, Told.SetTold, set_plan}
 use Rattle.shm_ref.specs.declared.answer.SetFault.TheVariants as set
-use Rattle.shm_ref.proofs.LatchKeeps.{hold_held, hold_refused, hold_roots, hold_waiting, release_roots, release_waiting}
+use Rattle.shm_ref.proofs.LatchKeeps.{hold_held, hold_refused, hold_roots, hold_waiting}
 use Rattle.shm_ref.proofs.SetKeeps.{set_known, set_lasts, set_told}
 use Rattle.shm_pool.specs.{declared.reply.Reply.{Reply, TheVariants.{Died, Done}}, Calls.{Ending, Shown}}
 use Rattle.shm_pool.specs.{Called.{HasCalled, Rests}, Doing.HasDone, Tokens.{Acting, Its, me_of}}
 use Rattle.lojarnek.specs.{Blocks.{HasEnded, KeepsRoots}, Roots.{IsAtBlocks, IsHolding, IsNamed}, Standing.acts_of}
-use Rattle.lojarnek.specs.{Setting.{HasGiven, HasHeld, HasSet, KnowsReference, WhyUnset}, Tables.SameClient}
+use Rattle.lojarnek.specs.{Setting.{HasHeld, HasSet, KnowsReference, WhyUnset}, Tables.SameClient}
 use Rattle.lojarnek.proofs.{Comes.{roots_kept, same_then}, Done.{done_lives, done_same}, Ready.dead_ready}
 
 -- ---- in the memo
@@ -28,7 +27,7 @@ named_root : (c : ℕ) (m : Memo) (k b : ℕ) → m.op ≡ Nothing → k < 16 �
 named_root c m k b idle low some is =
     subst (λ (xs : List ℕ). list_any (eqb b) xs ≡ true) (append-nil (named_blocks c m)) (roots_reached c (record m { looks = [] }) idle k b low some is)
 
-module _ (me : Me) (r0 r : Memo) (tr : Trail) (es : List Event) (h : Released me r0 r tr es) where
+module _ (me : Me) (r0 : Memo) where
   -- the memo in which the latch is given back and nothing is forgotten yet
   abbrev loosed : Memo
   loosed = record r0 { latch = None; looks = [] }
@@ -39,9 +38,9 @@ module _ (me : Me) (r0 r : Memo) (tr : Trail) (es : List Event) (h : Released me
   own_latch : r0.latch ≡ Some me.who → is_latch_of me.who r0.latch ≡ true
   own_latch held = ap (is_latch_of me.who) held ∙ eq-eqb me.who me.who refl
 
-  released_knows : (k b j d : ℕ) → r0.op ≡ Nothing → k < 16 → b ≢ 0 → root_word me.who r0 k ≡ b → r0.latch ≡ Some me.who → Knows r0 (Body b j) d → Knows r (Body b j) d
-  released_knows k b j d idle low some is held known =
-      let known_now : r.known ≡ filter stays r0.known = ap (λ (x : Memo). x.known) h.memo in
+  -- where the own latch is given back, reference words of blocks that roots name stay known
+  pub unlatched_knows : (r : Memo) → r.known ≡ filter stays r0.known → (k b j d : ℕ) → r0.op ≡ Nothing → k < 16 → b ≢ 0 → root_word me.who r0 k ≡ b → r0.latch ≡ Some me.who → Knows r0 (Body b j) d → Knows r (Body b j) d
+  unlatched_knows r known_now k b j d idle low some is held known =
       let reached : is_reached me.who loosed b ≡ true = roots_reached me.who loosed idle k b low some is in
       let binds : stays (record { spot = Body b j; value = d }) ≡ true = or_right (is_dying loosed b) _ (and_from (is_reached me.who loosed b) _ reached (or_left (is_latch_of me.who r0.latch) _ (own_latch held))) in
       subst (λ (ks : List Stored). Contains ks (record { spot = Body b j; value = d })) (sym known_now) (Contains-filter stays r0.known _ known binds)
@@ -127,27 +126,7 @@ module _ (t0 : Acting) (first : ℕ) (t t' : Acting) (before left a : ℕ) (at :
   pub held_died : HasCalled word_control hold_plan (holding (me_of t.of t.account) a) t t' before left Died → HasHeld a (acts_of t0 first) (acts_of t' left) Died
   held_died h = let e : HasEnded (acts_of t before) (acts_of t' left) = died_ended at.at.alive h.done h.rests in (same_then (acts_of t0 first) (acts_of t before) (acts_of t' left) at.same e.0, e.1, e.2, e.3)
 
--- ---- and given back
-
-module _ (t t' : Acting) (before left a : ℕ) (at : IsHolding a t) where
-  given_now : (u : Unit {0}) → HasCalled word_control release_plan (releasing (me_of t.of t.account)) t t' before left (Done u) → HasGiven (acts_of t before) (acts_of t' left) (Done u)
-  given_now u h =
-      let w = release_waiting (me_of t.of t.account) t.account.memo t'.account.memo _ _ h.done.left_so in (
-        done_same (Done u) at.alive h.done,
-        record {
-          ready = record { rests = h.rests; none = λ d. h.done.left_so.latch; unsent = λ d j. w.unsent j ∙ at.unsent j; untaken = λ d j. w.untaken j ∙ at.untaken j };
-          kind = ap (λ (p : Its). p.start.tables) h.done.same.0 ∙ at.kind;
-          alive = done_lives u h.done;
-        },
-        roots_kept t t' h.done.same.1 (release_roots (me_of t.of t.account) t.account.memo t'.account.memo _ _ h.done.left_so),
-        λ b j d n held known. released_knows (me_of t.of t.account) t.account.memo t'.account.memo _ _ h.done.left_so n.root b j d (at.rests.between at.alive).idle.op n.low n.some n.named held known,
-      )
-
-  pub given : (o : Reply (Unit {0})) → HasCalled word_control release_plan (releasing (me_of t.of t.account)) t t' before left o → HasGiven (acts_of t before) (acts_of t' left) o
-  given (Done u) h = given_now u h
-  given Died h = died_ended at.alive h.done h.rests
-
--- ---- a word is set between
+-- ---- a word is set while it is held
 
 module _ (t t' : Acting) (before left b j d : ℕ) (at : IsHolding t.account.who t) (named : IsNamed b t) where
   abbrev Sets : Reply (Result (Unit {0}) SetFault) → Type 0

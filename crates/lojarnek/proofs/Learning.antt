@@ -10,8 +10,7 @@ use Rattle.shm_ref.specs.RootOf.{naming, naming_plan}
 use Rattle.shm_table.specs.Staying.{IsSpent}
 use Rattle.shm_pool.specs.{declared.reply.Reply.TheVariants.{Died, Done}, Called.HasCalled, Tokens.{Acting, me_of}}
 use Rattle.lojarnek.specs.{Blocks.{HasCome, HasLearnt, KeepsRoots}, Roots.{IsAtBlocks, account_root}}
-use Rattle.lojarnek.specs.{Standing.{Acts, acts_of}, Tables.SameClient}
-use Rattle.lojarnek.specs.declared.error.Error.{Error}
+use Rattle.lojarnek.specs.{Standing.{Acts, acts_of}, Tables.SameClient, declared.error.Error.Error}
 use Rattle.lojarnek.specs.declared.error.Error.TheVariants as error
 use Rattle.lojarnek.proofs.{Comes.{err_came, named_here, same_then, still_at}, Done.{done_lives, done_same}}
 use Rattle.lojarnek.proofs.{Ready.dead_ready, Naming.knows_dead}

@@ -1,7 +1,9 @@
 pub mod Alone
+pub mod Amid
 pub mod Comes
 pub mod Done
 pub mod Follows
+pub mod Giving
 pub mod Latches
 pub mod Learning
 pub mod Lists
@@ -10,6 +12,7 @@ pub mod Makes
 pub mod Naming
 pub mod Parts
 pub mod Passes
+pub mod Piecewise
 pub mod Ready
 pub mod Says
 pub mod Setting

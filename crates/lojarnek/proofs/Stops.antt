@@ -31,7 +31,7 @@ use Rattle.lojarnek.proofs.Parts.{recovering_part, recovering_who}
 -- ---- steps of a machine that fits
 
 -- none of these steps is its machine's last
-abbrev AreOn : List Step → Type 0
+abbrev pub AreOn : List Step → Type 0
 AreOn [] = Unit {0}
 AreOn (t ∷ ts) = (t.ends ≡ false) × AreOn ts
 
@@ -52,9 +52,9 @@ module _ {S A : Type 0} (k : Control S A) (fits : S → Memo → Memo → Type 0
       (subst (λ (a : Account). Outcome (k.turns m n) (fits (k.after m n) r0 (account_after a (step_of k m n)).memo) (gives m r0 (account_after a (step_of k m n)).memo)) there
       (subst (λ (z : ℕ). Outcome (k.turns m z) (fits (k.after m z) r0 (account_after (account_at es e.who) (step_of k m z)).memo) (gives m r0 (account_after (account_at es e.who) (step_of k m z)).memo)) (sym made.move.0) y))
 
-  fits_after : (ts : List Step) (m : S) (e : Account) → ts ≡ machine_steps k m (pairs ts) → AreMade e ts → AreOn ts → k.me m ≡ record { geometry = g; who = e.who } → e.who < g.clients → k.finished m ≡ false → fits m r0 e.memo
-      → (k.finished (after_all k m (pairs ts)) ≡ false) × fits (after_all k m (pairs ts)) r0 (accounts_by e ts).memo
-  fits_after [] m e is made on me low going fit = (going, fit)
+  pub fits_after : (ts : List Step) (m : S) (e : Account) → ts ≡ machine_steps k m (pairs ts) → AreMade e ts → AreOn ts → k.me m ≡ record { geometry = g; who = e.who } → e.who < g.clients → k.finished m ≡ false → fits m r0 e.memo
+      → (k.me (after_all k m (pairs ts)) ≡ record { geometry = g; who = e.who }) × (k.finished (after_all k m (pairs ts)) ≡ false) × fits (after_all k m (pairs ts)) r0 (accounts_by e ts).memo
+  fits_after [] m e is made on me low going fit = (me, going, fit)
   fits_after (t ∷ ts) m e is made on me low going fit =
       let first : t ≡ step_of k m t.seen = (cc) in
       let rest : ts ≡ machine_steps k (k.after m t.seen) (pairs ts) = (cc) in
@@ -70,11 +70,11 @@ recovering_laws = recover_laws mend_laws roots_laws back_laws finish_laws scan_l
 laws : Laws recover (CallsFits recover_parts recover_plan) (CallsGives recover_parts recover_plan)
 laws = calls_laws recover_parts recover_plan recovering_laws
 
-going_on : (s : Shown) (fresh : Bool) (ts : List Step) → Going s fresh ts → AreOn ts
+pub going_on : (s : Shown) (fresh : Bool) (ts : List Step) → Going s fresh ts → AreOn ts
 going_on s fresh [] h = tt
 going_on s fresh (t ∷ ts) h = (h.1, going_on s false ts h.2)
 
-none_last : (s : Shown) (fresh : Bool) (ts : List Step) → Ending s fresh false ts → ts ≡ []
+pub none_last : (s : Shown) (fresh : Bool) (ts : List Step) → Ending s fresh false ts → ts ≡ []
 none_last s fresh [] h = refl
 none_last s fresh (t ∷ ts) h = absurd h
 
@@ -100,7 +100,7 @@ module _ (p : Its) (e : Account) (stood : Stood p.start e) where
       (is_mine recover_parts recover_plan recovering_laws recovering MayMend recovery_last (me_of p e) ∙ ap (λ (n : ℕ). record { geometry = p.start.geometry; who = n }) (sym (recovering_who e)))
       low (unfinished recover_parts recover_plan recovering_laws recovering MayMend recovery_last (me_of p e))
       (fits_first recover_parts recover_plan recovering_laws recovering MayMend recovery_last (me_of p e) e0.memo may) in
-      let same : SameMap e0.memo (accounts_by e0 (d.call.steps ++ d.call.last)).memo = recover_steady _ e0.memo _ _ x.0 x.1 in
+      let same : SameMap e0.memo (accounts_by e0 (d.call.steps ++ d.call.last)).memo = recover_steady _ e0.memo _ _ x.1 x.2 in
       ap (λ (a : Account). map_in a.memo.part key) d.call.account ∙ (ap (λ (h : ℕ → Option (ℕ × ℕ)). h key) same.0 ∙ ap (λ (q : Part). map_in q key) (recovering_part e))
 
   pub stopped_map : (before left : ℕ) (x : Cause) (t : Token) → HasNotRecovered p e before left x t → KeepsMap e t.account

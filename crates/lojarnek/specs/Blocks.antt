@@ -147,9 +147,10 @@ pub record StandsOn (c c' : Acts) : Type 0 where
   pub alive : c'.token.dead ≡ false
   pub roots : KeepsRoots c c'
 
--- Why a call on blocks was refused. Refused before its first word step it changed nothing; after any other refusal but for want of eras the client lives, and its roots name what they named; `why` says which refusals the call has, and what else is so
+-- Why a call on blocks was refused. Refused before its first word step it changed nothing; where the client died in it, and what was asked for is done, `why` says what that is; after any other refusal but for want of eras the client lives, and its roots name what they named; `why` says which refusals the call has, and what else is so
 abbrev pub Denies : (Error → Acts → Acts → Type 0) → Acts → Acts → Error → Type 0
-Denies why c c' (Died d) = IsDeadNow c c'
+Denies why c c' (Died true) = IsDeadNow c c' × why (Died true) c c'
+Denies why c c' (Died false) = IsDeadNow c c'
 Denies why c c' (EraSpent e) = why (EraSpent e) c c' × (c'.token.dead ≡ false)
 Denies why c c' RootsFull = ((k : ℕ) → k < 16 → names c k ≢ 0) × StandsOn c c' × why RootsFull c c'
 Denies why c c' (Full s b) = ((k : ℕ) × (k < 16) × (names c k ≡ 0)) × StandsOn c c' × why (Full s b) c c'

@@ -7,6 +7,7 @@ use Rattle.lojarnek.specs.declared.error.Error.TheVariants.{CountFull, EraSpent,
 use Rattle.lojarnek.specs.Blocks.{HasEnded, IsRooted, KeepsRoots, first_of, kind_wrong, names, word_wrong}
 use Rattle.lojarnek.specs.{Roots.{IsHolding, account_root}, Setting.KnowsReference, Standing.Acts}
 use Rattle.lojarnek.specs.Tables.{SameClient, unknown_of}
+use Rattle.lojarnek.specs.declared.error.Error.TheVariants as error
 
 -- root k, the least one that was empty, names the block that reference word j of the block b names; or the word names none. The word is what the client knew of it, if it did
 abbrev pub Follows : ℕ → ℕ → Option ℕ → Acts → Acts → Type 0
@@ -17,14 +18,15 @@ Follows b j None c c' = KeepsRoots c c' × ((d : ℕ) → KnowsReference b j d c
 abbrev pub follow_wrong : Acts → ℕ → ℕ → ℕ → Option Error
 follow_wrong c a k j = first_of (kind_wrong c) (first_of (unknown_of c a) (word_wrong 16 Reference c k j))
 
--- Why reference word j of a block isn't followed that client a made: the block has none, or the client isn't its author, or the eras are spent and the roots name what they named, or all of them name blocks, or the count of the block that it names is as great as it can be
-abbrev pub WhyNotFollowed : ℕ → ℕ → Error → Acts → Acts → Type 0
-WhyNotFollowed a j (NoSuchWord i n) c c' = i ≡ j
-WhyNotFollowed a j (WrongAuthor x) c c' = x ≡ a
-WhyNotFollowed a j (EraSpent e) c c' = (2 ^ 47 - 4 < e) × KeepsRoots c c'
-WhyNotFollowed a j RootsFull c c' = Unit {0}
-WhyNotFollowed a j (CountFull b n) c c' = Unit {0}
-WhyNotFollowed a j e c c' = ⊥
+-- Why a call that follows reference word j of the block b, which client a made, is refused: the block has no such word, or the client isn't its author, or the eras are spent and the roots name what they named, or all of them name blocks, or the count of the block that it names is as great as it can be; or the word is followed, and the client died before it had given the latch back
+abbrev pub WhyNotFollowed : ℕ → ℕ → ℕ → Error → Acts → Acts → Type 0
+WhyNotFollowed a b j (NoSuchWord i n) c c' = i ≡ j
+WhyNotFollowed a b j (WrongAuthor x) c c' = x ≡ a
+WhyNotFollowed a b j (EraSpent e) c c' = (2 ^ 47 - 4 < e) × KeepsRoots c c'
+WhyNotFollowed a b j RootsFull c c' = Unit {0}
+WhyNotFollowed a b j (CountFull x n) c c' = Unit {0}
+WhyNotFollowed a b j (error.Died true) c c' = (o : Option ℕ) × Follows b j o c c'
+WhyNotFollowed a b j e c c' = ⊥
 
 -- why a block got no root under a latch
 abbrev pub WhyUnrooted : Acts → Error → Type 0

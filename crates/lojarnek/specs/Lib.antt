@@ -1,9 +1,12 @@
 -- what the crate's contracts cite
+pub mod Amid
 pub mod Blocks
 pub mod Following
 pub mod Homes
 pub mod Passing
+pub mod Pending
 pub mod Pools
+pub mod Progressing
 pub mod Queues
 pub mod Refusing
 pub mod Rests

@@ -1,5 +1,5 @@
 -- reference words of blocks, and the latches under which they are set and read
-use Rattle.std.specs.Prelude.{◌≡◌, ◌≢◌, ℕ, ◌-◌, ◌^◌, ◌<◌, ◌≤◌, if◌then◌else◌, Option, None, Some, Result, MatchResult}
+use Rattle.std.specs.Prelude.{◌≡◌, ◌≢◌, ℕ, ◌-◌, ◌^◌, ◌<◌, ◌≤◌, true, if◌then◌else◌, Option, None, Some, Result, MatchResult}
 use Rattle.shm_graph.specs.declared.spot.Spot.TheVariants.{Body}
 use Rattle.shm_count.specs.Tear.Memos.{Knows}
 use Rattle.shm_ref.specs.declared.answer.SetFault.{SetFault}
@@ -9,18 +9,20 @@ use Rattle.lojarnek.specs.declared.error.Error.{Error, TheVariants.{CountFull, E
 use Rattle.lojarnek.specs.declared.error.Bound.TheVariants.{Reference}
 use Rattle.lojarnek.specs.Blocks.{HasEnded, KeepsRoots, first_of, root_wrong, word_wrong}
 use Rattle.lojarnek.specs.{Roots.{IsAtBlocks, IsHolding, IsNamed}, Standing.Acts, Tables.SameClient}
+use Rattle.lojarnek.specs.declared.error.Error.TheVariants as error
 
 -- the client knows that reference word j of the block b names the block d, or none where that is 0
 abbrev pub KnowsReference : ℕ → ℕ → ℕ → Acts → Type 0
 KnowsReference b j d c = Knows c.token.account.memo (Body b j) d
 
--- Why reference word j isn't set to name the block d, or none where that is 0: the block has none, or isn't the client's, or its eras are spent and its roots name what they named, or the count of d is as great as it can be
-abbrev pub WhyNotSet : ℕ → ℕ → Error → Acts → Acts → Type 0
-WhyNotSet j d (NoSuchWord i n) c c' = i ≡ j
-WhyNotSet j d (NotAuthor a) c c' = Unit {0}
-WhyNotSet j d (EraSpent e) c c' = (2 ^ 47 - 4 < e) × KeepsRoots c c'
-WhyNotSet j d (CountFull b n) c c' = (b ≡ d) × (d ≢ 0)
-WhyNotSet j d e c c' = ⊥
+-- Why a call that sets reference word j of the block b to name the block d, or none where that is 0, is refused: the block has no such word, or isn't the client's, or its eras are spent and its roots name what they named, or the count of d is as great as it can be; or the word is set, and the client died before it had given its latch back
+abbrev pub WhyNotSet : ℕ → ℕ → ℕ → Error → Acts → Acts → Type 0
+WhyNotSet b j d (NoSuchWord i n) c c' = i ≡ j
+WhyNotSet b j d (NotAuthor a) c c' = Unit {0}
+WhyNotSet b j d (EraSpent e) c c' = (2 ^ 47 - 4 < e) × KeepsRoots c c'
+WhyNotSet b j d (CountFull x n) c c' = (x ≡ d) × (d ≢ 0)
+WhyNotSet b j d (error.Died true) c c' = KnowsReference b j d c' × KeepsRoots c c'
+WhyNotSet b j d e c c' = ⊥
 
 -- what is wrong with setting reference word j of the block that root k names to the one that root d names, which is tested of a client that lives
 abbrev pub set_wrong : Acts → ℕ → ℕ → ℕ → Option Error
@@ -33,12 +35,14 @@ abbrev pub HasHeld : ℕ → Acts → Acts → Reply (Unit {0}) → Type 0
 HasHeld a c c' (Done u) = SameClient c c' × IsHolding a c'.token × KeepsRoots c c' × (c'.token.account.memo.known ≡ c.token.account.memo.known)
 HasHeld a c c' Died = HasEnded c c'
 
--- it gave its latch back, and where that was its own one it knows what it knew of reference words of blocks that roots name; or it died
+-- where the latch was its own one, the client knows what it knew of reference words of blocks that roots name
+abbrev pub KeepsReferences : Acts → Acts → Type 0
+KeepsReferences c c' = (b j d : ℕ) → IsNamed b c.token → c.token.account.memo.latch ≡ Some c.token.account.who → KnowsReference b j d c → KnowsReference b j d c'
+
+-- it gave its latch back, or died in that
 abbrev pub HasGiven : Acts → Acts → Reply (Unit {0}) → Type 0
-HasGiven c c' (Done u) =
-    SameClient c c' × IsAtBlocks c'.token × KeepsRoots c c'
-    × ((b j d : ℕ) → IsNamed b c.token → c.token.account.memo.latch ≡ Some c.token.account.who → KnowsReference b j d c → KnowsReference b j d c')
-HasGiven c c' Died = HasEnded c c'
+HasGiven c c' (Done u) = SameClient c c' × IsAtBlocks c'.token × KeepsRoots c c' × KeepsReferences c c'
+HasGiven c c' Died = HasEnded c c' × KeepsRoots c c' × KeepsReferences c c'
 
 -- ---- a word that is set under the own latch
 

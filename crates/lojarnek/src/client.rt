@@ -2,7 +2,7 @@
 
 ghost use Rattle.std.specs.Prelude.{◌≡◌, ◌<◌, ◌^◌, ◌-◌, ℕ, true, false, IfOk, IfErr};
 ghost use Rattle.lojarnek.specs.{Homes.IsHome, Roots.account_root};
-ghost use Rattle.lojarnek.specs.Standing.{IsRecovered, IsReadyForCall, IsStopped, corpse_of};
+ghost use Rattle.lojarnek.specs.Standing.{IsRecovered, IsReadyForCall, IsStopped, acts_of, corpse_of};
 
 use crate::corpse::Corpse;
 use crate::desk::Rest;
@@ -51,6 +51,44 @@ impl<'p> Client<'p> {
             dead: false,
             life: Life::of(u64::MAX),
         }
+    }
+
+    /// The client after a command on tables.
+    pub(crate) fn after(
+        place: Place<'p>,
+        token: shm_pool::Client,
+        life: Life,
+        dead: bool,
+    ) -> Client<'p>
+        requires home { IsHome place token.of token.account.who }
+        requires ready { IsReadyForCall token }
+        requires dead { dead ≡ token.dead }
+        requires tables { token.of.start.tables ≡ true }
+        ensures { result ≡ record { token = token; left = life.left } }
+    {
+        Client {
+            place,
+            token,
+            roots: Roots::none(),
+            dead,
+            life,
+        }
+    }
+
+    /// What a command on tables needs of the client.
+    pub(crate) fn into_parts(self) -> (Place<'p>, shm_pool::Client, Life)
+        ensures home { IsHome result.0 result.1.of result.1.account.who }
+        ensures client { acts_of result.1 result.2.left ≡ self.entry }
+        ensures ready { IsReadyForCall result.1 }
+    {
+        let Client {
+            place,
+            token,
+            roots: _,
+            dead: _,
+            life,
+        } = self;
+        (place, token, life)
     }
 
     /// The number of the identity.

@@ -110,7 +110,7 @@ fn follow(
     requires author { author < token.old.of.start.geometry.clients }
     requires knows { KnowsRoots token.old roots.old.named }
     requires block { IsNamed block token.old }
-    ensures { HasCome (λ o. Follows block word o (acts_of token.old life.old.left) (acts_of token.new life.new.left)) (WhyNotFollowed author word) (acts_of token.old life.old.left) (acts_of token.new life.new.left) roots.new.named result }
+    ensures { HasCome (λ o. Follows block word o (acts_of token.old life.old.left) (acts_of token.new life.new.left)) (WhyNotFollowed author block word) (acts_of token.old life.old.left) (acts_of token.new life.new.left) roots.new.named result }
 {
     let Reply::Done(()) = take(token, pool, life, author) else {
         return Err(Error::Died { done: false });
@@ -151,7 +151,7 @@ impl Client<'_> {
     pub fn follow(&mut self, author: u8, root: u8, word: u8) -> Result<Option<u8>, Error>
         ensures tested { WasTested (follow_wrong self.old author root word) self.old self.new result }
         ensures followed { IfOk result (λ o. Follows (names self.old root) word o self.old self.new) }
-        ensures refused { IfErr result (Denies (WhyNotFollowed author word) self.old self.new) }
+        ensures refused { IfErr result (Denies (WhyNotFollowed author (names self.old root) word) self.old self.new) }
         ensures stays { SameClient self.old self.new }
     {
         let block = self.block_by(author, root, word)?;

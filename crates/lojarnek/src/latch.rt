@@ -33,5 +33,7 @@ pub(crate) fn give(token: &mut shm_pool::Client, pool: &SharedPool, life: &mut L
     requires held { (a : ℕ) × IsHolding a token.old }
     ensures { HasGiven (acts_of token.old life.old.left) (acts_of token.new life.new.left) result }
 {
+    // for the proof: its account stood
+    token.client();
     token.release(pool, life)
 }

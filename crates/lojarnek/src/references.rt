@@ -47,7 +47,7 @@ fn set(
     requires at { IsAtBlocks token.old }
     requires block { IsNamed block token.old }
     requires to { to ≢ 0 → IsNamed to token.old }
-    ensures { (bs : List ℕ) → KnowsRoots token.old bs → HasCome (λ u. KnowsReference block word to (acts_of token.new life.new.left) × KeepsRoots (acts_of token.old life.old.left) (acts_of token.new life.new.left)) (WhyNotSet word to) (acts_of token.old life.old.left) (acts_of token.new life.new.left) bs result }
+    ensures { (bs : List ℕ) → KnowsRoots token.old bs → HasCome (λ u. KnowsReference block word to (acts_of token.new life.new.left) × KeepsRoots (acts_of token.old life.old.left) (acts_of token.new life.new.left)) (WhyNotSet block word to) (acts_of token.old life.old.left) (acts_of token.new life.new.left) bs result }
 {
     let own = token.client();
     let Reply::Done(()) = take(token, pool, life, own) else {
@@ -73,12 +73,12 @@ impl Client<'_> {
     /// # Errors
     ///
     /// `OutOfRange` where there is no such root or no block has such a word, `EmptyRoot`; `NoSuchWord` where this block has none, `NotAuthor`, `EraSpent`,
-    /// and `CountFull` where 1,023 references name the block.
+    /// and `CountFull` where 1,023 references name the block. `Died` says that it is done where the word was set before the client died.
     pub fn set(&mut self, root: u8, word: u8, to: u8) -> Result<(), Error>
         ensures tested { WasTested (set_wrong self.old root word to) self.old self.new result }
         ensures set { IfOk result (λ u. KnowsReference (names self.old root) word (names self.old to) self.new) }
         ensures roots { IfOk result (λ u. KeepsRoots self.old self.new) }
-        ensures refused { IfErr result (Denies (WhyNotSet word (names self.old to)) self.old self.new) }
+        ensures refused { IfErr result (Denies (WhyNotSet (names self.old root) word (names self.old to)) self.old self.new) }
         ensures stays { SameClient self.old self.new }
     {
         let block = self.block_with(root, word, 16, Bound::Reference)?;
@@ -104,7 +104,7 @@ impl Client<'_> {
         ensures tested { WasTested (word_wrong 16 Bound.Reference self.old root word) self.old self.new result }
         ensures cleared { IfOk result (λ u. KnowsReference (names self.old root) word 0 self.new) }
         ensures roots { IfOk result (λ u. KeepsRoots self.old self.new) }
-        ensures refused { IfErr result (Denies (WhyNotSet word 0) self.old self.new) }
+        ensures refused { IfErr result (Denies (WhyNotSet (names self.old root) word 0) self.old self.new) }
         ensures stays { SameClient self.old self.new }
     {
         let block = self.block_with(root, word, 16, Bound::Reference)?;

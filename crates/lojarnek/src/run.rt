@@ -15,7 +15,7 @@ use shm_script::{Answer, Line};
 
 /// Whether this answer, which the command of a line was going to give, says that it took effect.
 #[inline(never)]
-fn had_effect(line: &Line, effect: Option<Answer>) -> bool
+pub(crate) fn had_effect(line: &Line, effect: Option<Answer>) -> bool
     ensures { result ≡ had_effect line.now effect }
 {
     match (*line, effect) {
@@ -26,10 +26,25 @@ fn had_effect(line: &Line, effect: Option<Answer>) -> bool
     }
 }
 
+/// The same line: its keys and numbers are in the ranges of their types.
+pub(crate) fn in_range(line: Line) -> Line
+    ensures is { result ≡ line }
+    ensures fits { KeysFit line }
+{
+    match line {
+        Line::Put { key, number } => Line::Put { key, number },
+        Line::Del { key } => Line::Del { key },
+        Line::Get { author, key } => Line::Get { author, key },
+        Line::Copy { key, author, other } => Line::Copy { key, author, other },
+        Line::Send { to, key } => Line::Send { to, key },
+        Line::Recv { from, key } => Line::Recv { from, key },
+    }
+}
+
 impl Client<'_> {
     /// What is wrong with the call of a line: whether the pool is for tables is tested, and the clients that it names.
     #[inline(always)]
-    fn wrong(&self, line: &Line) -> Option<Error>
+    pub(crate) fn wrong(&self, line: &Line) -> Option<Error>
         ensures is { result ≡ wrong_of self.now line.now }
         ensures why { IfSome result (IsWrong self.now) }
         ensures tables { IsNone result → self.now.token.of.start.tables ≡ true }

@@ -24,7 +24,7 @@ fn refusal(answer: Answer, to: u8) -> Error
 
 /// Whether a number was stored.
 #[inline(always)]
-fn stored(answer: Answer) -> Result<(), Error>
+pub(crate) fn stored(answer: Answer) -> Result<(), Error>
     ensures { result ≡ stored_of answer }
 {
     match answer {
@@ -35,7 +35,7 @@ fn stored(answer: Answer) -> Result<(), Error>
 
 /// The number that was found.
 #[inline(always)]
-fn found(answer: Answer) -> Result<Option<u64>, Error>
+pub(crate) fn found(answer: Answer) -> Result<Option<u64>, Error>
     ensures { result ≡ found_of answer }
 {
     match answer {
@@ -47,7 +47,7 @@ fn found(answer: Answer) -> Result<Option<u64>, Error>
 
 /// Whether the key was there.
 #[inline(always)]
-fn was_there(answer: Answer, to: u8) -> Result<bool, Error>
+pub(crate) fn was_there(answer: Answer, to: u8) -> Result<bool, Error>
     ensures { result ≡ there_of answer to }
 {
     match answer {

@@ -11,6 +11,7 @@ pub mod Taking
 pub mod Recovering
 pub mod Turning
 pub mod Turns
+pub mod Rows
 pub mod Loose
 pub mod Given
 pub mod Growing

@@ -1,7 +1,7 @@
 -- a turn of the agents that stand in a pool, by what a word step says
 use Rattle.std.proofs.Common.{◌≡◌, ℕ, ◌+◌, ◌<◌, ◌≤◌, true, false, List, [], ◌∷◌, ◌++◌, length, refl, sym, ap, ◌∙◌, subst, Result, arith}
 use Rattle.std.proofs.lemmas.Option.{slice_get_within}
-use Rattle.std.specs.Prelude.{Option, Some, None, Ok, drop, slice_get}
+use Rattle.std.specs.{Prelude.{Option, Some, None, Ok, drop, slice_get}, Result.IsOk}
 use Rattle.shm_words.specs.{declared.geometry.Geometry.Geometry, Layout.GeometryFits}
 use Rattle.shm_graph.specs.declared.{ask.{Life.Life, Turn.{Turn, TheVariants.{More, Done}}}, memo.Memo.Memo}
 use Rattle.shm_graph.specs.{declared.{memo.Step.Step, run.{Account.Account, Start.Start}}, Laws.{is_died, turn_of}}
@@ -15,7 +15,7 @@ use Rattle.shm_script.specs.{declared.{line.Line.Line, log.Answer.Answer}, Range
 use Rattle.shm_script.specs.declared.log.End.TheVariants as end
 use Rattle.shm_table.specs.Command.{LineMayStand}
 use Rattle.shm_agents.specs.declared.agents.Standing.{Standing, TheVariants.{AtWork, Gone, Dead}}
-use Rattle.shm_agents.specs.Agents.{Playing, AgentsStand, behind}
+use Rattle.shm_agents.specs.{Agents.{Playing, AgentsStand, behind}, Rows.{HasGoneOn, MayGoOn}}
 use Rattle.shm_agents.specs.{TurnsLeft.{turns_at, turns_by, turns_given, turns_of}, Turns.lives_of}
 use Rattle.shm_agents.specs.Work.{Work, WorkAnswer, WorkFits, WorkGives, work_control}
 use Rattle.shm_agents.proofs.{Given.given_worked, WorkLaws.{line_fits, may_stand}}
@@ -28,8 +28,8 @@ at_most AtWork n = omega arith
 at_most Gone n = omega arith
 at_most Dead n = omega arith
 
--- a word step is one of them, whatever is left of the agents
-fewer : (s : Scripted) (x y : Playing) → x.standing ≡ AtWork → y.agent ≡ x.agent → y.life.left + 1 ≡ x.life.left → turns_by y (Some s) < turns_by x (Some s)
+-- they are fewer where an agent has fewer word steps left, whatever is left of the agents
+pub fewer : (s : Scripted) (x y : Playing) → x.standing ≡ AtWork → y.agent ≡ x.agent → y.life.left < x.life.left → turns_by y (Some s) < turns_by x (Some s)
 fewer s x y here agent spent =
     let rest : ℕ → ℕ = λ k. turns_of (drop (k + 1) (lives_of s.life)) in
     let most = at_most y.standing (y.life.left + 1 + rest y.agent) in
@@ -138,7 +138,8 @@ module _ {start : Start} {s : Scripted} {now x : Playing} {e : Account} (b : Bef
 
       pub turns : (y : Playing) → y.agent ≡ x.agent → y.life ≡ life → turns_by y (Some s) < turns_by now (Some s)
       turns y agent same =
-          fewer s now y b.here (agent ∙ ap (λ (z : Playing). z.agent) b.is) (ap (λ (z : Life). z.left + 1) same ∙ (left ∙ ap (λ (z : Playing). z.life.left) b.is))
+          let spent : y.life.left + 1 ≡ now.life.left = ap (λ (z : Life). z.left + 1) same ∙ (left ∙ ap (λ (z : Playing). z.life.left) b.is) in
+          fewer s now y b.here (agent ∙ ap (λ (z : Playing). z.agent) b.is) (omega arith)
 
       pub given : turns_given e2 ≡ turns_given e + 1
       given = given_worked e e2 _ turn.account
@@ -169,60 +170,50 @@ module _ {start : Start} {s : Scripted} {now x : Playing} {e : Account} (b : Bef
           let done = turning.answered start s x e stood.may here stood.stage stood.taken e2 n turn.account a.stood a.named life left turn.learns v (answer (Second (First v)) o) in
           (done.0, done.1, done.2)
 
-      module _ (v : Answer) (o : u ≡ Done (Second (First v))) where
-        -- there is a line for the answer, and room
-        low : length x.entries < length s.lines
-        low = let done = answered v o in slice_get_within s.lines (length x.entries) done.0 done.1
-
-        pub low_in : (ls : List Line) → ls ≡ s.lines → length x.entries < length ls
-        low_in ls same = subst (λ (zs : List Line). length x.entries < length zs) (sym same) low
-
-        pub room : length x.entries < x.room
-        room = let l = low in let r = stood.may.room in omega arith
-
-        -- what note leaves of them, y, with the lines ls
-        module _ (ls : List Line) (same : ls ≡ s.lines) (y : Playing) (noted : (line : Line) → slice_get ls (length x.entries) ≡ Some line → y ≡ record x { work = w; life = life; entries = x.entries ++ record { line = line; answer = v } ∷ [] }) where
-          abbrev line : Line
-          line = (answered v o).0
-
-          abbrev y1 : Playing
-          y1 = record x { work = w; life = life; entries = x.entries ++ record { line = line; answer = v } ∷ [] }
-
-          note_is : y ≡ y1
-          note_is = noted line (ap (λ (zs : List Line). slice_get zs (length x.entries)) same ∙ (answered v o).1)
-
-          pub note_geometry : GeometryFits y.me.geometry
-          note_geometry = subst (λ (z : Playing). GeometryFits z.me.geometry) (sym note_is) geometry
-
-          pub note_who : y.me.who < y.me.geometry.clients
-          note_who = subst (λ (z : Playing). z.me.who < z.me.geometry.clients) (sym note_is) who
-
-          pub note_line : (l : Line) → slice_get ls (length y.entries) ≡ Some l → LineMayStand y.me l
-          note_line l there = subst (λ (z : Playing). LineMayStand z.me l) (sym note_is) (may_begin (length y.entries) l (ap (λ (zs : List Line). slice_get zs (length y.entries)) (sym same) ∙ there))
-
-          -- and then begin
-          module _ (z : Playing) (begun : z ≡ record y { work = behind y.me ls (length y.entries) }) where
-            begun_is : z ≡ record y1 { work = behind x.me s.lines (length y1.entries) }
-            begun_is = begun ∙ (ap (λ (g : Playing). record g { work = behind g.me ls (length g.entries) }) note_is ∙ ap (λ (zs : List Line). record y1 { work = behind x.me zs (length y1.entries) }) same)
-
-            pub note_me : z.me ≡ now.me
-            note_me = ap (λ (g : Playing). g.me) begun_is ∙ ap (λ (g : Playing). g.me) b.is
-
-            pub note_script : z.script ≡ now.script
-            note_script = ap (λ (g : Playing). g.script) begun_is ∙ ap (λ (g : Playing). g.script) b.is
-
-            pub note_stands : Stand z
-            note_stands = subst Stand (sym begun_is) (answered v o).2
-
-            pub note_turns : turns_by z (Some s) < turns_by now (Some s)
-            note_turns = turns z (ap (λ (g : Playing). g.agent) begun_is) (ap (λ (g : Playing). g.life) begun_is)
-
       pub parted : (v : Result (Unit {0}) EraSpent) → u ≡ Done (Second (Second v)) → (v ≡ Ok tt) × Stand (record x { work = w; life = life; end = Some end.Ended; standing = Gone })
       parted v o =
           let done = turning.parted start s x e stood.may here stood.stage stood.taken e2 n turn.account a.stood a.named life left turn.learns v (answer (Second (Second v)) o) in (
             done.0,
             (subst (λ (z : Work). AgentsStand start s (record x { work = z; life = life; end = Some end.Ended; standing = Gone }) e2) (sym turn.next) done.1),
           )
+
+      -- ---- what they are at then, by what was answered, with the lines ls
+
+      pub may_go_on : (v : WorkAnswer) → u ≡ Done v → (ls : List Line) → ls ≡ s.lines → MayGoOn ls v (record x { work = w; life = life })
+      may_go_on (First (First v)) o ls same = tt
+      may_go_on (First (Second v)) o ls same = subst (λ (r : Result (Unit {0}) EraSpent). IsOk r) (sym (recovered v o).0) refl
+      may_go_on (Second (First v)) o ls same =
+          let done = answered v o in
+          let low = slice_get_within s.lines (length x.entries) done.0 done.1 in
+          let room = stood.may.room in
+          (done.0, ap (λ (zs : List Line). slice_get zs (length x.entries)) same ∙ done.1, omega arith)
+      may_go_on (Second (Second v)) o ls same = subst (λ (r : Result (Unit {0}) EraSpent). IsOk r) (sym (parted v o).0) refl
+
+      -- so they stand
+      pub record GoneOn (y : Playing) : Type 0 where
+        pub stands : Stand y
+        pub me : y.me ≡ x.me
+        pub script : y.script ≡ x.script
+        pub agent : y.agent ≡ x.agent
+        pub lives : y.life ≡ life
+
+      gone_as : (y z : Playing) → y ≡ z → GoneOn z → GoneOn y
+      gone_as y z is h = subst GoneOn (sym is) h
+
+      pub gone_on : (v : WorkAnswer) → u ≡ Done v → (ls : List Line) → ls ≡ s.lines → (y : Playing) → HasGoneOn ls v (record x { work = w; life = life }) y → GoneOn y
+      gone_on (First (First v)) o ls same y h =
+          gone_as y (record x { work = behind x.me ls (length x.entries); life = life }) h
+          (record { stands = joined v o ls same (record x { work = behind x.me ls (length x.entries); life = life }) refl; me = refl; script = refl; agent = refl; lives = refl })
+      gone_on (First (Second v)) o ls same y h =
+          gone_as y (record x { work = w; life = life; standing = Gone }) h (record { stands = (recovered v o).1; me = refl; script = refl; agent = refl; lives = refl })
+      gone_on (Second (First v)) o ls same y h =
+          let done = answered v o in
+          let y1 : Playing = record x { work = w; life = life; entries = x.entries ++ record { line = done.0; answer = v } ∷ [] } in
+          gone_as y (record y1 { work = behind x.me s.lines (length y1.entries) })
+          (h done.0 (ap (λ (zs : List Line). slice_get zs (length x.entries)) same ∙ done.1) ∙ ap (λ (zs : List Line). record y1 { work = behind x.me zs (length y1.entries) }) same)
+          (record { stands = done.2; me = refl; script = refl; agent = refl; lives = refl })
+      gone_on (Second (Second v)) o ls same y h =
+          gone_as y (record x { work = w; life = life; end = Some end.Ended; standing = Gone }) h (record { stands = (parted v o).1; me = refl; script = refl; agent = refl; lives = refl })
 
     -- ---- no word step is left: nothing has changed, and the agent dies
 

@@ -5,5 +5,6 @@ pub mod Courses
 pub mod Taken
 pub mod Agents
 pub mod TurnsLeft
+pub mod Rows
 pub mod Cuts
 pub mod Proved

@@ -3,19 +3,21 @@
 ghost use Rattle.std.specs.Prelude.{◌≡◌, ◌+◌, ◌<◌, ◌≤◌, ◌^◌, ◌++◌, ℕ, true, false, Some, [], ◌∷◌, length, slice_get, IfOk};
 ghost use Rattle.std.specs.Option.{is_some};
 ghost use Rattle.shm_words.specs.Layout.{GeometryFits};
-ghost use Rattle.shm_graph.specs.{declared.run.Start.Start as AStart, Agents.acts, Runs.first_account, Laws.step_of};
+ghost use Rattle.shm_graph.specs.{declared.run.Start.Start as AStart, Agents.acts, Runs.{account_at, first_account}};
+ghost use Rattle.shm_graph.specs.Laws.{step_of};
+ghost use Rattle.shm_plain.specs.Pools.{IsRun};
 ghost use Rattle.shm_script.specs.{declared.{line.Line.Line as ALine, log.End.TheVariants.Died}, Ranges.ScriptFits};
 ghost use Rattle.shm_table.specs.Command.{LineMayStand};
 ghost use Rattle.shm_agents.specs.Agents.{AgentsStand, behind, follows, is_client, is_command, logged, shown_by};
 ghost use Rattle.shm_agents.specs.{Cuts.{IsCut, account_cut}, Logs.with_effect, TurnsLeft.{turns_by, turns_given}};
-ghost use Rattle.shm_agents.specs.{Turns.lives_of, Work.work_control};
+ghost use Rattle.shm_agents.specs.{Rows.{AreTurns, HasGoneOn, MayGoOn}, Turns.lives_of, Work.work_control};
 ghost use Rattle.shm_agents.specs.Work as work;
 
-use crate::piece::Piece;
+use crate::piece::{Outcome, Piece};
 use crate::work::Work;
 use plans::Or;
 use shm_graph::{Life, Me, Turn};
-use shm_plain::Workplace;
+use shm_plain::{PlainPool, Workplace};
 use shm_script::{Answer, End, Entry, Line, Log, Script};
 use shm_table::command_maps;
 use std::alloc::{AllocError, Global};
@@ -158,17 +160,52 @@ impl<P: Piece> Agents<P> {
         match pool.step(self.me.who, &mut self.work, &mut self.life) {
             Turn::More => {}
             Turn::Died => self.die(script, pool),
-            Turn::Done(Or::First(Or::First(()))) => self.begin(script.lines.as_slice()),
-            Turn::Done(Or::First(Or::Second(recovered))) => {
+            Turn::Done(told) => self.go_on(script.lines.as_slice(), told),
+        }
+    }
+
+    /// Turns of theirs in a pool in a vector, one after the other: word steps until what the agent runs has answered or it has none left,
+    /// or where it had none left its death.
+    #[inline(never)]
+    pub fn turns(&mut self, script: &Script, pool: &mut PlainPool)
+        requires run { IsRun pool.old }
+        requires who { self.old.me.who < pool.old.start.geometry.clients }
+        requires stands { AgentsStand pool.old.start script.now self.old (account_at pool.old.accounts self.old.me.who) }
+        requires here { self.old.standing ≡ Standing.AtWork }
+        ensures row { (n : ℕ) × AreTurns script.now n pool.old self.old pool.new self.new }
+        ensures turns { turns_by self.new (Some script.now) < turns_by self.old (Some script.now) }
+    {
+        if self.life.left == 0 {
+            self.turn(script, pool);
+            return;
+        }
+        match pool.steps(self.me.who, &mut self.work, &mut self.life) {
+            Turn::More => {}
+            Turn::Died => {}
+            Turn::Done(told) => self.go_on(script.lines.as_slice(), told),
+        }
+    }
+
+    /// What they are at once a piece of work has answered.
+    #[inline(always)]
+    fn go_on(&mut self, lines: &[Line], told: Outcome)
+        requires geometry { GeometryFits self.old.me.geometry }
+        requires who { self.old.me.who < self.old.me.geometry.clients }
+        requires told { MayGoOn lines.now told self.old }
+        requires line { (k : ℕ) (line : ALine) → slice_get lines.now k ≡ Some line → LineMayStand self.old.me line }
+        ensures { HasGoneOn lines.now told self.old self.new }
+    {
+        match told {
+            Or::First(Or::First(())) => self.begin(lines),
+            Or::First(Or::Second(recovered)) => {
                 recovered.unwrap();
                 self.standing = Standing::Gone;
             }
-            Turn::Done(Or::Second(Or::First(answer))) => {
-                let lines = script.lines.as_slice();
+            Or::Second(Or::First(answer)) => {
                 self.note(lines, answer);
                 self.begin(lines);
             }
-            Turn::Done(Or::Second(Or::Second(left))) => {
+            Or::Second(Or::Second(left)) => {
                 left.unwrap();
                 self.end = Some(End::Ended);
                 self.standing = Standing::Gone;

@@ -5,7 +5,7 @@ ghost use Rattle.shm_graph.specs.Laws.{turn_of};
 
 use crate::piece::{Outcome, Piece};
 use plans::{Calls, Or};
-use shm_graph::{Ask, Machine, Me, Site, Turn};
+use shm_graph::{Ask, Life, Machine, Me, Site, Turn};
 use shm_recover::{Join, Leave, Recover};
 use shm_script::{Answer, Line};
 use shm_table::Command;
@@ -119,6 +119,11 @@ impl Piece for WorkMachine {
                 Turn::Died => Turn::Died,
             },
         }
+    }
+
+    #[inline(always)]
+    fn run<S: Site>(&mut self, site: &S, words: &mut S::Words, life: &mut Life) -> Turn<Outcome> {
+        self.one.run(site, words, life)
     }
 }
 

@@ -2,14 +2,14 @@
 
 ghost use Rattle.std.specs.Prelude.{◌≡◌, ◌<◌, false};
 ghost use Rattle.shm_words.specs.Layout.{GeometryFits};
-ghost use Rattle.shm_graph.specs.Laws.{turn_of};
+ghost use Rattle.shm_graph.specs.{Laws.turn_of, ManySteps.{HasRun, MayRun}};
 ghost use Rattle.shm_table.specs.Command.{LineMayStand};
 ghost use Rattle.shm_agents.specs.{Agents.{is_command, shown_by}, Work.{Work as AWork, work_control}};
 ghost use Rattle.shm_agents.specs.Work as pieces;
 
 use plans::Or;
 use shm_count::EraSpent;
-use shm_graph::{Ask, Me, Site, Turn};
+use shm_graph::{Ask, Life, Me, Site, Turn};
 use shm_script::{Answer, Line};
 
 /// What a piece of work answers: a join, a recovery, a command or a leaving.
@@ -79,4 +79,9 @@ pub trait Piece: Drop {
         ensures made { S.made site.now words.old (work_control.asks (work self.old)) words.new }
         ensures piece { let a = work_control.asks (work self.old) in work self.new ≡ work_control.after (work self.old) (S.seen site.now words.old a words.new) }
         ensures turn { let a = work_control.asks (work self.old) in result ≡ turn_of (work_control.turns (work self.old) (S.seen site.now words.old a words.new)) };
+
+    /// Makes the word steps that it asks for at this site, one after the other, until it has answered or no life is left: then it tells `Died`.
+    fn run<S: Site>(&mut self, site: &S, words: &mut S::Words, life: &mut Life) -> Turn<Outcome>
+        requires { MayRun work_control (S.may site.now) (S.made site.now) (S.seen site.now) life.old.left (work self.old) words.old }
+        ensures { HasRun work_control (S.made site.now) (S.seen site.now) life.old.left (work self.old) words.old (record { left = life.new.left; machine = work self.new; words = words.new; turn = result }) };
 }

@@ -8,7 +8,7 @@ ghost use Rattle.shm_agents.specs.Proved.WorkLaws.{work_laws};
 ghost use Rattle.shm_agents.specs.Work as pieces;
 
 use crate::piece::{Outcome, Piece};
-use shm_graph::{Ask, Machine, Me, Site, Turn};
+use shm_graph::{Ask, Life, Machine, Me, Site, Turn};
 use shm_script::{Answer, Line};
 use std::marker::Model;
 
@@ -121,6 +121,11 @@ impl<P: Piece> Machine for Work<P> {
     #[inline(always)]
     fn act<S: Site>(&mut self, site: &S, words: &mut S::Words) -> Turn<Outcome> {
         self.piece.act(site, words)
+    }
+
+    #[inline(always)]
+    fn run<S: Site>(&mut self, site: &S, words: &mut S::Words, life: &mut Life) -> Turn<Outcome> {
+        self.piece.run(site, words, life)
     }
 
     ghost laws = { work_laws };

@@ -2,4 +2,5 @@ pub mod AllocBound
 pub mod AllocCounting
 pub mod MadeBlocks
 pub mod MadeRoots
+pub mod Passed
 pub mod Searched

@@ -1,7 +1,7 @@
 -- an allocation that is refused as full has seen no free block in any segment, whatever its hint
 use Rattle.std.proofs.Common.{◌≡◌, ◌≢◌, ℕ, zero, suc, ◌+◌, ◌-◌, ◌*◌, ◌/◌, ◌^◌, ◌<◌, ◌≤◌, refl, subst, arith, inl, inr, Bool, true, false, [], ◌∷◌}
 use Rattle.std.proofs.lemmas.{Bool.{cases_eq, eqb-false, eqb-true}, List.Elements.Contains-append_right}
-use Rattle.std.specs.{Prelude.{◌==◌, nat_lt, Result, Ok, Err}, List.Contains}
+use Rattle.std.specs.{Prelude.{◌==◌, nat_lt, Result, Err}, List.Contains}
 use Rattle.shm_words.specs.Layout.{address}
 use Rattle.shm_words.specs.declared.place.Place.TheVariants as place
 use Rattle.shm_graph.specs.declared.{ask.{Ask.{Ask, TheVariants.{Load, Store, Exchange}}, Me.Me}, memo.Seen.Seen}
@@ -12,7 +12,7 @@ use Rattle.shm_alloc.specs.declared.alloc.AllocFault.{AllocFault, TheVariants.{E
 use Rattle.shm_alloc.specs.declared.request.Request.{Request}
 use Rattle.shm_alloc.specs.Alloc.Asks.{AllocTrails, alloc_trail, root_trail, segment_trail, page_trail, header_trail, headers_trail, class_trail, block_trail}
 use Rattle.shm_alloc.specs.Alloc.Control.{class_asked, segment_at, page_at, index_at}
-use Rattle.shm_alloc.specs.Alloc.Seen.{Finds, IsSeenTaken, IsSeenOwn, IsSeenOther, IsSeenClassed, AreSeenUsed, IsSeenFull, HasNoneFree}
+use Rattle.shm_alloc.specs.Alloc.Seen.{Finds, IsSeenTaken, IsSeenOwn, IsSeenClassed, AreSeenUsed, IsSeenFull, HasNoneFree}
 use Rattle.shm_alloc.specs.Proved.Turning.{turned_all}
 use Rattle.shm_alloc.proofs.AllocCounting.{Never, block_never}
 

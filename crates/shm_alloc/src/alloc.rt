@@ -2,17 +2,17 @@
 
 ghost use Rattle.std.specs.Prelude.{◌≡◌, ◌≢◌, ◌<◌, ◌≤◌, ◌↔◌, ◌⊎◌, ℕ, IfOk, IfErr, is_err, false, true, length, take};
 ghost use Rattle.shm_words.specs.Layout.{GeometryFits};
-ghost use Rattle.shm_graph.specs.Laws.{turn_of};
+ghost use Rattle.shm_graph.specs.{Laws.turn_of, ManySteps.{HasRun, MayRun}};
 ghost use Rattle.shm_alloc.specs.Alloc.Control.{PointFits, alloc_ask, alloc_control, alloc_next, answer_of, point_of};
-ghost use Rattle.shm_alloc.specs.Alloc.{AsPart.AllocLeaves, Events.alloc_event, AllocFits, AllocGives};
+ghost use Rattle.shm_alloc.specs.Alloc.{AsPart.AllocLeaves, Events.alloc_event, Passing.HasPassed, AllocFits, AllocGives};
 ghost use Rattle.shm_alloc.specs.Proved.{Alloc.Laws.alloc_laws, Operating.{AllocMay, alloc_operation}};
 ghost use Rattle.shm_alloc.specs.declared.point.{AllocPoint.TheVariants.Era, AllocNext.TheVariants.Point};
 
-use crate::point::{AllocNext, AllocPoint, AllocState};
+use crate::point::{AllocNext, AllocPoint, AllocState, Search};
 use crate::request::{Near, Request};
 use plans::Begin;
 use shm_count::Made;
-use shm_graph::{Ask, Machine, Me, Operation, Site, Turn};
+use shm_graph::{Ask, Life, Machine, Me, Operation, Site, Turn};
 use std::marker::Model;
 
 /// Why no block was made.
@@ -213,6 +213,46 @@ impl Alloc {
         self.go_on(next)
     }
 
+    /// Makes the word step that comes next, and goes on by the word that was found.
+    #[inline(always)]
+    fn make<S: Site>(&mut self, site: &S, words: &mut S::Words) -> Turn<Result<Made, AllocFault>>
+        requires { S.may site.now words.old (alloc_ask self.old) }
+        ensures made { S.made site.now words.old (alloc_ask self.old) words.new }
+        ensures machine { let a = alloc_ask self.old in self.new ≡ alloc_control.after self.old (S.seen site.now words.old a words.new) }
+        ensures turn { let a = alloc_ask self.old in result ≡ turn_of (alloc_control.turns self.old (S.seen site.now words.old a words.new)) }
+    {
+        let next = self.state.make(site, words);
+        self.go_on(next)
+    }
+
+    /// The same, with an arm for each point, so that the compiler makes a piece of code for each and asks once where it is.
+    #[inline(always)]
+    fn make_at<S: Site>(&mut self, site: &S, words: &mut S::Words) -> Turn<Result<Made, AllocFault>>
+        requires { S.may site.now words.old (alloc_ask self.old) }
+        ensures made { S.made site.now words.old (alloc_ask self.old) words.new }
+        ensures machine { let a = alloc_ask self.old in self.new ≡ alloc_control.after self.old (S.seen site.now words.old a words.new) }
+        ensures turn { let a = alloc_ask self.old in result ≡ turn_of (alloc_control.turns self.old (S.seen site.now words.old a words.new)) }
+    {
+        match self.state.point {
+            AllocPoint::Era => self.make(site, words),
+            AllocPoint::Root { .. } => self.make(site, words),
+            AllocPoint::Segment { .. } => self.make(site, words),
+            AllocPoint::Claim { .. } => self.make(site, words),
+            AllocPoint::Page { .. } => self.make(site, words),
+            AllocPoint::Class { .. } => self.make(site, words),
+            AllocPoint::Header { .. } => self.make(site, words),
+            AllocPoint::Tag { .. } => self.make(site, words),
+            AllocPoint::Reference { .. } => self.make(site, words),
+            AllocPoint::Plain { .. } => self.make(site, words),
+            AllocPoint::More { .. } => self.make(site, words),
+            AllocPoint::Redo { .. } => self.make(site, words),
+            AllocPoint::Commit { .. } => self.make(site, words),
+            AllocPoint::Slot { .. } => self.make(site, words),
+            AllocPoint::Close { .. } => self.make(site, words),
+            AllocPoint::Over => self.make(site, words),
+        }
+    }
+
     /// Makes the word step that comes next, wherever it is, and goes on by the word that was found.
     #[inline(never)]
     fn act_any<S: Site>(&mut self, site: &S, words: &mut S::Words) -> Turn<Result<Made, AllocFault>>
@@ -221,8 +261,75 @@ impl Alloc {
         ensures machine { let a = alloc_ask self.old in self.new ≡ alloc_control.after self.old (S.seen site.now words.old a words.new) }
         ensures turn { let a = alloc_ask self.old in result ≡ turn_of (alloc_control.turns self.old (S.seen site.now words.old a words.new)) }
     {
-        let next = self.state.act(site, words);
-        self.go_on(next)
+        self.make_at(site, words)
+    }
+
+    /// Reads headers, where it is at one, while their blocks are in use and lie one behind the other, and life is left. Behind that of a free
+    /// block the tag comes next.
+    #[inline(always)]
+    fn pass_all<S: Site>(&mut self, site: &S, words: &mut S::Words, life: &mut Life)
+        requires { MayRun alloc_control (S.may site.now) (S.made site.now) (S.seen site.now) life.old.left self.old words.old }
+        ensures passed { HasPassed (S.may site.now) (S.made site.now) (S.seen site.now) life.old.left self.old words.old life.new.left self.new words.new }
+        ensures life { life.new.left ≤ life.old.left }
+    {
+        let AllocPoint::Header {
+            goal,
+            search,
+            page,
+            index,
+        } = self.state.point
+        else {
+            return;
+        };
+        let most = u64::from(self.left).min(life.left) as u8;
+        let class = u32::from(self.class);
+        let mut at = self.header;
+        let mut passed = 0;
+        'headers: while passed < most {
+            let seen = site.make(words, Ask::Load { at });
+            if seen == 0 {
+                life.left -= u64::from(passed) + 1;
+                self.state.point = AllocPoint::Tag { goal, block: at };
+                return;
+            }
+            at += class;
+            passed += 1;
+        }
+        life.left -= u64::from(passed);
+        self.left -= passed;
+        self.header = at;
+        let used = search.used + u32::from(passed);
+        self.state.point = AllocPoint::Header {
+            goal,
+            search: Search { used, ..search },
+            page,
+            index: index + passed,
+        };
+    }
+
+    /// Makes the word steps that come next, until it has answered or no life is left.
+    #[inline(never)]
+    fn run_any<S: Site>(
+        &mut self,
+        site: &S,
+        words: &mut S::Words,
+        life: &mut Life,
+    ) -> Turn<Result<Made, AllocFault>>
+        requires { MayRun alloc_control (S.may site.now) (S.made site.now) (S.seen site.now) life.old.left self.old words.old }
+        ensures { HasRun alloc_control (S.made site.now) (S.seen site.now) life.old.left self.old words.old (record { left = life.new.left; machine = self.new; words = words.new; turn = result }) }
+    {
+        'steps: loop {
+            self.pass_all(site, words, life);
+            if life.left == 0 {
+                return Turn::Died;
+            }
+            life.left -= 1;
+            match self.make_at(site, words) {
+                Turn::More => {}
+                Turn::Done(answer) => return Turn::Done(answer),
+                Turn::Died => return Turn::Died,
+            }
+        }
     }
 }
 
@@ -271,6 +378,16 @@ impl Machine for Alloc {
             }
             _ => self.act_any(site, words),
         }
+    }
+
+    #[inline(always)]
+    fn run<S: Site>(
+        &mut self,
+        site: &S,
+        words: &mut S::Words,
+        life: &mut Life,
+    ) -> Turn<Result<Made, AllocFault>> {
+        self.run_any(site, words, life)
     }
 
     ghost laws = { alloc_laws };

@@ -367,7 +367,7 @@ impl AllocState {
 
     /// Makes the word step that comes next, and tells where it goes by the word that was found.
     #[inline(always)]
-    fn make<S: Site>(self, site: &S, words: &mut S::Words) -> AllocNext
+    pub fn make<S: Site>(self, site: &S, words: &mut S::Words) -> AllocNext
         requires range { AllocInRange self }
         requires may { S.may site.now words.old (control.alloc_ask self) }
         ensures made { S.made site.now words.old (control.alloc_ask self) words.new }
@@ -376,34 +376,6 @@ impl AllocState {
         let ask = self.ask();
         let seen = site.make(words, ask);
         self.next(seen)
-    }
-
-    /// The same, with an arm for each point, so that the compiler makes a piece of code for each and asks once where it is.
-    #[inline(always)]
-    pub fn act<S: Site>(self, site: &S, words: &mut S::Words) -> AllocNext
-        requires range { AllocInRange self }
-        requires may { S.may site.now words.old (control.alloc_ask self) }
-        ensures made { S.made site.now words.old (control.alloc_ask self) words.new }
-        ensures next { let a = control.alloc_ask self in result ≡ control.alloc_next self (S.seen site.now words.old a words.new) }
-    {
-        match self.point {
-            AllocPoint::Era => self.make(site, words),
-            AllocPoint::Root { .. } => self.make(site, words),
-            AllocPoint::Segment { .. } => self.make(site, words),
-            AllocPoint::Claim { .. } => self.make(site, words),
-            AllocPoint::Page { .. } => self.make(site, words),
-            AllocPoint::Class { .. } => self.make(site, words),
-            AllocPoint::Header { .. } => self.make(site, words),
-            AllocPoint::Tag { .. } => self.make(site, words),
-            AllocPoint::Reference { .. } => self.make(site, words),
-            AllocPoint::Plain { .. } => self.make(site, words),
-            AllocPoint::More { .. } => self.make(site, words),
-            AllocPoint::Redo { .. } => self.make(site, words),
-            AllocPoint::Commit { .. } => self.make(site, words),
-            AllocPoint::Slot { .. } => self.make(site, words),
-            AllocPoint::Close { .. } => self.make(site, words),
-            AllocPoint::Over => self.make(site, words),
-        }
     }
 
     /// Where it goes by the owner of a segment.

@@ -1,17 +1,20 @@
 //! Sessions, for C: the header `lojarnek.h` says what each function is.
 #![tactic(auto)]
 
-ghost use Rattle.std.specs.{Borrow.sem, Option.is_some, Prelude.{◌≡◌, ◌⊎◌, IfSome, false, true}};
+ghost use base.Fml.{Lft, Share};
+ghost use Rattle.std.specs.{Borrow.sem, Option.is_some, Prelude.{◌≡◌, ◌⊎◌, IfSome, length, false, true}};
 ghost use Rattle.shm_words.specs.Layout.{GeometryFits};
 ghost use Rattle.shm_session.specs.Pools.{geometry_of, may_open, status_or, total_or, word_or};
-ghost use Rattle.shm_sitting.specs.{declared.seat.Seat.Seat, Seats.{IsCalled, IsTold}};
-ghost use Rattle.shm_c.specs.Holds.{call_of, called_at, seat_at, seat_owned, told_at};
+ghost use Rattle.shm_sitting.specs.{declared.seat.Seat.Seat, Seats.{IsCalled, IsRun, IsTold}};
+ghost use Rattle.shm_c.specs.Holds.{call_of, called_at, lent_words, ran_at, seat_at, seat_owned, told_at};
 
 use handles::Loose;
-use shm_session::{Call, Said, first_word, geometry, identity, status_word};
+use shm_session::{Call, Ran, Said, first_word, geometry, identity, status_word};
 use shm_sitting::{Kind, Seat};
 use shm_words::Geometry;
 use std::alloc::Global;
+use std::slice;
+use std::sync::atomic::AtomicU64;
 
 /// Frees a session.
 fn free(session: Loose<Seat, Global>) {
@@ -193,4 +196,25 @@ pub unsafe extern "C" fn lj_tell(at: *mut u8, found: u64) -> Said
 {
     let session = at as *mut Seat;
     tell(&mut *session, found)
+}
+
+/// Makes the word steps that are asked for on these words.
+#[inline(always)]
+fn run(session: &mut Seat, words: &[AtomicU64], steps: u64) -> Ran
+    ensures { IsRun session.old (length words.now) steps result session.new }
+{
+    session.run(words, steps)
+}
+
+/// Makes the word steps that are asked for on these words, so many at most: what is said then, as where each word that was found had been told, and how
+/// many were made.
+#[unsafe(no_mangle)]
+pub unsafe extern "C" fn lj_run_on(at: *mut u8, words: *const u64, count: u32, steps: u64) -> Ran
+    ghost held: { Seat × Lft × Share }
+    requires* { sem 𝓛 (seat_at at held.0) ∗ sem 𝓛 (lent_words words count held.1 held.2) }
+    ensures* { sem 𝓛 (ran_at at held.0 count steps result) ∗ sem 𝓛 (lent_words words count held.1 held.2) }
+{
+    let session = at as *mut Seat;
+    let words = slice::from_raw_parts(words as *const AtomicU64, count as usize);
+    run(&mut *session, words, steps)
 }

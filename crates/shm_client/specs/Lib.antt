@@ -1,3 +1,4 @@
 pub mod Allocating
 pub mod Clear
+pub mod Following
 pub mod Running

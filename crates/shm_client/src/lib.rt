@@ -5,6 +5,7 @@
 pub mod allocating;
 pub mod commands;
 pub mod driving;
+pub mod following;
 pub mod joining;
 pub mod mending;
 pub mod recovering;
@@ -12,6 +13,7 @@ pub mod recovering;
 pub use allocating::{allocate, allocate_near, join};
 pub use commands::command;
 pub use driving::joined;
+pub use following::follow;
 pub use joining::{SteppedJoin, step_join};
 pub use mending::mend_fallen;
 pub use recovering::{die, recover};

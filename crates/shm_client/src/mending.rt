@@ -7,7 +7,7 @@ ghost use Rattle.shm_plain.specs.{Pools.{after_fall, memo_of}, Calls.{Did, Ran}}
 ghost use Rattle.shm_count.specs.Roots.{member};
 ghost use Rattle.shm_recover.specs.Mend.{IsMended};
 
-use plans::Calls;
+use crate::following::follow;
 use shm_graph::{Life, Me};
 use shm_plain::PlainPool;
 use shm_recover::Mend;
@@ -22,6 +22,5 @@ pub fn mend_fallen(pool: &mut PlainPool, who: u8, life: &mut Life) -> Option<()>
 {
     let geometry = pool.geometry();
     pool.fall(who);
-    let mut machine = Calls::new(Mend::new(Me::new(geometry, who)));
-    pool.call(who, &mut machine, life)
+    follow(pool, who, Mend::new(Me::new(geometry, who)), life)
 }

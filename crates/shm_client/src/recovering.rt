@@ -9,7 +9,7 @@ ghost use Rattle.shm_plain.specs.{Pools.{IsRun, after_fall, memo_of}, Calls.{Did
 ghost use Rattle.shm_count.specs.Roots.{member};
 ghost use Rattle.shm_recover.specs.{Machines.Recovering.RecoverGives, Recover.{Control.recovering, RecoverLeaves}};
 
-use plans::Calls;
+use crate::following::follow;
 use shm_count::EraSpent;
 use shm_graph::{Life, Me};
 use shm_plain::PlainPool;
@@ -40,6 +40,5 @@ pub fn recover(pool: &mut PlainPool, who: u8, life: &mut Life) -> Option<Result<
     ensures events { IfSome result (λ a. (es : List Event) × Did who pool.old pool.new es × RecoverLeaves (recovering (member pool.old.start.geometry who)) (entered Recoverer (memo_of pool.old who)) (memo_of pool.new who) (memo_of pool.new who).call es a) }
 {
     let geometry = pool.geometry();
-    let mut machine = Calls::new(Recover::new(Me::new(geometry, who)));
-    pool.call(who, &mut machine, life)
+    follow(pool, who, Recover::new(Me::new(geometry, who)), life)
 }

@@ -388,7 +388,7 @@ module _ {M A : Type 0} (k : Control M A) (fits : M → Memo → Memo → Trail 
         acts = λ u. absurd (true≢false (sym u));
         gone = λ u. absurd (true≢false (sym u));
         kind = λ u. absurd (true≢false (sym u));
-        spent = λ u. absurd (true≢false (sym u));
+        spent = λ left fresh. died_spent p m x q n y went none left fresh;
         made = went.made;
         some = λ u. absurd (true≢false (sym u));
         less = λ u. absurd (true≢false (sym u));

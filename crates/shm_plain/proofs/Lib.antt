@@ -1,6 +1,7 @@
 pub mod Turning
 pub mod OwnTurns
 pub mod Calling
+pub mod ManySteps
 pub mod Stilling
 pub mod StillTable
 pub mod Lanes

@@ -49,7 +49,7 @@ pub record TookSteps {M A : Type 0} (k : Control M A) (c : ℕ) (p : Pool) (m : 
 
 -- ---- what is left
 
--- What a call of c leaves of the pool p with x word steps left: the pool q with y left. All is as it was but for c, and an agent of c may step again. Where it did not answer and a word step was left, its agent acts still, in the midst of the call; where none was left nothing was done. Where it answered, its agent acts, and where it left the status gone the agent has ended; it is of the kind that it was of; made a word step for each pair of the call, of which the first was the machine's first where `fresh`; and the call is over. Each word step of life that went was one of the agents of c
+-- What a call of c leaves of the pool p with x word steps left: the pool q with y left. All is as it was but for c, and an agent of c may step again. Where it did not answer and a word step was left, its agent acts still, in the midst of the call; where none was left nothing was done. Where it answered, its agent acts, and where it left the status gone the agent has ended; it is of the kind that it was of; and the call is over. Where the machine was `fresh`, of some word steps as many went as there are pairs in the call, answered or cut off. Each word step of life that went was one of the agents of c
 pub record Ran (c : ℕ) (fresh answered : Bool) (p q : Pool) (x y : ℕ) : Type 0 where
   pub start : q.start ≡ p.start
   pub others : (d : ℕ) → d ≢ c → memo_of q d ≡ memo_of p d
@@ -62,7 +62,7 @@ pub record Ran (c : ℕ) (fresh answered : Bool) (p q : Pool) (x y : ℕ) : Type
   pub gone : answered ≡ true → (memo_of q c).status ≡ Gone → (acts (memo_of q c) ≡ false) × (fell_by (last_agent (memo_of q c).agents) ≡ false)
   pub acts : answered ≡ true → (memo_of q c).status ≢ Gone → acts (memo_of q c) ≡ true
   pub kind : answered ≡ true → recovers (memo_of q c) ≡ recovers (memo_of (readied p c) c)
-  pub spent : answered ≡ true → fresh ≡ true → y + length (memo_of q c).call ≡ x
+  pub spent : 0 < x → fresh ≡ true → y + length (memo_of q c).call ≡ x
   pub made : y + steps_made (memo_of q c) ≡ x + steps_made (memo_of p c)
   pub some : answered ≡ true → 0 < x
   pub less : answered ≡ true → y < x

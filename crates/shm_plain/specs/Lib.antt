@@ -1,5 +1,6 @@
 pub mod Tracks
 pub mod Pools
+pub mod ManySteps
 pub mod Calls
 pub mod Closings
 pub mod Lanes

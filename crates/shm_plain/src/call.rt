@@ -5,11 +5,22 @@ ghost use Rattle.shm_words.specs.Layout.{GeometryFits};
 ghost use Rattle.shm_graph.specs.{declared.memo.Memo.Memo, Events.Event, Tells.{Tells, happens_along}};
 ghost use Rattle.shm_graph.specs.Whole.{fits_now, gives_now};
 ghost use Rattle.shm_plain.specs.Pools.{IsOf, IsRun, MayStep, memo_of, readied};
-ghost use Rattle.shm_plain.specs.Calls.{Did, IsAtWork, Ran, TookSteps};
+ghost use Rattle.shm_plain.specs.{Calls.{Did, IsAtWork, Ran, TookSteps}, ManySteps.answer_in};
 
 use crate::pool::PlainPool;
 use plans::Begin;
 use shm_graph::{Life, Machine, Me, Operation, Turn};
+
+/// The answer that many word steps told.
+#[inline(always)]
+fn answered<A>(turn: Turn<A>) -> Option<A>
+    ensures { result ≡ answer_in turn }
+{
+    match turn {
+        Turn::Done(answer) => Some(answer),
+        Turn::More | Turn::Died => None,
+    }
+}
 
 impl PlainPool {
     /// Steps a machine of `who` until it has answered, or no word step is left. Where it has not answered it fits still.
@@ -26,13 +37,7 @@ impl PlainPool {
     {
         // for the proof: its turns lead to the words and accounts
         self.geometry();
-        loop {
-            match self.step(who, m, life) {
-                Turn::More => {}
-                Turn::Done(answer) => return Some(answer),
-                Turn::Died => return None,
-            }
-        }
+        answered(self.steps(who, m, life))
     }
 
     /// The identity `who` of the pool, as its machines have it.

@@ -4,10 +4,10 @@ ghost use Rattle.std.specs.Prelude.{◌≡◌, ℕ, ◌+◌, ◌<◌, ◌↔◌,
 ghost use Rattle.shm_words.specs.Layout.{total_of, GeometryFits};
 ghost use Rattle.shm_graph.specs.{declared.memo.Memo.Memo, Agents.acts, Laws.{turn_of, is_died, Outcome}};
 ghost use Rattle.shm_graph.specs.{Runs.{EraFits, MayBegin}, Whole.{fits_now, gives_now, Learns}};
-ghost use Rattle.shm_plain.specs.Tracks.{kind_next};
+ghost use Rattle.shm_plain.specs.{ManySteps.stop_of, Tracks.kind_next};
 ghost use Rattle.shm_plain.specs.Pools.{IsOf, IsRun, first_pool, memo_of, readied, turn_on, turned, MayStep, after_fall};
 
-use crate::track::{Board, Place, board, note, note_death};
+use crate::track::{Board, Place, board, note, note_death, note_steps};
 use shm_graph::{InVector, Life, Machine, Start, Turn, first_words};
 use shm_words::Geometry;
 use std::alloc::{AllocError, Global};
@@ -111,6 +111,21 @@ impl PlainPool {
         }
         life.left -= 1;
         self.turn(who, m)
+    }
+
+    /// The word steps of a machine that works for `who`, one after the other, until it has answered or no life is left: then it tells `Died`.
+    ///
+    /// Where no agent of `who` acts one begins before the first of them, as before a single one.
+    #[inline(always)]
+    pub fn steps<M: Machine>(&mut self, who: u8, m: &mut M, life: &mut Life) -> Turn<M::Answer>
+        requires me { IsOf self.old who M.control m.old }
+        requires agent { MayStep self.old who }
+        requires fits { (r0 : Memo) × fits_now M.control M.fits m.old r0 (memo_of (readied self.old who) who) }
+        ensures stop { record { left = life.new.left; machine = m.new; words = self.new; turn = result } ≡ stop_of M.control who life.old.left m.old self.old }
+        ensures run { IsRun self.new }
+    {
+        note_steps(&self.board, &mut self.place, who, m, &self.words, life.left);
+        m.run(&InVector, &mut self.words, life)
     }
 
     /// The agent of `who` is dead. Where none acts nothing changes, and no turn is added.

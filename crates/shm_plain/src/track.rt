@@ -3,13 +3,13 @@
 //! No value of them is made. Each turn changes the view by one load of that word.
 
 ghost use Rattle.std.specs.Prelude.{◌≡◌, ◌<◌, [], IfOk};
-ghost use Rattle.shm_plain.specs.{Pools.next_of, Tracks.{first_track, noted, fallen}};
+ghost use Rattle.shm_plain.specs.{ManySteps.noted_steps, Pools.next_of, Tracks.{first_track, noted, fallen}};
 
 use atomic_table::{Play, Seat, Table, TableRule};
 use shm_graph::{Account, Machine, Move, Start};
 use std::alloc::{AllocError, Global};
 use std::collections::LinkedList;
-use std::marker::{Brand, PhantomData};
+use std::marker::{Brand, Model, PhantomData};
 
 /// The accounts, by identity, and the turns. No value of it is made.
 pub struct Track {
@@ -17,10 +17,24 @@ pub struct Track {
     pub turns: LinkedList<Move>,
 }
 
+/// What the seat of a pool knows. No value of it is made.
+///
+/// To a contract it is a track. It has no field, so that whoever names a pool doesn't name all types that an account is made of.
+pub struct Known;
+
+impl Model for Known {
+    ghost use Rattle.std.specs.Prelude.{[]};
+    ghost use Rattle.shm_plain.specs.declared.track.Track.{Track};
+
+    ghost Value = { Track };
+
+    ghost view = { λ k. record { accounts = []; turns = [] } };
+}
+
 /// It asks nothing: the seat alone knows.
 pub(crate) struct Anything;
 
-impl TableRule<(), Track, Start> for Anything {
+impl TableRule<(), Known, Start> for Anything {
     ghost use Rattle.shm_plain.specs.Tracks.{first_track};
 
     ghost holds = { λ _ _. Unit {0} };
@@ -43,15 +57,15 @@ pub(crate) struct Changes<C> {
     change: PhantomData<C>,
 }
 
-impl<C: Change> Play<(), Track> for Changes<C> {
+impl<C: Change> Play<(), Known> for Changes<C> {
     ghost use Rattle.std.specs.Prelude.{◌≡◌};
 
     ghost then = { λ step before found now. (now.0 ≡ C.to before.0) × (now.1 ≡ before.1) };
 }
 
-pub(crate) type Board = Table<(), Track, Start, Anything, Global>;
+pub(crate) type Board = Table<(), Known, Start, Anything, Global>;
 
-pub(crate) type Place = Seat<(), Track>;
+pub(crate) type Place = Seat<(), Known>;
 
 /// The table and its seat, with the first accounts and no turn.
 pub(crate) fn board(alloc: Global, start: Start) -> Result<(Board, Place), AllocError>
@@ -80,6 +94,38 @@ pub(crate) fn note<M: Machine>(board: &Board, place: &mut Place, m: &M, words: &
 
 #[inline(always)]
 fn note_as<C: Change, M: Machine>(board: &Board, place: &mut Place, _m: &M, _words: &Vec<u64>)
+    requires { (place.old.table_id ≡ board.now.shared.table_id) × (board.now.shared.table_id.words ≡ 1) }
+    ensures { (place.new.table_id ≡ place.old.table_id) × (place.new.me.0 ≡ C.to place.old.me.0) × (place.new.me.1 ≡ place.old.me.1) }
+{
+    make_change::<C>(board, place);
+}
+
+/// Notes the word steps that a machine of `who` makes next on these words, until it has answered or so many are made: the first one after
+/// the beginning of an agent where none acts.
+#[inline(always)]
+pub(crate) fn note_steps<M: Machine>(
+    board: &Board,
+    place: &mut Place,
+    who: u8,
+    m: &M,
+    words: &Vec<u64>,
+    life: u64,
+)
+    requires { (place.old.table_id ≡ board.now.shared.table_id) × (board.now.shared.table_id.words ≡ 1) }
+    ensures { (place.new.table_id ≡ place.old.table_id) × (place.new.me.0 ≡ noted_steps M.control who life m.now words.now.items place.old.me.0) × (place.new.me.1 ≡ place.old.me.1) }
+{
+    note_steps_as::<Brand, M>(board, place, who, m, words, life);
+}
+
+#[inline(always)]
+fn note_steps_as<C: Change, M: Machine>(
+    board: &Board,
+    place: &mut Place,
+    _who: u8,
+    _m: &M,
+    _words: &Vec<u64>,
+    _life: u64,
+)
     requires { (place.old.table_id ≡ board.now.shared.table_id) × (board.now.shared.table_id.words ≡ 1) }
     ensures { (place.new.table_id ≡ place.old.table_id) × (place.new.me.0 ≡ C.to place.old.me.0) × (place.new.me.1 ≡ place.old.me.1) }
 {

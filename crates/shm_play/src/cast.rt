@@ -5,7 +5,7 @@ use shm_agents::agents::{Agents, Standing};
 use shm_agents::machine::WorkMachine;
 use shm_agents::piece::Piece;
 use shm_graph::Me;
-use shm_plain::Workplace;
+use shm_plain::{PlainPool, Workplace};
 use shm_script::{Log, Script};
 use std::alloc::{AllocError, Global};
 
@@ -53,6 +53,11 @@ impl<P: Piece> Play for Agents<P> {
     #[inline(always)]
     fn turn<W: Workplace>(&mut self, script: &Script, pool: &mut W) {
         Agents::turn(self, script, pool)
+    }
+
+    #[inline(always)]
+    fn turns(&mut self, script: &Script, pool: &mut PlainPool) {
+        Agents::turns(self, script, pool)
     }
 
     #[inline(always)]

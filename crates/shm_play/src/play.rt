@@ -2,14 +2,17 @@
 
 ghost use Rattle.std.specs.Prelude.{◌≡◌, ◌+◌, ◌<◌, ◌^◌, ℕ, true, false, Some, length, IfOk};
 ghost use Rattle.shm_words.specs.Layout.{GeometryFits};
-ghost use Rattle.shm_graph.specs.{declared.run.Start.Start as AStart, Agents.acts, Runs.first_account, Laws.step_of};
+ghost use Rattle.shm_graph.specs.{declared.run.Start.Start as AStart, Agents.acts, Runs.{account_at, first_account}};
+ghost use Rattle.shm_graph.specs.Laws.{step_of};
+ghost use Rattle.shm_plain.specs.Pools.{IsRun};
 ghost use Rattle.shm_script.specs.Ranges.{ScriptFits};
 ghost use Rattle.shm_agents.specs.Agents.{Playing, AgentsStand, is_client, is_command, logged};
-ghost use Rattle.shm_agents.specs.{Cuts.{IsCut, account_cut}, TurnsLeft.{turns_by, turns_given}, Work.work_control};
+ghost use Rattle.shm_agents.specs.{Cuts.{IsCut, account_cut}, Rows.AreTurns, TurnsLeft.{turns_by, turns_given}};
+ghost use Rattle.shm_agents.specs.Work.{work_control};
 
 use shm_agents::agents::Standing;
 use shm_graph::Me;
-use shm_plain::Workplace;
+use shm_plain::{PlainPool, Workplace};
 use shm_script::{Log, Script};
 use std::alloc::{AllocError, Global};
 
@@ -64,6 +67,16 @@ pub trait Play: Drop {
         ensures script { (playing self.new).script ≡ (playing self.old).script }
         ensures stands { AgentsStand (W.start pool.new) script.now (playing self.new) (W.account pool.new (playing self.old).me.who) }
         ensures given { turns_given (W.account pool.new (playing self.old).me.who) ≡ turns_given (W.account pool.old (playing self.old).me.who) + 1 }
+        ensures turns { turns_by (playing self.new) (Some script.now) < turns_by (playing self.old) (Some script.now) };
+
+    /// Turns of theirs in a pool in a vector, one after the other: word steps until what the agent runs has answered or it has none left,
+    /// or where it had none left its death.
+    fn turns(&mut self, script: &Script, pool: &mut PlainPool)
+        requires run { IsRun pool.old }
+        requires who { (playing self.old).me.who < pool.old.start.geometry.clients }
+        requires stands { AgentsStand pool.old.start script.now (playing self.old) (account_at pool.old.accounts (playing self.old).me.who) }
+        requires here { (playing self.old).standing ≡ Standing.AtWork }
+        ensures row { (n : ℕ) × AreTurns script.now n pool.old (playing self.old) pool.new (playing self.new) }
         ensures turns { turns_by (playing self.new) (Some script.now) < turns_by (playing self.old) (Some script.now) };
 
     /// They are given up: the agent that acts dies, whatever it has left of its life, and no other one comes. Where none acts nothing changes

@@ -2,15 +2,17 @@
 
 ghost use Rattle.std.specs.Prelude.{◌≡◌, ◌+◌, ◌<◌, ◌^◌, ℕ, true, false, Some, length, IfOk};
 ghost use Rattle.shm_words.specs.Layout.{GeometryFits};
-ghost use Rattle.shm_graph.specs.{declared.run.Start.Start as AStart, Agents.acts, Runs.first_account, Laws.step_of};
+ghost use Rattle.shm_graph.specs.{declared.run.Start.Start as AStart, Agents.acts, Runs.{account_at, first_account}};
+ghost use Rattle.shm_graph.specs.Laws.{step_of};
+ghost use Rattle.shm_plain.specs.Pools.{IsRun};
 ghost use Rattle.shm_script.specs.Ranges.{ScriptFits};
 ghost use Rattle.shm_agents.specs.{Agents.{AgentsStand, is_client, is_command, logged}, Cuts.{IsCut, account_cut}};
-ghost use Rattle.shm_agents.specs.{TurnsLeft.{turns_by, turns_given}, Work.work_control};
+ghost use Rattle.shm_agents.specs.{Rows.AreTurns, TurnsLeft.{turns_by, turns_given}, Work.work_control};
 
 use crate::play::Play;
 use shm_agents::agents::Standing;
 use shm_graph::Me;
-use shm_plain::Workplace;
+use shm_plain::{PlainPool, Workplace};
 use shm_script::{Log, Script};
 use std::alloc::{AllocError, Global};
 use std::marker::Model;
@@ -110,6 +112,20 @@ impl<A: Play> Players<A> {
         ensures turns { turns_by self.new (Some script.now) < turns_by self.old (Some script.now) }
     {
         self.agents.turn(script, pool)
+    }
+
+    /// Turns of theirs in a pool in a vector, one after the other: word steps until what the agent runs has answered or it has none left,
+    /// or where it had none left its death.
+    #[inline(always)]
+    pub fn turns(&mut self, script: &Script, pool: &mut PlainPool)
+        requires run { IsRun pool.old }
+        requires who { self.old.me.who < pool.old.start.geometry.clients }
+        requires stands { AgentsStand pool.old.start script.now self.old (account_at pool.old.accounts self.old.me.who) }
+        requires here { self.old.standing ≡ Standing.AtWork }
+        ensures row { (n : ℕ) × AreTurns script.now n pool.old self.old pool.new self.new }
+        ensures turns { turns_by self.new (Some script.now) < turns_by self.old (Some script.now) }
+    {
+        self.agents.turns(script, pool)
     }
 
     /// They are given up: the agent that acts dies, whatever it has left of its life, and no other one comes. Where none acts nothing changes

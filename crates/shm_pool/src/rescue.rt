@@ -6,7 +6,8 @@ ghost use Rattle.plans.specs.{CallsControl.{calls_control, calls_of}, CallsFit.{
 ghost use Rattle.shm_graph.specs.{Agents.acts, Laws.{is_died, is_done}, Runs.Stood, Whole.{fits_now, gives_now}};
 ghost use Rattle.shm_graph.specs.declared.ask.Turn.TheVariants as turns;
 ghost use Rattle.shm_pool.specs.{Calls.ClientStepped, Lasts.IsForRecoverers, Rules.{IsAlone, alone}};
-ghost use Rattle.shm_pool.specs.{Rescues.{account_of, is_finished_ok}, Stepped.IsRescue, Tokens.{its, me_of, IsFallen}};
+ghost use Rattle.shm_pool.specs.{Rescues.{RescuingBy, account_of, is_finished_ok}, Stepped.{IsRescue, rescuing_by}};
+ghost use Rattle.shm_pool.specs.Tokens.{its, me_of, IsFallen};
 
 use crate::last::Last;
 use crate::pool::SharedPool;
@@ -104,6 +105,7 @@ impl<M: Machine<Answer = Result<(), EraSpent>>> Rescue<M> {
         ensures died { is_died result ≡ true ↔ (life.old.left ≡ 0) }
         ensures stays { is_died result ≡ true → (self.new ≡ self.old) × (life.new ≡ life.old) }
         ensures turn { 0 < life.old.left → (life.new.left + 1 ≡ life.old.left) × (self.new.begun ≡ true) × ClientStepped M.control (fits_now M.control M.fits) (gives_now M.gives) self.old.machine (account_of self.old.begun (alone self.old.place)) (alone self.new.place) result self.new.machine }
+        ensures seen { (t : RescuingBy M) → rescuing_by self.old ≡ t → 0 < life.old.left → ClientStepped M.control (fits_now M.control M.fits) (gives_now M.gives) t.machine (account_of t.begun t.seat) (alone self.new.place) result self.new.machine }
         ensures finished { M.control.finished self.new.machine ≡ is_done result }
         ensures done { is_died result ≡ false → ((self.new.done ≡ true) ↔ (result ≡ turns.Done (Ok tt))) }
     {

@@ -3,13 +3,23 @@
 ghost use Rattle.std.specs.Prelude.{ℕ, List};
 
 use atomic_table::{Join, Play, Seat, Shared, Split, Table, TableRule};
-use shm_graph::{Account, Start};
+use shm_graph::Start;
 use std::alloc::Global;
-use std::collections::LinkedList;
-use std::marker::{Brand, PhantomData};
+use std::marker::{Brand, Model, PhantomData};
 
 /// What a seat knows: the accounts of the identities that it answers for. No value of it is made.
-pub type View = LinkedList<Account>;
+///
+/// To a contract it is their list. It has no field, so that whoever names a seat doesn't name all types that an account is made of.
+pub struct View;
+
+impl Model for View {
+    ghost use Rattle.std.specs.Prelude.{List, []};
+    ghost use Rattle.shm_graph.specs.declared.run.Account.{Account};
+
+    ghost Value = { List Account };
+
+    ghost view = { λ v. [] };
+}
 
 /// The words and the accounts are a state that holds, the last one of a run.
 pub struct Runs;

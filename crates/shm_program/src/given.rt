@@ -2,11 +2,12 @@
 
 ghost use Rattle.std.specs.{Prelude.{◌≡◌, IfOk, false, map}, String.string_bytes};
 ghost use Rattle.clap.specs.Words.{app_of, new_app, rule_of};
-ghost use Rattle.shm_program.specs.Givens.{IsReadBy, command_of, rule_in, with_argument, word_of};
+ghost use Rattle.shm_program.specs.Givens.{Gives, IsReadBy, command_of, rule_in, with_argument, word_of};
+ghost use Rattle.shm_program.specs.Words.{rows_in};
 
 use crate::words::Name;
 use clap::error::ErrorKind;
-use clap::{Arg, ArgAction, Command};
+use clap::{Arg, ArgAction, ArgMatches, Command};
 use std::alloc::{AllocError, Global};
 
 /// An argument of a command.
@@ -113,6 +114,21 @@ fn built<'a>(alloc: Global, name: Name) -> Result<Command<'a>, AllocError>
     with(alloc, two, third)
 }
 
+/// The texts of the arguments that were read.
+fn given_of<'a>(matches: &ArgMatches<'a>) -> Given<'a>
+    ensures { Gives result (rows_in matches.now) }
+{
+    Given {
+        image: matches.get_str("image"),
+        print: matches.get_str("print"),
+        medics: matches.get_str("medics"),
+        start: matches.get_str("start"),
+        size: matches.get_str("size"),
+        turns: matches.get_str("turns"),
+        limit: matches.get_str("limit"),
+    }
+}
+
 /// What the command of this name reads in the words, and nothing where it refuses them.
 pub fn read<'a>(
     alloc: Global,
@@ -123,24 +139,7 @@ pub fn read<'a>(
 {
     let command = built(alloc, name)?;
     match command.try_get_matches_from(words) {
-        Ok(matches) => {
-            let image = matches.get_str("image");
-            let print = matches.get_str("print");
-            let medics = matches.get_str("medics");
-            let start = matches.get_str("start");
-            let size = matches.get_str("size");
-            let turns = matches.get_str("turns");
-            let limit = matches.get_str("limit");
-            Ok(Some(Given {
-                image,
-                print,
-                medics,
-                start,
-                size,
-                turns,
-                limit,
-            }))
-        }
+        Ok(matches) => Ok(Some(given_of(&matches))),
         Err(error) if error.kind() == ErrorKind::OutOfMemory => Err(AllocError),
         Err(_) => Ok(None),
     }

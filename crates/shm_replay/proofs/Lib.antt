@@ -6,6 +6,7 @@ mod Reviving
 mod Giving
 pub mod Seating
 mod Lone
+mod Rows
 pub mod Telling
 pub mod Aside
 pub mod Firsts

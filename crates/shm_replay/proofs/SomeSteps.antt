@@ -7,6 +7,6 @@ pub some_steps : {M A : Type 0} (k : Control M A) (c : ℕ) (p : Pool) (m : M) (
 some_steps k c p m q x y fresh ran t none =
     let call : (memo_of q c).call ≡ t.trail = t.call ∙ ap (λ (b : Bool). call_before b (memo_of (readied p c) c).call ++ t.trail) fresh in
     let many : length (memo_of q c).call ≡ 0 = ap length (call ∙ none) in
-    let spent = ran.spent refl refl in
+    let spent = ran.spent (ran.some refl) refl in
     let less = ran.less refl in
     absurd (omega arith)

@@ -220,6 +220,27 @@ fn lone<A: Play>(agents: &[Option<Players<A>>]) -> Option<usize>
     }
 }
 
+/// Gives turns to the agents of an identity that have something to do, where nobody else has: word steps until what they run has answered or
+/// an agent has none left, or a death. Each of them is a round.
+#[inline(always)]
+fn give_turns<A: Play>(agents: &mut Players<A>, trace: &Trace, pool: &mut PlainPool)
+    requires seat { IsSeat trace.now pool.old agents.old.me.who agents.old }
+    requires who { agents.old.me.who < trace.now.clients }
+    requires lone { (d : ℕ) → d ≢ agents.old.me.who → is_busy trace.now pool.old d ≡ false }
+    requires here { agents.old.standing ≡ Standing.AtWork }
+    ensures seat { IsSeat trace.now pool.new agents.old.me.who agents.new }
+    ensures given { (n : ℕ) × (pool.new ≡ given trace.now pool.old (rounds_of trace.now.clients n)) }
+    ensures lone { (d : ℕ) → d ≢ agents.old.me.who → is_busy trace.now pool.new d ≡ false }
+    ensures me { agents.new.me ≡ agents.old.me }
+    ensures others { (d : ℕ) → d ≢ agents.old.me.who → account_at pool.new.accounts d ≡ account_at pool.old.accounts d }
+    ensures start { pool.new.start ≡ pool.old.start }
+    ensures turns { turns_in trace.now.scripts (Some agents.new) < turns_in trace.now.scripts (Some agents.old) }
+{
+    // for the proof: the pool is a run
+    pool.geometry();
+    agents.turns(&trace.scripts[agents.script()], pool);
+}
+
 /// Gives turns to the agents of an identity until they have nothing left to do, where nobody else has: each of them is a round.
 #[inline(never)]
 fn give_rest<A: Play>(agents: &mut Players<A>, trace: &Trace, pool: &mut PlainPool)
@@ -233,7 +254,7 @@ fn give_rest<A: Play>(agents: &mut Players<A>, trace: &Trace, pool: &mut PlainPo
     ensures start { pool.new.start ≡ pool.old.start }
 {
     while agents.standing() == Standing::AtWork {
-        give_turn(agents, trace, pool);
+        give_turns(agents, trace, pool);
     }
 }
 

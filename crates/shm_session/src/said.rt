@@ -49,6 +49,14 @@ pub struct Said {
     pub second: u64,
 }
 
+/// What is said after some word steps, and how many were made.
+#[repr(C)]
+#[derive(Clone, Copy, Debug, PartialEq, Eq, Drop)]
+pub struct Ran {
+    pub said: Said,
+    pub steps: u64,
+}
+
 /// What an answer is as numbers, and how the identity stands after it.
 #[derive(Clone, Copy, Debug, PartialEq, Eq, Drop)]
 pub struct Reply {

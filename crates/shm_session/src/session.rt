@@ -1,12 +1,14 @@
 //! A session of an identity.
 
 ghost use Rattle.std.specs.{Prelude.{◌≡◌, ◌<◌, ◌≤◌, false, Some, None, IfErr, IfOk}, Option.{ForSome, is_some}};
-ghost use Rattle.shm_words.specs.Layout.{GeometryFits};
-ghost use Rattle.shm_session.specs.Sessions.{Operations, answer_of, ask_of, beginning, called, fallen, next_said, refusal_said, stage_found, told, work_after};
+ghost use Rattle.shm_words.specs.Layout.{GeometryFits, total_of};
+ghost use Rattle.shm_graph.specs.declared.ask.Ask.{Ask as AnAsk};
+ghost use Rattle.shm_session.specs.Working.{RunsTo, HasWorked, asking};
+ghost use Rattle.shm_session.specs.Sessions.{Operations, answer_of, ask_of, beginning, called, fallen, next_said, refusal_said, said_by, stage_by, stage_found, told, work_after};
 ghost use Rattle.shm_session.specs.declared.said.Misuse.TheVariants.{Idle, Range};
 
 use crate::said::{Call, Misuse, Reply, Said, Stage};
-use shm_graph::{Ask, Me};
+use shm_graph::{Ask, Life, Machine, Me, Site, Turn};
 
 /// The operations of an identity, by numbers.
 pub trait Sits {
@@ -44,6 +46,36 @@ pub trait Sits {
         ensures work { work.new ≡ operations.control.after work.old seen }
         ensures answer { result ≡ operations.control.turns work.old seen };
 
+    /// Makes the word steps that it asks for at a site where any word step may be made, until it has answered or no life is left; its answer,
+    /// where it has answered.
+    fn run<T: Site>(
+        work: &mut Self::Work,
+        site: &T,
+        words: &mut T::Words,
+        life: &mut Life,
+    ) -> Option<Self::Answer>
+        requires going { operations.control.finished work.old ≡ false }
+        requires free { (w : T.Words) (a : AnAsk) → T.may site.now w a }
+        ensures { HasWorked operations.control (T.made site.now) (T.seen site.now) life.old.left work.old words.old (record { left = life.new.left; machine = work.new; words = words.new; answer = result }) }
+    {
+        'steps: loop {
+            if life.left == 0 {
+                return None;
+            }
+            life.left -= 1;
+            let ask = Self::ask(work);
+            let seen = site.make(words, ask);
+            match Self::take(work, seen) {
+                Some(answer) => return Some(answer),
+                None => {
+                    if Self::is_over(work) {
+                        return None;
+                    }
+                }
+            }
+        }
+    }
+
     /// What its answer is as numbers, and how the identity stands after it, which stood so before.
     fn reply(answer: Self::Answer, stage: Stage) -> Reply
         ensures { result ≡ operations.replies answer stage };
@@ -51,6 +83,25 @@ pub trait Sits {
     /// What it will answer where its agent dies now, if that is certain.
     fn effect(work: &Self::Work) -> Option<Said>
         ensures { result ≡ operations.effects work.now };
+}
+
+/// Makes the word steps that a machine asks for at a site where any word step may be made, until it has answered or no life is left; its answer,
+/// where it has answered.
+#[inline(always)]
+pub fn work_at<M: Machine, T: Site>(
+    machine: &mut M,
+    site: &T,
+    words: &mut T::Words,
+    life: &mut Life,
+) -> Option<M::Answer>
+    requires going { M.control.finished machine.old ≡ false }
+    requires free { (w : T.Words) (a : AnAsk) → T.may site.now w a }
+    ensures { HasWorked M.control (T.made site.now) (T.seen site.now) life.old.left machine.old words.old (record { left = life.new.left; machine = machine.new; words = words.new; answer = result }) }
+{
+    match machine.run(site, words, life) {
+        Turn::Done(answer) => Some(answer),
+        Turn::More | Turn::Died => None,
+    }
 }
 
 /// What an identity is at. Its pool's words are its caller's.
@@ -121,6 +172,13 @@ impl<S: Sits> Session<S> {
         answer
     }
 
+    /// How many words its pool has.
+    pub fn total(&self) -> u32
+        ensures { result ≡ total_of self.now.me.geometry }
+    {
+        self.me.geometry.total()
+    }
+
     /// How the identity stands.
     pub fn stage(&self) -> Stage
         ensures { result ≡ self.now.stage }
@@ -170,6 +228,24 @@ impl<S: Sits> Session<S> {
         }
     }
 
+    /// Says what was answered, or else the word step that it asks for.
+    #[inline(always)]
+    fn say(&mut self, answer: Option<S::Answer>) -> Said
+        ensures me { self.new.me ≡ self.old.me }
+        ensures said { result ≡ said_by S.operations answer self.old.stage self.old.work }
+        ensures stage { self.new.stage ≡ stage_by S.operations answer self.old.stage }
+        ensures work { self.new.work ≡ self.old.work }
+    {
+        match answer {
+            Some(answer) => {
+                let Reply { said, stage } = S::reply(answer, self.stage);
+                self.stage = stage;
+                said
+            }
+            None => self.next(),
+        }
+    }
+
     /// Takes the word that was found, for a store 0: the next word step, or the answer. Where nothing was asked for, the refusal `Idle`, and nothing changes.
     #[inline(always)]
     pub fn tell(&mut self, found: u64) -> Said
@@ -179,13 +255,34 @@ impl<S: Sits> Session<S> {
         ensures work { self.new.work ≡ (told S.operations self.old.stage self.old.work found).work }
         ensures idle { self.old.work ≡ None → (result ≡ refusal_said Idle) × (self.new.stage ≡ self.old.stage) × (self.new.work ≡ None) }
     {
-        match self.take(found) {
+        let answer = self.take(found);
+        self.say(answer)
+    }
+
+    /// Makes the word steps that it asks for at a site where any word step may be made, until no operation is in progress or no life is left: what it then
+    /// says, as where `tell` had been told each word that was found. Where no operation is in progress, the refusal `Idle`, and nothing changes.
+    #[inline(always)]
+    pub fn run<T: Site>(&mut self, site: &T, words: &mut T::Words, life: &mut Life) -> Said
+        requires { (w : T.Words) (a : AnAsk) → T.may site.now w a }
+        ensures me { self.new.me ≡ self.old.me }
+        ensures left { life.new.left ≤ life.old.left }
+        ensures ran { RunsTo S.operations (T.made site.now) (T.seen site.now) life.old.left (asking S.operations self.old.stage self.old.work) words.old (record { left = life.new.left; turned = record { said = result; stage = self.new.stage; work = self.new.work }; words = words.new }) }
+    {
+        let Some(machine) = &mut self.work else {
+            return Said::refusal(Misuse::Idle);
+        };
+        match S::run(machine, site, words, life) {
             Some(answer) => {
-                let Reply { said, stage } = S::reply(answer, self.stage);
-                self.stage = stage;
-                said
+                self.work = None;
+                self.say(Some(answer))
             }
-            None => self.next(),
+            None => {
+                if S::is_over(machine) {
+                    self.work = None;
+                    return Said::refusal(Misuse::Idle);
+                }
+                self.next()
+            }
         }
     }
 

@@ -18,11 +18,11 @@ use Rattle.shm_graph.proofs.Runs.Going.{Is, done_on, going_on, learns-step, me_o
 use Rattle.shm_graph.proofs.Runs.Running.{turned-begins, turned-dies}
 use Rattle.shm_headline.proofs.Moves.{memo_by, memo_here, memo_there, who_of}
 use Rattle.shm_session.specs.declared.said.{Call.Call, Stage.Stage}
-use Rattle.shm_session.specs.Sessions.{Operations, answer_of, called, fallen_stage, goes_on, kept, stage_by, stage_found, told}
+use Rattle.shm_session.specs.Sessions.{Operations, called, fallen_stage, goes_on, kept, stage_by, stage_found}
 use Rattle.shm_session.specs.Sessions as sessions
 use Rattle.shm_session.specs.declared.said.Stage.TheVariants as stage
-use Rattle.shm_sessions.specs.Kept.{AreKept, IsLeft, IsReady}
-use Rattle.shm_sessions.specs.Logs.{HasRoom, IsCall, Sitting, acts_called, acts_in, acts_left, kind_at, kind_in, me_of, opened, sitting_called, sitting_told, turns_between, turns_made, words_made, work_of}
+use Rattle.shm_sessions.specs.Kept.{AreKept, IsGiven, IsLeft, IsReady}
+use Rattle.shm_sessions.specs.Logs.{HasRoom, IsCall, Sitting, acts_by, acts_called, acts_in, acts_left, gives_up, is_dead, kind_at, kind_in, me_of, opened, sitting_called, sitting_told, turns_between, turns_left, turns_told, turns_up, words_made, work_of}
 use Rattle.shm_sessions.proofs.Standing.{Keeps, Rested, Sits, SitsBy, Works, acts_told, at_rest, keep_at}
 use Rattle.shm_sessions.proofs.Views.{IsTaken, Same, Given, Started, taken}
 
@@ -71,6 +71,22 @@ module _ {S A : Type 0} (g : Geometry) (o : Operations S A) (fits : S → Memo �
           leads = (i, turned, refl);
           words = refl;
           keeps = keep_at g o fits gives always between q s (moved s m) c y h turned.held (λ d n. memo_there s m i d (λ z. n (sym of ∙ z))) (λ x e. low) (λ l. subst always (sym here) kept) (λ l. subst (At c y) (sym here) sits);
+        }
+
+    -- a turn, after which the client dies
+    goes_and_dies : (y : Option (Sitting S)) (m : Move) → who_of m ≡ c → c < g.clients → IsMove s m → Turned g s m → always (memo_by s m) → acts (memo_by s m) ≡ true → At c y (died (memo_by s m)) → Went (at1 q c y) (m ∷ Dies c ∷ []) (moved s m).words s
+    goes_and_dies y m of low i turned kept acting sits =
+        let a : State = moved s m in
+        let here : memos_of a.accounts c ≡ memo_by s m = subst (λ (d : ℕ). memos_of a.accounts d ≡ memo_by s m) of (memo_here s m i) in
+        let acts_still : acts (memos_of a.accounts c) ≡ true = ap acts here ∙ acting in
+        let dead : Turned g a (Dies c) = turned-dies g a c turned.held low in
+        let there : memos_of (moved a (Dies c)).accounts c ≡ died (memo_by s m) = memo_here a (Dies c) acts_still ∙ ap died here in
+        record {
+          after = moved a (Dies c);
+          leads = (i, turned, (acts_still, dead, refl));
+          words = refl;
+          keeps = keep_at g o fits gives always between q s (moved a (Dies c)) c y h dead.held (λ d n. memo_there a (Dies c) acts_still d n ∙ memo_there s m i d (λ z. n (sym of ∙ z))) (λ x e. low)
+              (λ l. subst always (sym there) (owed.dies (memo_by s m) kept)) (λ l. subst (At c y) (sym there) sits);
         }
 
     dies : (y : Option (Sitting S)) → c < g.clients → acts r ≡ true → At c y (died r) → Went (at1 q c y) (Dies c ∷ []) s.words s
@@ -252,16 +268,22 @@ module _ {S A : Type 0} (g : Geometry) (o : Operations S A) (fits : S → Memo �
       kind : recovers then ≡ recovers work.start
       kind = recovers_on r step (asked_spot r step) ∙ work.kind
 
-      left_sits : (a : A) → o.control.turns m n ≡ Some a → (u : Stage) → IsLeft always between (me_of g c) u then → AtBy c u None (acts_left true (Some a) u) then
-      left_sits a e stage.Vacant gone = (
+      -- an identity that isn't given up is dead where a recoverer acts still
+      given_recovers : (z : Stage) (x : Memo) → gives_up z stage.Dead ≡ false → IsGiven always between z x → recovers x ≡ true
+      given_recovers stage.Vacant x e h = absurd (false≢true (sym e))
+      given_recovers stage.Live x e h = absurd (false≢true (sym e))
+      given_recovers stage.Dead x e h = h
+
+      left_sits : (a : A) → o.control.turns m n ≡ Some a → (u : Stage) → gives_up t u ≡ false → IsLeft always between (me_of g c) t u then → AtBy c u None (acts_by false true u) then
+      left_sits a e stage.Vacant stays gone = (
         acts_after r step (asked_spot r step) ∙ ap (λ (b : Bool). cond b false (acts r)) (and_from _ _ (ap is_gone gone) (done_on o.control laws.steady m n a work.going e)),
         inr gone,
       )
-      left_sits a e stage.Live l = (acts-here r step (asked_spot r step) l.0 ∙ work.acting, l.1)
-      left_sits a e stage.Dead l = (acts-here r step (asked_spot r step) l.0 ∙ work.acting, l.1)
+      left_sits a e stage.Live stays l = (acts-here r step (asked_spot r step) l.0 ∙ work.acting, l.1)
+      left_sits a e stage.Dead stays l = (acts-here r step (asked_spot r step) l.0 ∙ work.acting, given_recovers t then stays l.1)
 
-      told_sits : (u : Option A) → o.control.turns m n ≡ u → Outcome u (Fits (o.control.after m n) work.start then) (Gives m work.start then) → AtBy c (stage_by o u t) (goes_on o (o.control.after m n) u) (acts_left true u (stage_by o u t)) then
-      told_sits None e out =
+      goes_on_sits : o.control.turns m n ≡ None → Fits (o.control.after m n) work.start then → AtBy c t (kept o (o.control.finished (o.control.after m n)) (o.control.after m n)) true then
+      goes_on_sits e out =
           let fin : o.control.finished (o.control.after m n) ≡ false = going_on o.control laws.steady m n work.going e in
           subst (λ (b : Bool). AtBy c t (kept o b (o.control.after m n)) true then) (sym fin) (
             refl,
@@ -280,20 +302,46 @@ module _ {S A : Type 0} (g : Geometry) (o : Operations S A) (fits : S → Memo �
               gave = λ x tr a z. work.gave x tr a (laws.back m n work.going e work.start x tr a z);
             },
           )
-      told_sits (Some a) e out = left_sits a e (o.replies a t).stage (owed.leaves (me_of g c) t work.call work.first work.start then then.call a work.sized work.begun work.ready (work.gave then then.call a out) then_held kind then_kept)
 
-      made : Went (at1 q c (sitting_told g o n (Some (sitting t (Some m) true)))) (Word step ∷ []) (words_set (o.control.asks m) s.words) s
-      made =
-          goes (sitting_told g o n (Some (sitting t (Some m) true))) (Word step) who low move turned
-          (subst always (sym then_is) then_kept)
-          (subst (At c (sitting_told g o n (Some (sitting t (Some m) true)))) (sym then_is) (told_sits (o.control.turns m n) refl learns))
+      abbrev Made : Stage → Option S → Bool → List Move → Type 0
+      Made u w b ms = Went (at1 q c (Some (sitting u w b))) (Word step ∷ ms) (words_set (o.control.asks m) s.words) s
 
-    pub steps : (found : ℕ) (m : S) (v : Option (Sitting S)) → q c ≡ v → work_of v ≡ Some m → found ≡ seen_of (o.control.asks m) (slice_index s.words (at_of (o.control.asks m))) → Went (at1 q c (sitting_told g o found v)) (turns_made g o (work_of v) found) (words_made g o (work_of v) s.words) s
+      -- the word step is its one turn
+      alone : (u : Stage) (w : Option S) (b : Bool) → AtBy c u w b then → Made u w b []
+      alone u w b sit = goes (Some (sitting u w b)) (Word step) who low move turned (subst always (sym then_is) then_kept) (subst (AtBy c u w b) (sym then_is) sit)
+
+      -- the identity is given up
+      given_sits : (u : Stage) → is_dead u ≡ true → IsLeft always between (me_of g c) t u then → Made u None false (Dies c ∷ [])
+      given_sits stage.Vacant e l = absurd (false≢true e)
+      given_sits stage.Live e l = absurd (false≢true e)
+      given_sits stage.Dead e l =
+          let acting : acts then ≡ true = acts-here r step (asked_spot r step) l.0 ∙ work.acting in
+          goes_and_dies (Some (sitting stage.Dead None false)) (Word step) who low move turned (subst always (sym then_is) then_kept) (ap acts then_is ∙ acting)
+          (subst (λ (x : Memo). AtBy c stage.Dead None false (died x)) (sym then_is) (acts-died then, fell-died then acting))
+
+      given_dead : (z u : Stage) → gives_up z u ≡ true → is_dead u ≡ true
+      given_dead stage.Vacant u e = e
+      given_dead stage.Live u e = e
+      given_dead stage.Dead u e = absurd (false≢true e)
+
+      answered : (a : A) → o.control.turns m n ≡ Some a → (u : Stage) → IsLeft always between (me_of g c) t u then → (b : Bool) → gives_up t u ≡ b → Made u None (acts_by b true u) (turns_up c b)
+      answered a e u l true z = given_sits u (given_dead t u z) l
+      answered a e u l false z = alone u None (acts_by false true u) (left_sits a e u z l)
+
+      made : (v : Option A) → o.control.turns m n ≡ v → Outcome v (Fits (o.control.after m n) work.start then) (Gives m work.start then) → Made (stage_by o v t) (goes_on o (o.control.after m n) v) (acts_left t true v (stage_by o v t)) (turns_left c t v (stage_by o v t))
+      made None e out = alone t (kept o (o.control.finished (o.control.after m n)) (o.control.after m n)) true (goes_on_sits e out)
+      made (Some a) e out =
+          let u : Stage = (o.replies a t).stage in
+          answered a e u (owed.leaves (me_of g c) t work.call work.first work.start then then.call a work.sized work.begun work.ready (work.gave then then.call a out) then_held kind then_kept) (gives_up t u) refl
+
+    pub steps : (found : ℕ) (m : S) (v : Option (Sitting S)) → q c ≡ v → work_of v ≡ Some m → found ≡ seen_of (o.control.asks m) (slice_index s.words (at_of (o.control.asks m))) → Went (at1 q c (sitting_told g o found v)) (turns_told g o c found v) (words_made g o (work_of v) s.words) s
     steps found m None e w is = absurd (cc)
     steps found m (Some x) e w is =
         let low : c < g.clients = h.low c x e in
         let sit : AtBy c x.stage x.work x.acts r = subst (λ (v : Option (Sitting S)). At c v r) e (h.sits c low) in
         let at : AtBy c x.stage (Some m) x.acts r = subst (λ (v : Option S). AtBy c x.stage v x.acts r) w sit in
-        subst (λ (v : Option S). Went (at1 q c (sitting_told g o found (Some (sitting x.stage v x.acts)))) (turns_made g o v found) (words_made g o v s.words) s) (sym w)
-        (subst (λ (b : Bool). Went (at1 q c (sitting_told g o found (Some (sitting x.stage (Some m) b)))) (turns_made g o (Some m) found) (words_made g o (Some m) s.words) s) (sym at.0)
-        (subst (λ (k : ℕ). Went (at1 q c (sitting_told g o k (Some (sitting x.stage (Some m) true)))) (turns_made g o (Some m) k) (words_set (o.control.asks m) s.words) s) (sym is) (made low x.stage m at.1)))
+        let k : ℕ = seen_of (o.control.asks m) (slice_index s.words (at_of (o.control.asks m))) in
+        subst (λ (v : Option S). Went (at1 q c (sitting_told g o found (Some (sitting x.stage v x.acts)))) (turns_told g o c found (Some (sitting x.stage v x.acts))) (words_made g o v s.words) s) (sym w)
+        (subst (λ (b : Bool). Went (at1 q c (sitting_told g o found (Some (sitting x.stage (Some m) b)))) (turns_told g o c found (Some (sitting x.stage (Some m) b))) (words_made g o (Some m) s.words) s) (sym at.0)
+        (subst (λ (j : ℕ). Went (at1 q c (sitting_told g o j (Some (sitting x.stage (Some m) true)))) (turns_told g o c j (Some (sitting x.stage (Some m) true))) (words_set (o.control.asks m) s.words) s) (sym is)
+        (made low x.stage m at.1 (o.control.turns m k) refl (learns low x.stage m at.1))))

@@ -23,18 +23,24 @@ module _ (always : Memo → Type 0) (between : Me → Memo → Type 0) where
     pub kept : always r
     pub may : MayStart me t r
 
-  -- what holds after an answer by which the identity stands so: it is gone; it isn't, and a client is between two operations, where its own era has room; or it isn't, and a recoverer acts still
-  abbrev pub IsLeft : Me → Stage → Memo → Type 0
-  IsLeft me stage.Vacant r = r.status ≡ status.Gone
-  IsLeft me stage.Live r = (r.status ≢ status.Gone) × (HasRoom (own_word r.own (Era me.who me.who)) → between me r)
-  IsLeft me stage.Dead r = (r.status ≢ status.Gone) × (recovers r ≡ true)
+  -- who acts where an answer leaves the identity dead, by how it stood where the operation began: a recoverer still, or a client, which dies then
+  abbrev pub IsGiven : Stage → Memo → Type 0
+  IsGiven stage.Vacant r = Unit {0}
+  IsGiven stage.Live r = Unit {0}
+  IsGiven stage.Dead r = recovers r ≡ true
+
+  -- what holds after an answer, by how the identity stood where the operation began and how it stands then: it is gone; it isn't, and a client is between two operations, where its own era has room; or it isn't, and is dead
+  abbrev pub IsLeft : Me → Stage → Stage → Memo → Type 0
+  IsLeft me t stage.Vacant r = r.status ≡ status.Gone
+  IsLeft me t stage.Live r = (r.status ≢ status.Gone) × (HasRoom (own_word r.own (Era me.who me.who)) → between me r)
+  IsLeft me t stage.Dead r = (r.status ≢ status.Gone) × IsGiven t r
 
 -- A call's operation is of the identity, has made no step, and fits where it begins; what it gives leaves the identity as the answer says; and what always holds, word steps, deaths and beginnings keep
 pub record AreKept {S A : Type 0} (o : Operations S A) (fits : S → Memo → Memo → Trail → Type 0) (gives : S → Memo → Memo → Trail → A → Type 0) (always : Memo → Type 0) (between : Me → Memo → Type 0) : Type 0 where
   pub me : (me : Me) (t : Stage) (c : Call) (m : S) → o.begins me t c ≡ Ok m → o.control.me m ≡ me
   pub fresh : (me : Me) (t : Stage) (c : Call) (m : S) → o.begins me t c ≡ Ok m → o.control.fresh m ≡ true
   pub begins : (me : Me) (t : Stage) (c : Call) (m : S) (r : Memo) → IsCall c → o.begins me t c ≡ Ok m → IsReady always between me t r → fits m r r []
-  pub leaves : (me : Me) (t : Stage) (c : Call) (m : S) (r0 r : Memo) (tr : Trail) (a : A) → IsCall c → o.begins me t c ≡ Ok m → IsReady always between me t r0 → gives m r0 r tr a → IsHeld me r → recovers r ≡ recovers r0 → always r → IsLeft always between me (o.replies a t).stage r
+  pub leaves : (me : Me) (t : Stage) (c : Call) (m : S) (r0 r : Memo) (tr : Trail) (a : A) → IsCall c → o.begins me t c ≡ Ok m → IsReady always between me t r0 → gives m r0 r tr a → IsHeld me r → recovers r ≡ recovers r0 → always r → IsLeft always between me t (o.replies a t).stage r
   pub steps : (r : Memo) (t : Step) → always r → always (memo_after r t)
   pub dies : (r : Memo) → always r → always (died r)
   pub enters : (k : Kind) (r : Memo) → always r → always (entered k r)

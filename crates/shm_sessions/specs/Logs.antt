@@ -56,20 +56,47 @@ module _ {S : Type 0} where
   acts_called false b None = b
   acts_called false b (Some m) = true
 
--- whether somebody acts after a word step, by its answer and by how the identity stands then: who leaves, or has recovered, has ended
-abbrev pub acts_left : {A : Type 0} → Bool → Option A → Stage → Bool
-acts_left b None t = b
-acts_left b (Some a) stage.Vacant = false
-acts_left b (Some a) stage.Live = b
-acts_left b (Some a) stage.Dead = b
+-- whether an identity is dead
+abbrev pub is_dead : Stage → Bool
+is_dead stage.Vacant = false
+is_dead stage.Live = false
+is_dead stage.Dead = true
+
+-- whether an operation gives its identity up, by how it stood where that began and how it stands after the answer: it is dead, and wasn't
+abbrev pub gives_up : Stage → Stage → Bool
+gives_up stage.Vacant u = is_dead u
+gives_up stage.Live u = is_dead u
+gives_up stage.Dead u = false
+
+-- whether somebody acts after an answer: a client whose identity is given up has died, and who leaves, or has recovered, has ended
+abbrev pub acts_by : Bool → Bool → Stage → Bool
+acts_by true b u = false
+acts_by false b stage.Vacant = false
+acts_by false b stage.Live = b
+acts_by false b stage.Dead = b
+
+-- the same after a word step, by its answer, if there is one
+abbrev pub acts_left : {A : Type 0} → Stage → Bool → Option A → Stage → Bool
+acts_left t b None u = b
+acts_left t b (Some a) u = acts_by (gives_up t u) b u
 
 -- the own era leaves room for a count step: from 1 on, for 2^47 - 5 of them
 abbrev pub HasRoom : ℕ → Type 0
 HasRoom e = e ≤ 2 ^ 47 - 4
 
--- the numbers of a call have their sizes
+-- the numbers of a call and its plain words have their sizes: those of a call from C do, whose integers have 32 and 64 bits
 abbrev pub IsCall : Call → Type 0
-IsCall c = (c.op < 2 ^ 32) × (c.first < 2 ^ 64) × (c.second < 2 ^ 64) × (c.third < 2 ^ 64)
+IsCall c = (c.op < 2 ^ 32) × (c.first < 2 ^ 64) × (c.second < 2 ^ 64) × (c.third < 2 ^ 64) × ((i : ℕ) → slice_index c.words i < 2 ^ 64)
+
+-- a client dies whose identity is given up, and otherwise nobody
+abbrev pub turns_up : ℕ → Bool → List Move
+turns_up c true = Dies c ∷ []
+turns_up c false = []
+
+-- the same after a word step, by its answer, if there is one
+abbrev pub turns_left : {A : Type 0} → ℕ → Stage → Option A → Stage → List Move
+turns_left c t None u = []
+turns_left c t (Some a) u = turns_up c (gives_up t u)
 
 -- who acted before and doesn't now has died, and who acts now and didn't has begun
 abbrev pub turns_between : ℕ → Kind → Bool → Bool → List Move
@@ -94,7 +121,7 @@ module _ {S A : Type 0} (g : Geometry) (o : Operations S A) where
   -- told a word
   abbrev pub sitting_told : ℕ → Option (Sitting S) → Option (Sitting S)
   sitting_told n None = None
-  sitting_told n (Some x) = let y = told o x.stage x.work n in Some (record { stage = y.stage; work = y.work; acts = acts_left x.acts (answer_of o x.work n) y.stage })
+  sitting_told n (Some x) = let y = told o x.stage x.work n in Some (record { stage = y.stage; work = y.work; acts = acts_left x.stage x.acts (answer_of o x.work n) y.stage })
 
   -- ---- all sessions, by identity
 
@@ -120,10 +147,15 @@ module _ {S A : Type 0} (g : Geometry) (o : Operations S A) where
   turns_made None n = []
   turns_made (Some m) n = Word (step_of o.control m n) ∷ []
 
+  -- those of a word step that a session is told, and of its answer
+  abbrev pub turns_told : ℕ → ℕ → Option (Sitting S) → List Move
+  turns_told c n None = []
+  turns_told c n (Some x) = turns_made x.work n ++ turns_left c x.stage (answer_of o x.work n) (told o x.stage x.work n).stage
+
   abbrev pub turns_by : Happening → (ℕ → Option (Sitting S)) → List Move
   turns_by (Opens c n) q = []
   turns_by (Calls c call) q = turns_between c (kind_in (q c)) (acts_in (q c)) (acts_in (sitting_called c call (q c)))
-  turns_by (Steps c n) q = turns_made (work_of (q c)) n
+  turns_by (Steps c n) q = turns_told c n (q c)
   turns_by (Closes c) q = turns_between c (kind_in (q c)) (acts_in (q c)) false
 
   abbrev pub turns_in : (ℕ → Option (Sitting S)) → List Happening → List Move

@@ -5,8 +5,8 @@ use Rattle.shm_script.specs.{declared.line.Line.Line, Ranges.LineFits}
 use Rattle.shm_session.specs.declared.said.{Call.Call, Misuse.Misuse, Stage.Stage}
 use Rattle.shm_session.specs.declared.said.Stage.TheVariants as stage
 use Rattle.shm_sessions.specs.Logs.{IsCall}
-use Rattle.shm_agents.specs.Work.{Work, commanding, join_work, leave_work, recover_work}
-use Rattle.shm_sitting.specs.Tables.{begins, command_by, joins, leaves, recovers, runs}
+use Rattle.shm_sitting.specs.{declared.work.Work.Work, Tables.{begins, command_by, joins, leaves, recovers, runs}}
+use Rattle.shm_sitting.specs.Work.{commanding, join_work, leave_work, recover_work}
 use Rattle.shm_shared.proofs.Lines.{command_fits}
 
 pub data IsBegun (me : Me) (t : Stage) (c : Call) (m : Work) : Type 0 where

@@ -1,4 +1,14 @@
+pub mod Renamed
+pub mod Between
+pub mod Lives
 pub mod Opening
 pub mod Lines
 pub mod Begun
 pub mod Tabled
+pub mod Nest
+pub mod BlockWays
+pub mod BlockLeft
+pub mod BlockPlan
+pub mod BlockLaws
+pub mod BlockCalls
+pub mod BlocksKept

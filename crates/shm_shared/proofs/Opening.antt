@@ -1,9 +1,8 @@
 -- what a command leaves of a client between two operations, whose own era has room: it is between two again
-use Rattle.std.proofs.Common.{◌≡◌, ℕ, ◌⊎◌, false, List, [], sym, ap, ◌∙◌, inl, inr}
+use Rattle.std.proofs.Common.{◌≡◌, ℕ, ◌⊎◌, false, List, sym, ap, ◌∙◌, inl, inr}
 use Rattle.std.specs.Prelude.{None, slice_index}
 use Rattle.shm_graph.specs.{declared.{ask.Me.Me, memo.Memo.Memo, spot.Spot.TheVariants.Hold}, Agents.recovers}
-use Rattle.shm_graph.specs.{Asks.Trail, Events.Event, Core.core, Held.is_loose, Idle.{hold_word, IsIdle}}
-use Rattle.shm_graph.specs.Views.{own_word}
+use Rattle.shm_graph.specs.{Asks.Trail, Events.Event, Core.core, Held.is_loose, Idle.hold_word, Views.own_word}
 use Rattle.shm_script.specs.declared.{log.Answer.Answer, line.Line.Line}
 use Rattle.shm_script.specs.declared.log.Answer.TheVariants as answer
 use Rattle.shm_script.specs.declared.line.Line.TheVariants as line
@@ -18,20 +17,11 @@ use Rattle.shm_table.specs.declared.answer.PutFault.TheVariants as fault
 use Rattle.shm_queue.specs.declared.answer.SendFault.{SendFault}
 use Rattle.shm_queue.specs.declared.answer.SendFault.TheVariants as sendfault
 use Rattle.shm_agents.proofs.Folding.{HasRoom}
+use Rattle.shm_shared.proofs.Between.{IsBetween}
 
--- a client of a pool for tables between two operations, that holds no latch and has no zero-count block, and of whose queues none waits for a tail or a head
-pub record IsBetween (me : Me) (r : Memo) : Type 0 where
-  pub idle : IsIdle me.who r
-  pub client : recovers r ≡ false
-  pub latch : r.latch ≡ None
-  pub dying : r.dying ≡ []
-  pub table : is_loose r.part ≡ false
-  pub unsent : (i : ℕ) → slice_index r.unsent i ≡ 0
-  pub untaken : (i : ℕ) → slice_index r.untaken i ≡ 0
-
-module _ (me : Me) (m r : Memo) (h : IsBetween me m) (client : recovers r ≡ false) where
+module _ (me : Me) (m r : Memo) (h : IsBetween false me m) (client : recovers r ≡ false) where
   abbrev Then : Type 0
-  Then = IsBetween me r
+  Then = IsBetween false me r
 
   kept : Keeps me.who m r → r.latch ≡ None → Cleared me.who m r → Then
   kept k latch cleared =
@@ -40,7 +30,7 @@ module _ (me : Me) (m r : Memo) (h : IsBetween me m) (client : recovers r ≡ fa
         client = client;
         latch = latch;
         dying = cleared.dying ∙ h.dying;
-        table = k.loose ∙ h.table;
+        pool = k.loose ∙ h.pool;
         unsent = λ i. ap (λ xs. slice_index xs i) k.unsent ∙ h.unsent i;
         untaken = λ i. ap (λ xs. slice_index xs i) k.untaken ∙ h.untaken i;
       }
@@ -58,7 +48,7 @@ module _ (me : Me) (m r : Memo) (h : IsBetween me m) (client : recovers r ≡ fa
         client = client;
         latch = ap (λ (y : Memo). y.latch) e ∙ h.latch;
         dying = ap (λ (y : Memo). y.dying) e ∙ h.dying;
-        table = ap (λ (y : Memo). is_loose y.part) e ∙ h.table;
+        pool = ap (λ (y : Memo). is_loose y.part) e ∙ h.pool;
         unsent = λ i. ap (λ (y : Memo). slice_index y.unsent i) e ∙ h.unsent i;
         untaken = λ i. ap (λ (y : Memo). slice_index y.untaken i) e ∙ h.untaken i;
       }
@@ -119,7 +109,7 @@ module _ (me : Me) (m r : Memo) (h : IsBetween me m) (client : recovers r ≡ fa
           client = client;
           latch = g.latch;
           dying = g.cleared.dying ∙ h.dying;
-          table = g.keeps.loose ∙ h.table;
+          pool = g.keeps.loose ∙ h.pool;
           unsent = λ j. g.waits j ∙ h.unsent j;
           untaken = λ j. ap (λ xs. slice_index xs j) g.keeps.untaken ∙ h.untaken j;
         }
@@ -142,7 +132,7 @@ module _ (me : Me) (m r : Memo) (h : IsBetween me m) (client : recovers r ≡ fa
           client = client;
           latch = g.latch;
           dying = (ended g.ended).dying ∙ h.dying;
-          table = t.passed.keeps.loose ∙ h.table;
+          pool = t.passed.keeps.loose ∙ h.pool;
           unsent = λ j. ap (λ xs. slice_index xs j) t.passed.keeps.unsent ∙ h.unsent j;
           untaken = λ j. t.untaken j ∙ h.untaken j;
         }
@@ -158,7 +148,7 @@ module _ (me : Me) (m r : Memo) (h : IsBetween me m) (client : recovers r ≡ fa
     recv_leaves s key tr ds a g = absurd g
 
     -- whatever the command
-    pub command_leaves : (l : Line) (tr : Trail) (a : Answer) → CommandGives (command_of me l) m r tr a → IsBetween me r
+    pub command_leaves : (l : Line) (tr : Trail) (a : Answer) → CommandGives (command_of me l) m r tr a → IsBetween false me r
     command_leaves (line.Put key n) tr a g = put_leaves key n tr _ a (puts_give me key n m r tr a g).leaves
     command_leaves (line.Copy key b other) tr a g = copy_leaves key b other tr _ a (copies_give me key b other m r tr a g).leaves
     command_leaves (line.Del key) tr a g = del_leaves key tr _ a (dels_give me key m r tr a g).leaves

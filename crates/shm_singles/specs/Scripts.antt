@@ -32,6 +32,7 @@ pub record ScriptInRange (m : ScriptState) : Type 0 where
   pub root : m.root < 16
   pub other : m.other < 16
   pub peer : m.peer < m.me.geometry.clients
+  pub author : m.author < m.me.geometry.clients
   pub block : m.block + 2 ≤ total_of m.me.geometry
   pub to : m.to + 2 ≤ total_of m.me.geometry
 
@@ -41,7 +42,7 @@ no_request = record { refs = 0; count = 0; plain = replicate 8 0; near = record 
 
 -- an operation that has no numbers, or none yet
 abbrev pub begun : Me → Deed → Point → ScriptState
-begun me d y = record { me = me; deed = d; request = no_request; root = 0; other = 0; index = 0; peer = me.who; block = 0; to = 0; point = y; said = code_said 16 }
+begun me d y = record { me = me; deed = d; request = no_request; root = 0; other = 0; index = 0; peer = me.who; author = me.who; block = 0; to = 0; point = y; said = code_said 16 }
 
 -- ---- its machines
 
@@ -79,13 +80,34 @@ act m = act_at m m.deed
 
 -- the machine at a point
 abbrev pub part : ScriptState → Point → Part
+part m point.Only = act m
 part m point.Named = naming m.me m.root
 part m point.Other = naming m.me m.other
 part m point.Tagged = group.Words (First (First (record { me = m.me; ask = Load (m.block + 1); over = false })))
-part m point.Held = group.Latches (First (calls_of hold_steered (holding m.me m.peer)))
+part m point.Held = group.Latches (First (calls_of hold_steered (holding m.me m.author)))
 part m point.Act = act m
 part m point.Rooted = sharing m.me m.to
 part m point.Released = group.Latches (Second (calls_of release_steered (releasing m.me)))
+
+-- whether a machine is the first one
+abbrev pub is_first : Point → Bool
+is_first point.Only = true
+is_first point.Named = true
+is_first y = false
+
+-- the first one of an operation
+abbrev pub first_of : Deed → Point
+first_of deed.Share = point.Named
+first_of deed.Read = point.Named
+first_of deed.Set = point.Named
+first_of deed.Clear = point.Named
+first_of deed.Send = point.Named
+first_of deed.Follow = point.Named
+first_of d = point.Only
+
+-- the operation before its first word step
+abbrev pub started : ScriptState → ScriptState
+started m = record (begun m.me m.deed (first_of m.deed)) { request = m.request; root = m.root; other = m.other; index = m.index; peer = m.peer }
 
 -- ---- where it goes
 
@@ -115,7 +137,7 @@ named_turns m b = if is_block m.me b then None else Some (ended (code_said 27))
 
 -- the tag of the block was loaded
 abbrev pub tagged_after : ScriptState → ℕ → ScriptState
-tagged_after m n = if nat_lt (tag_author m.me.geometry.wide n) m.me.geometry.clients then record m { peer = tag_author m.me.geometry.wide n; point = point.Held } else m
+tagged_after m n = if nat_lt (tag_author m.me.geometry.wide n) m.me.geometry.clients then record m { author = tag_author m.me.geometry.wide n; point = point.Held } else m
 
 -- it answers at once where the tag shows no author of the pool
 abbrev pub tagged_turns : ScriptState → ℕ → Option Outcome
@@ -124,7 +146,7 @@ tagged_turns m n = if nat_lt (tag_author m.me.geometry.wide n) m.me.geometry.cli
 -- the latch was taken; or it is another's, and is tried again
 abbrev pub held_after : ScriptState → Result (Unit {0}) Busy → ScriptState
 held_after m (Ok u) = record m { point = point.Act }
-held_after m (Err e) = m
+held_after m (Err e) = record m { point = point.Held }
 
 -- the latch is to be given back, and then s is said
 abbrev pub given_back : ScriptState → Said → ScriptState
@@ -211,8 +233,8 @@ script_steered =
     record {
       me = λ m. m.me;
       line = λ m. [];
-      first = λ m. false;
-      start = λ m. m;
+      first = λ m. is_first m.point;
+      start = started;
       call = λ m. part m m.point;
       after = script_after;
       turns = script_turns;

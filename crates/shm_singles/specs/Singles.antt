@@ -6,7 +6,7 @@ use Rattle.shm_session.specs.{declared.said.{Call.Call, Misuse.Misuse, Reply.Rep
 use Rattle.shm_session.specs.declared.said.Misuse.TheVariants as misuse
 use Rattle.shm_session.specs.declared.said.Stage.TheVariants as stage
 use Rattle.shm_singles.specs.declared.{part.Part.Part, script.{Deed.Deed, Outcome.Outcome, ScriptState.ScriptState}}
-use Rattle.shm_singles.specs.declared.{script.Point.TheVariants.{Act, Named}, steering.Steering.Steering}
+use Rattle.shm_singles.specs.declared.{script.Point.TheVariants.{Named, Only}, steering.Steering.Steering}
 use Rattle.shm_singles.specs.{Parts.part_control, Scripts.{begun, script_steered}}
 use Rattle.shm_singles.specs.Steering.{steering_control, steering_of}
 use Rattle.shm_singles.specs.declared.script.Deed.TheVariants as deed
@@ -41,7 +41,7 @@ request c = requested c (below c.first 17) (below c.second 9) (nat_lt c.third 42
 -- an allocation of what is asked for
 abbrev pub allocating : Me → Option Request → Option ScriptState
 allocating me None = None
-allocating me (Some q) = Some (record (begun me deed.Alloc Act) { request = q })
+allocating me (Some q) = Some (record (begun me deed.Alloc Only) { request = q })
 
 -- an operation at the block that a root names, at one of its words, with the block that another root names
 abbrev pub rooted_at : Me → Deed → Option ℕ → Option ℕ → Option ℕ → Option ScriptState
@@ -56,7 +56,7 @@ at_root me d k i o = rooted_at me d (below k 16) (word i) (below o 16)
 -- a root is made empty
 abbrev pub dropping : Me → Option ℕ → Option ScriptState
 dropping me None = None
-dropping me (Some k) = Some (record (begun me deed.Drop Act) { root = k })
+dropping me (Some k) = Some (record (begun me deed.Drop Only) { root = k })
 
 -- an operation with another identity
 abbrev pub with_peer : Option ℕ → Option ScriptState → Option ScriptState
@@ -74,8 +74,8 @@ script_of me c =
     else if c.op == 24 then at_root me deed.Clear c.first c.second 0
     else if c.op == 25 then dropping me (below c.first 16)
     else if c.op == 26 then with_peer (another me c.first) (at_root me deed.Send c.second 0 0)
-    else if c.op == 27 then with_peer (another me c.first) (Some (begun me deed.Receive Act))
-    else if c.op == 28 then Some (begun me deed.Drain Act)
+    else if c.op == 27 then with_peer (another me c.first) (Some (begun me deed.Receive Only))
+    else if c.op == 28 then Some (begun me deed.Drain Only)
     else if c.op == 29 then at_root me deed.Follow c.first c.second 0
     else None
 
@@ -85,7 +85,7 @@ Work = Steering ScriptState Part
 
 -- a join, a leaving or a recovery
 abbrev pub alone : Me → Deed → Work
-alone me d = steering_of script_steered (begun me d Act)
+alone me d = steering_of script_steered (begun me d Only)
 
 -- a join is for an identity that is new or gone, a leaving for one that has joined, a recovery for one that is dead
 abbrev pub joins : Me → Stage → Result Work Misuse

@@ -16,6 +16,7 @@ pub mod steering;
 pub mod words;
 pub mod work;
 
+pub use lives::{Lives, LivesAnswer};
 pub use part::{Part, PartAnswer};
 pub use script::Script;
 pub use steering::{Steering, Steers};

@@ -2,16 +2,18 @@
 
 ghost use Rattle.std.specs.Prelude.{◌≡◌, ◌<◌, false};
 ghost use Rattle.shm_words.specs.Layout.{GeometryFits};
-ghost use Rattle.shm_graph.specs.Laws.{turn_of};
+ghost use Rattle.shm_graph.specs.{declared.ask.Ask.Ask as AnAsk, Laws.turn_of};
 ghost use Rattle.plans.specs.{CallsControl.calls_of, declared.or.Or.TheVariants.{First, Second}};
 ghost use Rattle.shm_recover.specs.{Join.join_fresh, Leave.Control.{leaving, leave_steered}};
 ghost use Rattle.shm_recover.specs.Recover.Control.{recovering, recover_steered};
+ghost use Rattle.shm_session.specs.Working.{HasWorked};
 ghost use Rattle.shm_singles.specs.Steps.{lives_control};
 
 use plans::{Calls, Or};
 use shm_count::EraSpent;
-use shm_graph::{Ask, Machine, Me, Turn};
+use shm_graph::{Ask, Life, Machine, Me, Site, Turn};
 use shm_recover::{Join, Leave, Recover};
+use shm_session::work_at;
 use std::marker::Model;
 
 /// What a join, a recovery or a leaving answers.
@@ -40,7 +42,7 @@ impl Model for Lives {
 
 impl Lives {
     /// The join of an identity.
-    pub(crate) fn join(me: Me) -> Lives
+    pub fn join(me: Me) -> Lives
         requires geometry { GeometryFits me.geometry }
         requires who { me.who < me.geometry.clients }
         ensures { result ≡ First (join_fresh me) }
@@ -51,7 +53,7 @@ impl Lives {
     }
 
     /// The recovery of an identity.
-    pub(crate) fn recover(me: Me) -> Lives
+    pub fn recover(me: Me) -> Lives
         requires geometry { GeometryFits me.geometry }
         requires who { me.who < me.geometry.clients }
         ensures { result ≡ Second (First (calls_of recover_steered (recovering me))) }
@@ -62,7 +64,7 @@ impl Lives {
     }
 
     /// The leaving of an identity.
-    pub(crate) fn leave(me: Me) -> Lives
+    pub fn leave(me: Me) -> Lives
         requires geometry { GeometryFits me.geometry }
         requires who { me.who < me.geometry.clients }
         ensures { result ≡ Second (Second (calls_of leave_steered (leaving me))) }
@@ -74,7 +76,7 @@ impl Lives {
 
     /// Whether it has answered.
     #[inline(always)]
-    pub(crate) fn is_over(&self) -> bool
+    pub fn is_over(&self) -> bool
         ensures { result ≡ lives_control.finished self.now }
     {
         self.one.finished()
@@ -82,7 +84,7 @@ impl Lives {
 
     /// The word step that it asks for.
     #[inline(always)]
-    pub(crate) fn ask(&self) -> Ask
+    pub fn ask(&self) -> Ask
         requires { lives_control.finished self.now ≡ false }
         ensures { result ≡ lives_control.asks self.now }
     {
@@ -91,11 +93,27 @@ impl Lives {
 
     /// Takes the word that was found, for a store 0.
     #[inline(always)]
-    pub(crate) fn take(&mut self, seen: u64) -> Turn<LivesAnswer>
+    pub fn take(&mut self, seen: u64) -> Turn<LivesAnswer>
         requires { lives_control.finished self.old ≡ false }
         ensures machine { self.new ≡ lives_control.after self.old seen }
         ensures turn { result ≡ turn_of (lives_control.turns self.old seen) }
     {
         self.one.take(seen)
+    }
+
+    /// Makes the word steps that it asks for at a site where any word step may be made, until it has answered or no life is left; its answer,
+    /// where it has answered.
+    #[inline(always)]
+    pub fn run<S: Site>(
+        &mut self,
+        site: &S,
+        words: &mut S::Words,
+        life: &mut Life,
+    ) -> Option<LivesAnswer>
+        requires going { lives_control.finished self.old ≡ false }
+        requires free { (w : S.Words) (a : AnAsk) → S.may site.now w a }
+        ensures { HasWorked lives_control (S.made site.now) (S.seen site.now) life.old.left self.old words.old (record { left = life.new.left; machine = self.new; words = words.new; answer = result }) }
+    {
+        work_at(&mut self.one, site, words, life)
     }
 }

@@ -37,6 +37,7 @@ pub(crate) fn begun(me: Me, deed: Deed, point: Point) -> ScriptState
         other: 0,
         index: 0,
         peer: me.who,
+        author: me.who,
         block: 0,
         to: 0,
         point,
@@ -130,7 +131,7 @@ pub(crate) fn script_of(me: Me, call: Call) -> Option<ScriptState>
     } = call;
     match op {
         20 => {
-            let mut state = begun(me, Deed::Alloc, Point::Act);
+            let mut state = begun(me, Deed::Alloc, Point::Only);
             state.request = request(call)?;
             Some(state)
         }
@@ -139,7 +140,7 @@ pub(crate) fn script_of(me: Me, call: Call) -> Option<ScriptState>
         23 => at_root(me, Deed::Set, first, second, third),
         24 => at_root(me, Deed::Clear, first, second, 0),
         25 => {
-            let mut state = begun(me, Deed::Drop, Point::Act);
+            let mut state = begun(me, Deed::Drop, Point::Only);
             state.root = below(first, 16)?;
             Some(state)
         }
@@ -150,11 +151,11 @@ pub(crate) fn script_of(me: Me, call: Call) -> Option<ScriptState>
             Some(state)
         }
         27 => {
-            let mut state = begun(me, Deed::Receive, Point::Act);
+            let mut state = begun(me, Deed::Receive, Point::Only);
             state.peer = another(me, first)?;
             Some(state)
         }
-        28 => Some(begun(me, Deed::Drain, Point::Act)),
+        28 => Some(begun(me, Deed::Drain, Point::Only)),
         29 => at_root(me, Deed::Follow, first, second, 0),
         _ => None,
     }

@@ -54,6 +54,8 @@ pub enum Deed {
 /// Which machine of it comes next.
 #[derive(Clone, Copy, Drop)]
 pub enum Point {
+    /// What the operation is for, where nothing is found before.
+    Only,
     /// The root is loaded.
     Named,
     /// The other root is loaded.
@@ -89,8 +91,10 @@ pub struct ScriptState {
     pub other: u8,
     /// Which word of the block.
     pub index: u8,
-    /// To whom or from whom a block is sent, or whose latch is taken.
+    /// To whom or from whom a block is sent.
     pub peer: u8,
+    /// Whose latch is taken.
+    pub author: u8,
     /// The block, and the other one.
     pub block: u32,
     pub to: u32,
@@ -162,7 +166,7 @@ impl Script {
     {
         let author = said::author_in(self.state.me, word);
         if author < self.state.me.geometry.clients() {
-            self.state.peer = author;
+            self.state.author = author;
             self.state.point = Point::Held;
             None
         } else {
@@ -175,9 +179,10 @@ impl Script {
         ensures state { self.new ≡ control.held_after self.old answer }
         ensures answer { result ≡ None }
     {
-        if answer.is_ok() {
-            self.state.point = Point::Act;
-        }
+        self.state.point = match answer {
+            Ok(()) => Point::Act,
+            Err(_) => Point::Held,
+        };
         None
     }
 
@@ -303,18 +308,18 @@ fn part(state: ScriptState) -> Part
         me,
         root,
         other,
-        peer,
+        author,
         block,
         to,
         point,
         ..
     } = state;
     match point {
+        Point::Only | Point::Act => act(state),
         Point::Named => Part::Roots(Roots::name(me, root)),
         Point::Other => Part::Roots(Roots::name(me, other)),
         Point::Tagged => Part::Words(Words::load(me, block + 1)),
-        Point::Held => Part::Latches(Latches::hold(me, peer)),
-        Point::Act => act(state),
+        Point::Held => Part::Latches(Latches::hold(me, author)),
         Point::Rooted => Part::Roots(Roots::share(me, to)),
         Point::Released => Part::Latches(Latches::release(me)),
     }

@@ -20,7 +20,7 @@ fn alone(me: Me, deed: Deed) -> Steering<Script>
     requires who { me.who < me.geometry.clients }
     ensures { result ≡ alone me deed }
 {
-    Steering::new(Script::new(begun(me, deed, Point::Act)))
+    Steering::new(Script::new(begun(me, deed, Point::Only)))
 }
 
 impl Sits for Singles {

@@ -1,5 +1,6 @@
 -- what the crate's contracts cite
 pub mod Numbers
+pub mod Work
 pub mod Tables
 pub mod TablesSeats
 pub mod SinglesSeats

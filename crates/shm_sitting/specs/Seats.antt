@@ -1,7 +1,7 @@
 -- what calls make of a session, by the kind of its pool
 use Rattle.std.specs.Prelude.{ℕ}
 use Rattle.shm_graph.specs.declared.ask.Me.{Me}
-use Rattle.shm_session.specs.declared.said.{Call.Call, Said.Said}
+use Rattle.shm_session.specs.declared.said.{Call.Call, Ran.Ran, Said.Said}
 use Rattle.shm_sitting.specs.declared.seat.{Kind.Kind, Seat.{Seat, TheVariants.{Tables, Singles}}}
 use Rattle.shm_sitting.specs.declared.seat.Kind.TheVariants as kind
 use Rattle.shm_sitting.specs.TablesSeats as table
@@ -24,3 +24,9 @@ abbrev pub IsCalled : Seat → Call → Said → Seat → Type 0
 IsCalled (Tables s) c r (Tables t) = table.IsCalled s c r t
 IsCalled (Singles s) c r (Singles t) = single.IsCalled s c r t
 IsCalled s c r t = ⊥
+
+-- many word steps were made at most, on so many words: what this kind says
+abbrev pub IsRun : Seat → ℕ → ℕ → Ran → Seat → Type 0
+IsRun (Tables s) count n r (Tables t) = table.IsRun s count n r t
+IsRun (Singles s) count n r (Singles t) = single.IsRun s count n r t
+IsRun s count n r t = ⊥

@@ -1,9 +1,11 @@
 -- what calls make of a session in a pool for single blocks
-use Rattle.std.specs.Prelude.{◌≡◌, ℕ, ◌==◌, nat_lt, if◌then◌else◌, Some, None, List, slice_set, replicate}
+use Rattle.std.specs.Prelude.{◌≡◌, ℕ, ◌<◌, ◌≤◌, ◌==◌, nat_lt, if◌then◌else◌, Some, None, List, slice_set, replicate}
+use Rattle.shm_words.specs.Layout.{total_of}
 use Rattle.shm_graph.specs.declared.ask.Me.{Me}
-use Rattle.shm_session.specs.declared.said.{Call.Call, Said.Said, Misuse.TheVariants.Range}
+use Rattle.shm_session.specs.declared.said.{Call.Call, Ran.Ran, Said.Said, Misuse.TheVariants.Range}
 use Rattle.shm_session.specs.Sessions.{Turned, called, code_said, refusal_said, stage_found, told}
 use Rattle.shm_singles.specs.Singles.{Work, singles}
+use Rattle.shm_mapped.specs.Runs.{HasRun}
 use Rattle.shm_sitting.specs.declared.singles_seat.SinglesSeat.{SinglesSeat}
 
 -- a plain word of the block that is made next is kept, by its index; another index is refused, and nothing changes
@@ -43,4 +45,11 @@ pub record IsTold (s : SinglesSeat) (n : ℕ) (r : Said) (t : SinglesSeat) : Typ
   pub said : r ≡ (told singles s.session.stage s.session.work n).said
   pub stage : t.session.stage ≡ (told singles s.session.stage s.session.work n).stage
   pub work : t.session.work ≡ (told singles s.session.stage s.session.work n).work
+  pub words : t.words ≡ s.words
+
+-- so many word steps were made at most, on so many words: too few are refused, and nothing changes
+pub record IsRun (s : SinglesSeat) (count n : ℕ) (r : Ran) (t : SinglesSeat) : Type 0 where
+  pub me : t.session.me ≡ s.session.me
+  pub few : count < total_of s.session.me.geometry → (r ≡ record { said = refusal_said Range; steps = 0 }) × (t.session.stage ≡ s.session.stage) × (t.session.work ≡ s.session.work)
+  pub ran : total_of s.session.me.geometry ≤ count → HasRun singles count n s.session.stage s.session.work r t.session.stage t.session.work
   pub words : t.words ≡ s.words

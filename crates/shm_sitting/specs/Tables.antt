@@ -1,5 +1,5 @@
 -- what the operations of an identity in a pool for tables do: a join, a leaving, a recovery, and the commands
-use Rattle.std.specs.Prelude.{ℕ, ◌==◌, nat_lt, not, if◌then◌else◌, Bool, true, false, Option, Some, None, Result, Ok, Err}
+use Rattle.std.specs.Prelude.{◌==◌, nat_lt, not, if◌then◌else◌, Bool, true, false, Option, Some, None, Result, Ok, Err}
 use Rattle.std.specs.Option.{option_map}
 use Rattle.shm_graph.specs.declared.ask.Me.{Me}
 use Rattle.plans.specs.declared.or.Or.TheVariants.{First, Second}
@@ -7,12 +7,14 @@ use Rattle.shm_count.specs.declared.answer.EraSpent.{EraSpent}
 use Rattle.shm_script.specs.declared.line.Line.{Line}
 use Rattle.shm_script.specs.declared.line.Line.TheVariants as line
 use Rattle.shm_table.specs.Command.{command_effect}
-use Rattle.shm_agents.specs.Work.{Work, WorkAnswer, commanding, join_work, leave_work, recover_work, work_control}
+use Rattle.shm_singles.specs.Steps.{LivesAnswer}
 use Rattle.shm_session.specs.declared.said.{Call.Call, Misuse.Misuse, Reply.Reply, Said.Said, Stage.Stage}
 use Rattle.shm_session.specs.Sessions.{Operations, code_said}
 use Rattle.shm_session.specs.declared.said.Misuse.TheVariants as misuse
 use Rattle.shm_session.specs.declared.said.Stage.TheVariants as stage
-use Rattle.shm_sitting.specs.Numbers.{answered, line_of}
+use Rattle.shm_sitting.specs.declared.work.{Work.{Work, TheVariants.{Lives, Command}}, WorkAnswer.WorkAnswer}
+use Rattle.shm_sitting.specs.{Numbers.{answered, line_of}, Work.{commanding, join_work, leave_work, recover_work, work_control}}
+use Rattle.shm_sitting.specs.declared.work.WorkAnswer.TheVariants as answer
 
 -- the identities of a line are of the pool, and what is sent or received is another one's
 abbrev pub may_be : Me → Line → Bool
@@ -63,18 +65,21 @@ abbrev pub settled : Result (Unit {0}) EraSpent → Stage → Reply
 settled (Ok u) t = record { said = code_said 16; stage = stage.Vacant }
 settled (Err e) t = record { said = record { code = 25; at = 0; first = e.era; second = 0 }; stage = t }
 
+-- what a join, a recovery or a leaving answers, and how the identity stands after it
+abbrev pub lived : LivesAnswer → Stage → Reply
+lived (First u) t = record { said = code_said 16; stage = stage.Live }
+lived (Second (First r)) t = settled r t
+lived (Second (Second r)) t = settled r t
+
 -- an answer as numbers, and how the identity stands after it
 abbrev pub replies : WorkAnswer → Stage → Reply
-replies (First (First u)) t = record { said = code_said 16; stage = stage.Live }
-replies (First (Second r)) t = settled r t
-replies (Second (First a)) t = record { said = answered a; stage = t }
-replies (Second (Second r)) t = settled r t
+replies (answer.Lives r) t = lived r t
+replies (answer.Command a) t = record { said = answered a; stage = t }
 
 -- a command whose deciding step was made will have answered that; of the others nothing is said
 abbrev pub effects : Work → Option Said
-effects (First w) = None
-effects (Second (First m)) = option_map answered (command_effect m)
-effects (Second (Second m)) = None
+effects (Lives m) = None
+effects (Command m) = option_map answered (command_effect m)
 
 abbrev pub tables : Operations Work WorkAnswer
 tables = record { control = work_control; begins = begins; replies = replies; effects = effects }

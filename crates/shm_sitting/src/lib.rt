@@ -11,4 +11,4 @@ pub mod work;
 pub use seat::{Kind, Seat};
 pub use singles_seat::SinglesSeat;
 pub use tables_seat::TablesSeat;
-pub use work::{Tables, Work};
+pub use work::{Tables, Work, WorkAnswer};

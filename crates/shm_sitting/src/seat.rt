@@ -1,14 +1,15 @@
 //! A session, by the kind of its pool.
 
-ghost use Rattle.std.specs.{Prelude.{◌≡◌, ◌<◌, IfSome}, Option.is_some};
+ghost use Rattle.std.specs.{Prelude.{◌≡◌, ◌<◌, IfSome, length}, Option.is_some};
 ghost use Rattle.shm_words.specs.Layout.{GeometryFits};
 ghost use Rattle.shm_session.specs.Sessions.{stage_found};
-ghost use Rattle.shm_sitting.specs.Seats.{IsCalled, IsOpened, IsTold};
+ghost use Rattle.shm_sitting.specs.Seats.{IsCalled, IsOpened, IsRun, IsTold};
 
 use crate::singles_seat::SinglesSeat;
 use crate::tables_seat::TablesSeat;
 use shm_graph::Me;
-use shm_session::{Call, Said};
+use shm_session::{Call, Ran, Said};
+use std::sync::atomic::AtomicU64;
 
 /// What a pool is for.
 #[derive(Clone, Copy, Drop)]
@@ -64,6 +65,19 @@ impl Seat {
         match self {
             Seat::Tables(seat) => seat.tell(found),
             Seat::Singles(seat) => seat.tell(found),
+        }
+    }
+
+    /// Makes the word steps that it asks for on these words, its pool's first ones, which others change too: so many at most, or those until the operation has
+    /// answered. What it then says, as `tell` does, or why nothing was done: fewer words than the pool has, or no operation in progress; and how many were made.
+    /// Code 36 where a word was asked for that there isn't.
+    #[inline(always)]
+    pub fn run(&mut self, words: &[AtomicU64], steps: u64) -> Ran
+        ensures { IsRun self.old (length words.now) steps result self.new }
+    {
+        match self {
+            Seat::Tables(seat) => seat.run(words, steps),
+            Seat::Singles(seat) => seat.run(words, steps),
         }
     }
 }

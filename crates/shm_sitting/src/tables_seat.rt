@@ -1,13 +1,15 @@
 //! A session in a pool for tables.
 
-ghost use Rattle.std.specs.{Prelude.{◌≡◌, ◌<◌, IfSome}, Option.is_some};
+ghost use Rattle.std.specs.{Prelude.{◌≡◌, ◌<◌, IfSome, length}, Option.is_some};
 ghost use Rattle.shm_words.specs.Layout.{GeometryFits};
 ghost use Rattle.shm_session.specs.Sessions.{stage_found};
-ghost use Rattle.shm_sitting.specs.TablesSeats.{IsCalled, IsOpened, IsTold};
+ghost use Rattle.shm_sitting.specs.TablesSeats.{IsCalled, IsOpened, IsRun, IsTold};
 
 use crate::work::Tables;
 use shm_graph::Me;
-use shm_session::{Call, Said, Session};
+use shm_mapped::run_on;
+use shm_session::{Call, Ran, Said, Session};
+use std::sync::atomic::AtomicU64;
 
 /// A session of an identity.
 #[derive(Drop)]
@@ -42,5 +44,13 @@ impl TablesSeat {
         ensures { IsTold self.old found result self.new }
     {
         self.session.tell(found)
+    }
+
+    /// Makes so many word steps at most on these words: what it then says, and how many were made.
+    #[inline(always)]
+    pub fn run(&mut self, words: &[AtomicU64], steps: u64) -> Ran
+        ensures { IsRun self.old (length words.now) steps result self.new }
+    {
+        run_on(&mut self.session, words, steps)
     }
 }

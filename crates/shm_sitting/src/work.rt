@@ -1,21 +1,35 @@
 //! A join, a recovery, a command or a leaving, by numbers.
 
-ghost use Rattle.std.specs.Prelude.{◌≡◌, ◌<◌, IfSome, true};
+ghost use Rattle.std.specs.{Prelude.{◌≡◌, ◌<◌, IfSome, true}, Option.option_map};
 ghost use Rattle.shm_words.specs.Layout.{GeometryFits};
 ghost use Rattle.shm_table.specs.Command.{LineMayStand};
-ghost use Rattle.shm_sitting.specs.Tables.{command_by, may_be, settled as outcome_reply, tables};
+ghost use Rattle.shm_sitting.specs.Tables.{command_by, lived as tables_lived, may_be, settled as outcome_reply, tables};
+ghost use Rattle.shm_sitting.specs.declared.work.WorkAnswer.TheVariants as whole;
 
 use crate::numbers::{answered, line_of};
-use plans::{Calls, Or};
+use plans::Or;
 use shm_count::EraSpent;
-use shm_graph::{Ask, Machine, Me, Turn};
-use shm_recover::{Join, Leave, Recover};
+use shm_graph::{Ask, Life, Machine, Me, Site, Turn};
 use shm_script::{Answer, Line};
-use shm_session::{Call, Misuse, Reply, Said, Sits, Stage};
+use shm_session::{Call, Misuse, Reply, Said, Sits, Stage, work_at};
+use shm_singles::{Lives, LivesAnswer};
 use shm_table::Command;
 
-/// A piece of work: a join, a recovery, a command or a leaving.
-pub type Work = Or<Or<Join, Calls<Recover>>, Or<Command, Calls<Leave>>>;
+/// A piece of work of an identity.
+#[derive(Drop)]
+pub enum Work {
+    /// A join, a recovery or a leaving.
+    Lives(Lives),
+    /// A command.
+    Command(Command),
+}
+
+/// What it answers.
+#[derive(Drop)]
+pub enum WorkAnswer {
+    Lives(LivesAnswer),
+    Command(Answer),
+}
 
 /// The operations of an identity in a pool for tables.
 #[derive(Drop)]
@@ -48,7 +62,7 @@ fn command_of(me: Me, call: Call) -> Option<Line>
     }
 }
 
-/// After a join, a recovery or a leaving: the identity is new or gone, where its era isn't spent, and stands as before where it is.
+/// After a recovery or a leaving: the identity is new or gone, where its era isn't spent, and stands as before where it is.
 fn settled(outcome: Result<(), EraSpent>, before: Stage) -> Reply
     ensures { result ≡ outcome_reply outcome before }
 {
@@ -64,30 +78,66 @@ fn settled(outcome: Result<(), EraSpent>, before: Stage) -> Reply
     }
 }
 
+/// What came of a join, a recovery or a leaving.
+fn lived(answer: LivesAnswer, before: Stage) -> Reply
+    ensures { result ≡ tables_lived answer before }
+{
+    match answer {
+        Or::First(()) => Reply {
+            said: Said::of(16),
+            stage: Stage::Live,
+        },
+        Or::Second(Or::First(outcome)) => settled(outcome, before),
+        Or::Second(Or::Second(outcome)) => settled(outcome, before),
+    }
+}
+
+/// What a join, a recovery or a leaving answered, as an answer of the work.
+#[inline(always)]
+fn of_life(answer: Option<LivesAnswer>) -> Option<WorkAnswer>
+    ensures { result ≡ option_map whole.Lives answer }
+{
+    match answer {
+        Some(answer) => Some(WorkAnswer::Lives(answer)),
+        None => None,
+    }
+}
+
+/// What a command answered, as an answer of the work.
+#[inline(always)]
+fn of_command(answer: Option<Answer>) -> Option<WorkAnswer>
+    ensures { result ≡ option_map whole.Command answer }
+{
+    match answer {
+        Some(answer) => Some(WorkAnswer::Command(answer)),
+        None => None,
+    }
+}
+
 impl Sits for Tables {
     type Work = Work;
 
-    type Answer = Or<Or<(), Result<(), EraSpent>>, Or<Answer, Result<(), EraSpent>>>;
+    type Answer = WorkAnswer;
 
     ghost operations = { tables };
 
     fn begin(me: Me, stage: Stage, call: Call) -> Result<Work, Misuse> {
         match call.op {
             1 => match stage {
-                Stage::Vacant => Ok(Or::First(Or::First(Join::new(me)))),
+                Stage::Vacant => Ok(Work::Lives(Lives::join(me))),
                 Stage::Live | Stage::Dead => Err(Misuse::Stage),
             },
             2 => match stage {
-                Stage::Live => Ok(Or::Second(Or::Second(Calls::new(Leave::new(me))))),
+                Stage::Live => Ok(Work::Lives(Lives::leave(me))),
                 Stage::Vacant | Stage::Dead => Err(Misuse::Stage),
             },
             3 => match stage {
-                Stage::Dead => Ok(Or::First(Or::Second(Calls::new(Recover::new(me))))),
+                Stage::Dead => Ok(Work::Lives(Lives::recover(me))),
                 Stage::Vacant | Stage::Live => Err(Misuse::Stage),
             },
             _ => match command_of(me, call) {
                 Some(line) => match stage {
-                    Stage::Live => Ok(Or::Second(Or::First(Command::new(me, &line)))),
+                    Stage::Live => Ok(Work::Command(Command::new(me, &line))),
                     Stage::Vacant | Stage::Dead => Err(Misuse::Stage),
                 },
                 None => Err(Misuse::Range),
@@ -97,37 +147,51 @@ impl Sits for Tables {
 
     #[inline(always)]
     fn is_over(work: &Work) -> bool {
-        work.finished()
+        match work {
+            Work::Lives(machine) => machine.is_over(),
+            Work::Command(machine) => machine.finished(),
+        }
     }
 
     #[inline(always)]
     fn ask(work: &Work) -> Ask {
-        work.ask()
-    }
-
-    #[inline(always)]
-    fn take(
-        work: &mut Work,
-        seen: u64,
-    ) -> Option<Or<Or<(), Result<(), EraSpent>>, Or<Answer, Result<(), EraSpent>>>> {
-        match work.take(seen) {
-            Turn::Done(answer) => Some(answer),
-            Turn::More | Turn::Died => None,
+        match work {
+            Work::Lives(machine) => machine.ask(),
+            Work::Command(machine) => machine.ask(),
         }
     }
 
-    fn reply(
-        answer: Or<Or<(), Result<(), EraSpent>>, Or<Answer, Result<(), EraSpent>>>,
-        stage: Stage,
-    ) -> Reply {
-        match answer {
-            Or::First(Or::First(())) => Reply {
-                said: Said::of(16),
-                stage: Stage::Live,
+    #[inline(always)]
+    fn take(work: &mut Work, seen: u64) -> Option<WorkAnswer> {
+        match work {
+            Work::Lives(machine) => match machine.take(seen) {
+                Turn::Done(answer) => Some(WorkAnswer::Lives(answer)),
+                Turn::More | Turn::Died => None,
             },
-            Or::First(Or::Second(outcome)) => settled(outcome, stage),
-            Or::Second(Or::Second(outcome)) => settled(outcome, stage),
-            Or::Second(Or::First(answer)) => Reply {
+            Work::Command(machine) => match machine.take(seen) {
+                Turn::Done(answer) => Some(WorkAnswer::Command(answer)),
+                Turn::More | Turn::Died => None,
+            },
+        }
+    }
+
+    #[inline(always)]
+    fn run<T: Site>(
+        work: &mut Work,
+        site: &T,
+        words: &mut T::Words,
+        life: &mut Life,
+    ) -> Option<WorkAnswer> {
+        match work {
+            Work::Lives(machine) => of_life(machine.run(site, words, life)),
+            Work::Command(machine) => of_command(work_at(machine, site, words, life)),
+        }
+    }
+
+    fn reply(answer: WorkAnswer, stage: Stage) -> Reply {
+        match answer {
+            WorkAnswer::Lives(answer) => lived(answer, stage),
+            WorkAnswer::Command(answer) => Reply {
                 said: answered(answer),
                 stage,
             },
@@ -136,8 +200,8 @@ impl Sits for Tables {
 
     fn effect(work: &Work) -> Option<Said> {
         match work {
-            Or::Second(Or::First(command)) => Some(answered(command.effect()?)),
-            _ => None,
+            Work::Lives(_) => None,
+            Work::Command(command) => Some(answered(command.effect()?)),
         }
     }
 }

@@ -86,26 +86,14 @@ word_not p b i e f = let k : true ≡ false = sym (ap is_word e) ∙ f in cc
 calm_told : (key home : ℕ) (e : Event) → IsCalm e → Told key home e → ⊥
 calm_told key home (event.Up c p x) f t = word_not p home (key % 16) t f
 calm_told key home (event.ChangeUp c p x y) f t = word_not p t.0 t.1 t.2 f
-calm_told key home event.Nothing f t = t
-calm_told key home (event.Alloc c k b) f t = t
-calm_told key home (event.Down c p b) f t = t
-calm_told key home (event.ChangeDown c a) f t = t
-calm_told key home (event.Free c b) f t = t
+calm_told key home _ f t = t
 
 -- ---- count steps
 
 -- a step that isn't the exchange that finds its header is no event
 quiet_step : (me : Me) (x : Aim) (p : Spot) (y : StepPoint) (n : ℕ) → exchanging_at y n ≡ false → step_event_at me x p y n ≡ event.Nothing
 quiet_step me x p (point.Exchange e h w) n f = ap (λ z. if z then event_of_half me x p h else event.Nothing) f
-quiet_step me x p point.Era n f = refl
-quiet_step me x p (point.More e) n f = refl
-quiet_step me x p (point.Redo e) n f = refl
-quiet_step me x p (point.Load e h) n f = refl
-quiet_step me x p (point.Row e h w) n f = refl
-quiet_step me x p (point.Show e h w) n f = refl
-quiet_step me x p (point.Slot e z) n f = refl
-quiet_step me x p (point.Close e h z) n f = refl
-quiet_step me x p point.Over n f = refl
+quiet_step me x p _ n f = refl
 
 -- what holds of the event of its exchange and of none holds of its event
 any_step : (P : Event → Type 0) (me : Me) (x : Aim) (p : Spot) (y : StepPoint) (n : ℕ) → ((h : Half) → P (event_of_half me x p h)) → P event.Nothing → P (step_event_at me x p y n)
@@ -126,10 +114,9 @@ any_step P me x p point.Over n f z = z
 
 -- a step at a word of no block
 calm_half : (me : Me) (x : Aim) (p : Spot) (h : Half) → is_word p ≡ false → IsCalm (event_of_half me x p h)
-calm_half me (aims.Up b) p h f = f
 calm_half me (aims.Down b) p h f = tt
-calm_half me (aims.Change a b) p part.First f = f
 calm_half me (aims.Change a b) p part.Second f = tt
+calm_half me _ p _ f = f
 
 calm_step : (me : Me) (x : Aim) (p : Spot) (y : StepPoint) (n : ℕ) → is_word p ≡ false → IsCalm (step_event_at me x p y n)
 calm_step me x p y n f = any_step IsCalm me x p y n (λ h. calm_half me x p h f) tt
@@ -188,9 +175,8 @@ calm_fetch c n = go c.call
   where
     go : (x : FetchCall) → IsCalm ((fetch_plan.part c.plan).does x n)
     go (First w) = calm_locate w n
-    go (Second (First w)) = tt
     go (Second (Second (First w))) = calm_rooting w n
-    go (Second (Second (Second w))) = tt
+    go (Second _) = tt
 
 calm_fetch_head : (c : FetchHeadCalls) (n : ℕ) → IsCalm (calls_does fetch_head_parts fetch_head_plan c n)
 calm_fetch_head c n = go c.call

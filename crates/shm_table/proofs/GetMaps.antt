@@ -16,9 +16,9 @@ use Rattle.shm_script.specs.declared.log.Answer.{Answer}
 use Rattle.shm_script.specs.declared.line.Line.TheVariants as line
 use Rattle.shm_script.specs.declared.log.Answer.TheVariants as answer
 use Rattle.shm_table.specs.declared.{find.Found.{Found, TheVariants.{Absent, At}}, get.GetPoint.GetPoint}
-use Rattle.shm_table.specs.declared.get.GetPoint.TheVariants.{Search, Value, Number, Missing, Known}
-use Rattle.shm_table.specs.{declared.get.GetState.GetState, Command.{CommandCall, command_control, command_of, given}}
-use Rattle.shm_table.specs.Find.{Control.word_ask, IsLook, Tells.{HasKey, HasRead}}
+use Rattle.shm_table.specs.declared.get.{GetPoint.TheVariants.{Value, Number, Missing, Known}, GetState.GetState}
+use Rattle.shm_table.specs.{Command.{CommandCall, command_control, command_of, given}, Find.{Control.word_ask, IsLook}}
+use Rattle.shm_table.specs.Find.Tells.{HasKey, HasRead}
 use Rattle.shm_table.specs.Proved.Find.Tells.{author_has, author_maps, author_names, author_value}
 use Rattle.shm_table.specs.Proved.Get.{Laws.{get_begin, get_laws}, Tells.{named_shown, ready_told}}
 use Rattle.shm_table.specs.Get.Control.{GetAnswer, GetCall, GetCalls, get_answer, get_parts, getting, get_steered}
@@ -26,7 +26,7 @@ use Rattle.shm_table.specs.Get.{Finding.{FindsAt, IsAnswered}, get_plan, Tells.{
 use Rattle.shm_table.specs.Locate.{Control.{locating, locate_steered, LocateCalls, locate_control}, MayLocate}
 use Rattle.shm_table.specs.Machines.Get.{get}
 use Rattle.shm_table.specs.Unlatch.Control.{UnlatchCalls, unlatch_control, unlatching, unlatch_steered}
-use Rattle.shm_table.proofs.{CallStates.{IsCalled, IsNext, comes, next_step}, Running.Roots.start_kept}
+use Rattle.shm_table.proofs.{CallStates.{IsCalled, IsNext, comes, next_step}, Running.AsMade.start_kept}
 use Rattle.shm_table.proofs.{ValueWords.word_stays, Within.{answered_within, goes_within, steps_within}}
 
 -- ---- by the control: which word steps it makes where it answers a number and a block
@@ -62,17 +62,12 @@ reads_before m w tr n v h = record { t = w ∷ h.t; y = h.y; x = h.x; z = h.z; u
 
 -- where it answers them, it has them
 answers_them : (p : GetState) (o : Option GetAnswer) (n v : ℕ) → answered get_parts get_steered p o ≡ Some (answer.Value n v) → Has p n v
-answers_them p None n v e = cc
-answers_them p (Some (First f)) n v e = cc
-answers_them p (Some (Second (First w))) n v e = cc
 answers_them p (Some (Second (Second done))) n v e = of p.point refl e
   where
     of : (y : GetPoint) → p.point ≡ y → Some (get_answer p y) ≡ Some (answer.Value n v) → Has p n v
     of Known is e = record { point = is; number = cc; block = cc }
-    of Search is e = cc
-    of Value is e = cc
-    of Number is e = cc
-    of Missing is e = cc
+    of _ is e = cc
+answers_them p _ n v e = cc
 
 -- where it is once the giving back of the latch, or the search, gave this
 abbrev given_back : GetState → UnlatchCalls → Option (Unit {0}) → GetCalls
@@ -104,11 +99,10 @@ valuing p e = record p { entry = e; point = Value }
 
 value_read : (p : GetState) (e : ℕ) (tr : Trail) (n v : ℕ) → GoesOn get (calls_of get_steered (valuing p e)) tr → IsAnswered get (calls_of get_steered (valuing p e)) tr (answer.Value n v) → Reads (calls_of get_steered (valuing p e)) tr n v
 value_read p e [] n v on ends = absurd ends
-value_read p e (y ∷ []) n v on ends = cc
-value_read p e (y ∷ x ∷ []) n v on ends = cc
 value_read p e (y ∷ x ∷ z ∷ u) n v on ends =
     let has = number_read (valuing p e) (y.word % address_limit) x z u n v on.1.1 ends in
     record { t = []; y = y; x = x; z = z; u = u; split = refl; asks = refl; same = refl; named = record { point = refl; call = refl }; block = has.block; ready = record { point = refl; call = refl }; has = has }
+value_read p e (y ∷ _) n v on ends = cc
 
 -- the latch and the search, and then the value word
 searching : (p : GetState) (c : LocateCalls) (tr : Trail) (n v : ℕ) → GoesOn get (at p (First c)) tr → IsAnswered get (at p (First c)) tr (answer.Value n v) → Reads (at p (First c)) tr n v

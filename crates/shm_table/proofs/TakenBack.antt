@@ -15,13 +15,11 @@ use Rattle.shm_table.specs.{Refusals.{is_apart, named_after, taken_by}, Undoing.
 -- events one after the other
 after_append : (p : Spot) (es ds : List Event) (x : ℕ) → named_after p (es ++ ds) x ≡ named_after p ds (named_after p es x)
 after_append p [] ds x = refl
-after_append p (event.Nothing ∷ es) ds x = after_append p es ds x
 after_append p (event.Alloc c k b ∷ es) ds x = after_append p es ds (if same_spot (Root c k) p then b else x)
 after_append p (event.Up c q b ∷ es) ds x = after_append p es ds (if same_spot q p then b else x)
 after_append p (event.Down c q b ∷ es) ds x = after_append p es ds (if same_spot q p then 0 else x)
 after_append p (event.ChangeUp c q a b ∷ es) ds x = after_append p es ds (if same_spot q p then b else x)
-after_append p (event.ChangeDown c a ∷ es) ds x = after_append p es ds x
-after_append p (event.Free c b ∷ es) ds x = after_append p es ds x
+after_append p (_ ∷ es) ds x = after_append p es ds x
 
 -- what was set and then emptied is empty
 emptied : (s : Bool) (b : ℕ) (f : ℕ → ℕ) → f 0 ≡ 0 → (if s then 0 else f (if s then b else 0)) ≡ 0

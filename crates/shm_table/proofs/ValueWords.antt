@@ -4,9 +4,9 @@ use Rattle.std.proofs.lemmas.Bool.{cases_Bool, cond-false, eqb-true}
 use Rattle.shm_words.specs.{declared.geometry.Geometry.Geometry, Tags.tag_refs}
 use Rattle.shm_words.proofs.Words.{live_not_zero}
 use Rattle.shm_graph.specs.declared.{ask.Ask.{Ask, TheVariants.{Load, Store, Exchange}}, memo.Memo.Memo, run.Move.Move}
-use Rattle.shm_graph.specs.declared.{run.Move.TheVariants.{Word, Dies, Begins}, spot.Spot.Spot}
-use Rattle.shm_graph.specs.{declared.spot.Spot.TheVariants.{Head, Tag, Body}, Asks.{at_of, words_after}}
-use Rattle.shm_graph.specs.{Blocks.{IsLive, headers}, Controllers.{IsAllowed, IsController, IsOpen}, Held.HeldAt}
+use Rattle.shm_graph.specs.declared.{run.Move.TheVariants.Word, spot.Spot.{Spot, TheVariants.{Head, Tag, Body}}}
+use Rattle.shm_graph.specs.{Asks.{at_of, words_after}, Blocks.{IsLive, headers}}
+use Rattle.shm_graph.specs.{Controllers.{IsAllowed, IsController, IsOpen}, Held.HeldAt}
 use Rattle.shm_graph.specs.Runs.{Held, IsMove, State, Turned, memos_of, moved}
 use Rattle.shm_graph.specs.{Spots.{classes_in, same_spot, see, spot_at, upd}, Views.{View, view}}
 use Rattle.shm_graph.proofs.{Runs.{Going.acts_within, Lists.see-words_set}, Spots.Spotting.same_spot_is}
@@ -50,5 +50,4 @@ word_stays g s b i held live none (Word t) may turned =
     let within : t.me.who < g.clients = subst (λ (n : ℕ). t.me.who < n) held.accounts (acts_within s.accounts t.me.who may.1) in
     ap (λ (f : Spot → ℕ). f (Body b i)) (see-words_set g s.words (view (memos_of s.accounts)) t.me.who t.ask q held.at held.words turned.event.inside refl allowed)
     ∙ word_left g w (view (memos_of s.accounts)) t.me.who t.ask q (Body b i) allowed (nobody g w (memos_of s.accounts) held.at b i live none t.me.who within)
-word_stays g s b i held live none (Dies d) may turned = refl
-word_stays g s b i held live none (Begins d k) may turned = refl
+word_stays g s b i held live none _ may turned = refl

@@ -1,5 +1,5 @@
 -- commands on tables as operations: when they may begin between two calls
-use Rattle.std.proofs.Common.{◌≡◌, ◌≢◌, ◌^◌, ◌<◌, false, []}
+use Rattle.std.proofs.Common.{◌≡◌, ◌≢◌, ◌^◌, ◌<◌, false}
 use Rattle.std.specs.Prelude.{None, slice_index}
 use Rattle.shm_graph.specs.{declared.{ask.Me.Me, memo.Memo.Memo}, Agents.recovers, Held.is_loose}
 use Rattle.shm_script.specs.declared.line.Line.{Line}

@@ -1,5 +1,5 @@
 -- loads under a latch that list value blocks: what stays, and what is kept
-use Rattle.std.proofs.Common.{◌≡◌, ℕ, []}
+use Rattle.std.proofs.Common.{◌≡◌, ℕ}
 use Rattle.std.specs.List.{Contains}
 use Rattle.shm_graph.specs.{declared.memo.{Look.Look, Memo.Memo, Stored.Stored}, Core.core}
 

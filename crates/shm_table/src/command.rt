@@ -1,8 +1,8 @@
 //! A command on a table, by the line of a script that tells it.
 
-ghost use Rattle.std.specs.Prelude.{◌≡◌, ◌<◌};
+ghost use Rattle.std.specs.{Prelude.{◌≡◌, ◌<◌, false}, Option.option_map};
 ghost use Rattle.shm_words.specs.Layout.{GeometryFits};
-ghost use Rattle.shm_graph.specs.Mapped.{told_turn};
+ghost use Rattle.shm_graph.specs.{Laws.turn_of, ManySteps.{HasRun, MayRun}, Mapped.{mapped, told_turn}};
 ghost use Rattle.plans.specs.Deciding.{either};
 ghost use Rattle.shm_script.specs.Text.{line_spelled};
 ghost use Rattle.shm_table.specs.Command.{CommandFits, CommandGives, LineMayStand, command_control, command_does, command_effect, command_of};
@@ -28,6 +28,9 @@ use std::marker::Model;
 
 /// One of the commands.
 type One = Or<Or<Put, CopyKey>, Or<Or<Del, Get>, Or<SendKey, RecvKey>>>;
+
+/// What it answers, as one of them.
+type OneAnswer = Or<Or<Answer, Answer>, Or<Or<Answer, Answer>, Or<Answer, Answer>>>;
 
 /// A command: it answers what a script is told of it.
 pub struct Command {
@@ -63,7 +66,7 @@ fn either(answer: Or<Answer, Answer>) -> Answer
 
 /// What the one of them answers.
 #[inline(always)]
-fn given(answer: Or<Or<Answer, Answer>, Or<Or<Answer, Answer>, Or<Answer, Answer>>>) -> Answer
+fn given(answer: OneAnswer) -> Answer
     ensures { result ≡ control.given answer }
 {
     match answer {
@@ -73,11 +76,9 @@ fn given(answer: Or<Or<Answer, Answer>, Or<Or<Answer, Answer>, Or<Answer, Answer
     }
 }
 
-/// What many word steps of the one of them tell.
+/// What word steps of the one of them tell.
 #[inline(always)]
-fn told(
-    turn: Turn<Or<Or<Answer, Answer>, Or<Or<Answer, Answer>, Or<Answer, Answer>>>>,
-) -> Turn<Answer>
+fn told(turn: Turn<OneAnswer>) -> Turn<Answer>
     ensures { result ≡ told_turn control.given turn }
 {
     match turn {
@@ -85,6 +86,30 @@ fn told(
         Turn::More => Turn::More,
         Turn::Died => Turn::Died,
     }
+}
+
+/// Has the one of them take the word that was found.
+#[inline(always)]
+fn take_told<M: Machine<Answer = OneAnswer>>(one: &mut M, seen: u64) -> Turn<Answer>
+    requires { M.control.finished one.old ≡ false }
+    ensures machine { one.new ≡ M.control.after one.old seen }
+    ensures turn { result ≡ turn_of (option_map control.given (M.control.turns one.old seen)) }
+{
+    told(one.take(seen))
+}
+
+/// Has the one of them make many word steps.
+#[inline(always)]
+fn run_told<M: Machine<Answer = OneAnswer>, S: Site>(
+    one: &mut M,
+    site: &S,
+    words: &mut S::Words,
+    life: &mut Life,
+) -> Turn<Answer>
+    requires { MayRun (mapped control.given M.control) (S.may site.now) (S.made site.now) (S.seen site.now) life.old.left one.old words.old }
+    ensures { HasRun (mapped control.given M.control) (S.made site.now) (S.seen site.now) life.old.left one.old words.old (record { left = life.new.left; machine = one.new; words = words.new; turn = result }) }
+{
+    told(one.run(site, words, life))
 }
 
 impl Command {
@@ -160,11 +185,7 @@ impl Machine for Command {
 
     #[inline(always)]
     fn take(&mut self, seen: u64) -> Turn<Answer> {
-        match self.one.take(seen) {
-            Turn::Done(answer) => Turn::Done(given(answer)),
-            Turn::More => Turn::More,
-            Turn::Died => Turn::Died,
-        }
+        take_told(&mut self.one, seen)
     }
 
     #[inline(always)]
@@ -178,7 +199,7 @@ impl Machine for Command {
 
     #[inline(always)]
     fn run<S: Site>(&mut self, site: &S, words: &mut S::Words, life: &mut Life) -> Turn<Answer> {
-        told(self.one.run(site, words, life))
+        run_told(&mut self.one, site, words, life)
     }
 
     ghost laws = { command_laws (put_laws (put_root_laws open_laws locate_laws replace_laws enter_laws)) (copy_laws fetch_laws (put_root_laws open_laws locate_laws replace_laws enter_laws)) del_laws get_laws send_key_laws (recv_laws fetch_head_laws take_head_laws (put_root_laws open_laws locate_laws replace_laws enter_laws)) };

@@ -4,7 +4,7 @@ ghost use Rattle.std.specs.Prelude.{◌≡◌, ◌<◌};
 ghost use Rattle.shm_words.specs.Layout.{GeometryFits};
 ghost use Rattle.plans.specs.{CallsControl.{calls_control, calls_of}, CallsFit.{CallsFits, CallsGives}};
 ghost use Rattle.plans.specs.Proved.CallsKeep.{calls_laws};
-ghost use Rattle.shm_table.specs.{Effects.copy_effect, CopyKey.Control.{copy_parts, copy_steered, copying}};
+ghost use Rattle.shm_table.specs.{Effects.{copy_effect, settled}, CopyKey.Control.{copy_parts, copy_steered, copying}};
 ghost use Rattle.shm_table.specs.{CopyKey.copy_plan, Proved.{CopyKey.Laws.copy_laws, Enter.Laws.enter_laws}};
 ghost use Rattle.shm_table.specs.Proved.{Fetch.Laws.fetch_laws, Locate.Laws.locate_laws, OpenTable.Laws.open_laws};
 ghost use Rattle.shm_table.specs.Proved.{PutRoot.Laws.put_root_laws, Replace.Laws.replace_laws, TableTasks.copy_task};
@@ -12,7 +12,7 @@ ghost use Rattle.shm_table.specs.TableTasks.{CopyMay};
 ghost use Rattle.shm_table.specs.CopyKey.Control as control;
 
 use crate::answer::PutFault;
-use crate::effect::Deciding;
+use crate::effect::{Settling, decided_in};
 use crate::fetch::{Fetch, Fetched};
 use crate::put_root::{PutRoot, settled};
 use plans::{Calls, Or, Plan, Task};
@@ -108,19 +108,8 @@ impl CopyKey {
     pub fn effect(&self) -> Option<Answer>
         ensures { result ≡ copy_effect self.now }
     {
-        let CopyState {
-            number,
-            block,
-            decided,
-            refused,
-            ..
-        } = self.calls.plan().state;
-        let decided = match self.calls.call() {
-            Or::First(_) => false,
-            Or::Second(Or::First(put)) => put.decided(),
-            Or::Second(Or::Second(_)) => settled(decided, refused),
-        };
-        if decided {
+        let CopyState { number, block, .. } = self.calls.plan().state;
+        if decided_in(&self.calls) {
             Some(Answer::Value { number, block })
         } else {
             None
@@ -296,6 +285,15 @@ impl Plan for Copying {
     }
 
     ghost laws = { copy_laws fetch_laws (put_root_laws open_laws locate_laws replace_laws enter_laws) };
+}
+
+impl Settling for Copying {
+    ghost settled = { λ m. settled m.decided m.refused };
+
+    #[inline(always)]
+    fn settled(&self) -> bool {
+        settled(self.state.decided, self.state.refused)
+    }
 }
 
 impl Task for Copying {

@@ -9,7 +9,7 @@ ghost use Rattle.shm_table.specs.{Del.del_plan, Proved.{Del.Laws.del_laws, Table
 ghost use Rattle.shm_table.specs.Del.Control as control;
 
 use crate::answer::PutFault;
-use crate::effect::Deciding;
+use crate::effect::{Settling, decided_in};
 use crate::find::Found;
 use crate::locate::Locate;
 use crate::unlatch::Unlatch;
@@ -97,13 +97,11 @@ impl Del {
     pub fn effect(&self) -> Option<Answer>
         ensures { result ≡ del_effect self.now }
     {
-        let DelState { answer, .. } = self.calls.plan().state;
-        let decided = match self.calls.call() {
-            Or::First(_) => false,
-            Or::Second(Or::First(cut)) => cut.decided(),
-            Or::Second(Or::Second(_)) => is_removed(answer),
-        };
-        if decided { Some(Answer::Ok) } else { None }
+        if decided_in(&self.calls) {
+            Some(Answer::Ok)
+        } else {
+            None
+        }
     }
 }
 
@@ -257,6 +255,15 @@ impl Plan for Deleting {
     }
 
     ghost laws = { del_laws };
+}
+
+impl Settling for Deleting {
+    ghost settled = { λ m. is_removed m.answer };
+
+    #[inline(always)]
+    fn settled(&self) -> bool {
+        is_removed(self.state.answer)
+    }
 }
 
 impl Task for Deleting {

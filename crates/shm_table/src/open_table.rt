@@ -1,7 +1,8 @@
 //! The home of an identity comes to name a directory, where it names none.
 
-ghost use Rattle.std.specs.Prelude.{◌≡◌, ◌<◌};
-ghost use Rattle.shm_words.specs.Layout.{GeometryFits};
+ghost use Rattle.std.specs.Prelude.{◌≡◌, ◌<◌, ◌^◌};
+ghost use Rattle.shm_words.specs.Layout.{GeometryFits, address_limit};
+ghost use Rattle.shm_ref.specs.HomeParts.{home_address};
 ghost use Rattle.shm_table.specs.OpenTable.{Control.{directory_request, opening}, open_plan};
 ghost use Rattle.shm_table.specs.Proved.OpenTable.Laws.{open_laws};
 
@@ -82,6 +83,17 @@ fn directory() -> Request
     }
 }
 
+/// The address of the home of an identity.
+#[inline(always)]
+fn home_of(me: Me) -> u32
+    requires geometry { GeometryFits me.geometry }
+    requires who { me.who < me.geometry.clients }
+    ensures home { result ≡ home_address me }
+    ensures small { result < address_limit }
+{
+    me.geometry.home(me.who)
+}
+
 impl OpenTable {
     /// The home of the identity `me` is to name a directory.
     #[inline(always)]
@@ -121,7 +133,7 @@ impl Plan for OpenTable {
             block,
             point,
         } = self.state;
-        let home = me.geometry.home(me.who);
+        let home = home_of(me);
         match point {
             OpenPoint::Look => Or::First(Word::load(me, home)),
             OpenPoint::Make => Or::Second(Or::First(Alloc::asked(me, directory()))),

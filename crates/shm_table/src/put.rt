@@ -4,14 +4,14 @@ ghost use Rattle.std.specs.Prelude.{◌≡◌, ◌<◌};
 ghost use Rattle.shm_words.specs.Layout.{GeometryFits};
 ghost use Rattle.plans.specs.{CallsControl.{calls_control, calls_of}, CallsFit.{CallsFits, CallsGives}};
 ghost use Rattle.plans.specs.Proved.CallsKeep.{calls_laws};
-ghost use Rattle.shm_table.specs.{Effects.put_effect, Put.{Control.{put_parts, put_steered, putting}, put_plan}};
-ghost use Rattle.shm_table.specs.Proved.{Put.Laws.put_laws, Enter.Laws.enter_laws, Locate.Laws.locate_laws};
-ghost use Rattle.shm_table.specs.Proved.{OpenTable.Laws.open_laws, PutRoot.Laws.put_root_laws};
+ghost use Rattle.shm_table.specs.{Effects.{put_effect, settled}, Put.Control.{put_parts, put_steered, putting}};
+ghost use Rattle.shm_table.specs.{Put.put_plan, Proved.{Put.Laws.put_laws, Enter.Laws.enter_laws}};
+ghost use Rattle.shm_table.specs.Proved.{Locate.Laws.locate_laws, OpenTable.Laws.open_laws, PutRoot.Laws.put_root_laws};
 ghost use Rattle.shm_table.specs.{Proved.{Replace.Laws.replace_laws, TableTasks.put_task}, TableTasks.PutMay};
 ghost use Rattle.shm_table.specs.Put.Control as control;
 
 use crate::answer::PutFault;
-use crate::effect::Deciding;
+use crate::effect::{Settling, decided_in};
 use crate::put_root::{PutRoot, settled};
 use plans::{Calls, Or, Plan, Task};
 use shm_alloc::{Alloc, AllocFault, Near, Request};
@@ -106,18 +106,8 @@ impl Put {
     pub fn effect(&self) -> Option<Answer>
         ensures { result ≡ put_effect self.now }
     {
-        let PutState {
-            block,
-            decided,
-            refused,
-            ..
-        } = self.calls.plan().state;
-        let decided = match self.calls.call() {
-            Or::First(_) => false,
-            Or::Second(Or::First(put)) => put.decided(),
-            Or::Second(Or::Second(_)) => settled(decided, refused),
-        };
-        if decided {
+        let PutState { block, .. } = self.calls.plan().state;
+        if decided_in(&self.calls) {
             Some(Answer::Stored { block })
         } else {
             None
@@ -282,6 +272,15 @@ impl Plan for Putting {
     }
 
     ghost laws = { put_laws (put_root_laws open_laws locate_laws replace_laws enter_laws) };
+}
+
+impl Settling for Putting {
+    ghost settled = { λ m. settled m.decided m.refused };
+
+    #[inline(always)]
+    fn settled(&self) -> bool {
+        settled(self.state.decided, self.state.refused)
+    }
 }
 
 impl Task for Putting {

@@ -10,7 +10,7 @@ ghost use Rattle.shm_table.specs.PutRoot.Control as control;
 ghost use Rattle.plans.specs.{CallsControl.calls_of, CallsFit.{CallsFits, CallsGives}, Proved.CallsKeep.calls_laws};
 
 use crate::answer::PutFault;
-use crate::effect::Deciding;
+use crate::effect::{Deciding, Settling, decided_in};
 use crate::enter::{Enter, Entered};
 use crate::find::Found;
 use crate::locate::Locate;
@@ -353,22 +353,21 @@ pub(crate) fn settled(decided: bool, refused: Option<PutFault>) -> bool
     }
 }
 
+impl Settling for PuttingRoot {
+    ghost settled = { λ m. settled m.decided m.refused };
+
+    #[inline(always)]
+    fn settled(&self) -> bool {
+        settled(self.state.decided, self.state.refused)
+    }
+}
+
 impl Deciding for PutRoot {
     ghost decided = { put_root_decided };
 
     /// The entry's other value decides, or the new entry.
     #[inline(always)]
     fn decided(&self) -> bool {
-        let PutRootState {
-            decided,
-            refused,
-            ..
-        } = self.calls.plan().state;
-        match self.calls.call() {
-            Or::First(_) => false,
-            Or::Second(Or::First(Or::First(replace))) => replace.decided(),
-            Or::Second(Or::First(Or::Second(enter))) => enter.decided(),
-            Or::Second(Or::Second(_)) => settled(decided, refused),
-        }
+        decided_in(&self.calls)
     }
 }

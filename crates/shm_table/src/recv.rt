@@ -1,6 +1,7 @@
 //! A key of the own table comes to have the value block at the head of a queue from another identity, and then the head is taken.
 
-ghost use Rattle.std.specs.Prelude.{◌≡◌, ◌<◌};
+ghost use Rattle.std.specs.Prelude.{◌≡◌, ◌<◌, false};
+ghost use Rattle.shm_graph.specs.Laws.{turn_of};
 ghost use Rattle.shm_words.specs.Layout.{GeometryFits};
 ghost use Rattle.plans.specs.{CallsControl.{calls_control, calls_of}, CallsFit.{CallsFits, CallsGives}};
 ghost use Rattle.plans.specs.Proved.CallsKeep.{calls_laws};
@@ -162,7 +163,7 @@ impl Machine for RecvKey {
 
     #[inline(always)]
     fn take(&mut self, seen: u64) -> Turn<Answer> {
-        self.calls.take(seen)
+        take_as(&mut self.calls, seen)
     }
 
     #[inline(always)]
@@ -176,6 +177,16 @@ impl Machine for RecvKey {
     }
 
     ghost laws = { calls_laws recv_parts recv_plan (recv_laws fetch_head_laws take_head_laws (put_root_laws open_laws locate_laws replace_laws enter_laws)) };
+}
+
+/// Has a machine take the word that was found: what it is seen as is where that one goes.
+#[inline(always)]
+fn take_as<M: Machine>(machine: &mut M, seen: u64) -> Turn<M::Answer>
+    requires { M.control.finished machine.old ≡ false }
+    ensures machine { (m : M) → machine.old ≡ m → machine.new ≡ M.control.after m seen }
+    ensures turn { result ≡ turn_of (M.control.turns machine.old seen) }
+{
+    machine.take(seen)
 }
 
 impl ReceivingKey {

@@ -2,14 +2,15 @@
 use Rattle.shm_tree.specs.declared.{hints.Hints.{Hints, TheVariants.Off}, node.{Content.Content, Pair.Pair, Side.Side}}
 use Rattle.shm_tree.specs.{declared.{node.Side.TheVariants.{Left, Right}, stop.Stop.Stop}, Bounds.drop_steps}
 use Rattle.shm_tree.specs.Building.{Builds, IsAtHand, IsBuilt, IsCheap, IsCut, IsHeld, IsRebuilt, block_of, root_block, rooms}
-use Rattle.shm_tree.specs.{Causes.StopCause, Changing.Changes, Falling.KeepsFalling}
+use Rattle.shm_tree.specs.{Causes.StopCause, Changing.Changes}
 use Rattle.shm_tree.specs.Keeping.{HasGrown, HasMade, HasTree, IsBorn, IsDropped, IsLinked, IsStill, KeepsNodes, KeepsTrees}
-use Rattle.shm_tree.specs.{Looking.Looks, Spending.HasSpent, Standing.TreeStands, Tearing.HasTorn}
+use Rattle.shm_tree.specs.{Looking.Looks, Spending.{HasDied, HasSpent}, Standing.TreeStands, Tearing.HasTorn}
 use Rattle.shm_tree.specs.Trees.{Tree, Empty, Node}
 use Rattle.shm_tree.specs.Working.{AreSameRoots, DiedIn, HasRoom, IfAlive, IfRefused, IsEmptied, IsReached, IsRooted, IsSameLatch, IsWorking, Reaches, Went}
 use Rattle.shm_tree.specs.declared.stop.Stop.TheVariants as stop
 use Rattle.shm_tree.proofs.Answering.{alive_map, cause_after, cause_by, refused_map}
-use Rattle.shm_tree.proofs.{CutOffs.{died_then, look_died, look_then}, Links.went_then, Nodes.{keeps_then, made_then}}
+use Rattle.shm_tree.proofs.{CutOffs.{died_then, look_died, look_then}, Lasts.{last_more, last_then, went_none}}
+use Rattle.shm_tree.proofs.{Links.went_then, Nodes.{keeps_then, made_then}}
 use Rattle.shm_tree.proofs.Spendings.{spent_call, spent_drop, spent_more, spent_then}
 use Rattle.shm_tree.proofs.Weights.{blocks_dropped, blocks_nodes, blocks_then, weight_none, weight_root}
 use Rattle.std.proofs.Common.{◌≡◌, ◌≢◌, ◌==◌, ℕ, zero, suc, Bool, true, false, ◌+◌, ◌<◌, ◌≤◌, [], lit≤, refl, sym, ap, ◌∙◌, subst, arith, Result, Ok, Err, inl, inr}
@@ -75,10 +76,9 @@ made_none p = ([], did_none 0 p p refl, lit≤ tt)
 
 -- the head of a call
 pub looked_none : (p : Pool) (x : ℕ) → IsWorking p → Looked p p x x
-unfolding KeepsFalling
 looked_none p x w =
     record {
-      went = record { start = refl; run = w.run; acts = w.work.acts; did = ([], did_none 0 p p refl); spent = refl; falls = λ h. h };
+      went = went_none p x w;
       working = w;
       latch = refl;
       still =
@@ -146,14 +146,14 @@ builds_from (Ok a) h b = absurd h
 builds_from {hints = hints} {T = T} {k = k} {c = c} {p = p} {q = q} {x = x} {y = y} (Err v) h b = subst (λ (w : Stop). Builds {T = T} hints k c (Err w) p q x y) (sym h) b
 
 -- no word step was left for the first call
-pub builds_first : {hints : Hints} {S T : Type 0} {k c : ℕ} {p q : Pool} {x y : ℕ} {e : Stop} → Looks {T = S} (Err e) p q x y → Builds {T = T} hints k c (Err e) p q x y
-builds_first {hints = hints} {T = T} {k = k} {c = c} {p = p} {q = q} {x = x} {y = y} l =
+pub builds_first : {hints : Hints} {S T : Type 0} {k c : ℕ} {p q : Pool} {x y : ℕ} {e : Stop} → Looks {T = S} (Err e) p q x y → (e ≡ stop.Died → HasDied c p q x) → Builds {T = T} hints k c (Err e) p q x y
+builds_first {hints = hints} {T = T} {k = k} {c = c} {p = p} {q = q} {x = x} {y = y} l late =
     let d = l.died in
-    subst (λ (v : Stop). Builds {T = T} hints k c (Err v) p q x y) (sym d.0) (record { went = l.went; working = tt; latch = tt; refused = tt; spent = tt; cause = tt; died = look_died p q y stop.Died (refl, d.1, d.2) })
+    subst (λ (v : Stop). Builds {T = T} hints k c (Err v) p q x y) (sym d.0) (record { went = l.went; working = tt; latch = tt; refused = tt; spent = tt; cause = tt; died = look_died p q y stop.Died (refl, d.1, d.2); late = λ z. late d.0 })
 
 -- or for one after others
-pub builds_died : {hints : Hints} {S T : Type 0} {k c : ℕ} {p q r : Pool} {x y z : ℕ} {e : Stop} → IsRun p → Went p q x y → IsSameLatch p q → Looks {T = S} (Err e) q r y z → Builds {T = T} hints k c (Err e) p r x z
-builds_died hp went latch l = builds_first (looks_after hp went latch l)
+pub builds_died : {hints : Hints} {S T : Type 0} {k a b c : ℕ} {p q r : Pool} {x y z : ℕ} {e : Stop} → a + b ≤ c → IsWorking p → Went p q x y → IsSameLatch p q → HasSpent a p q x y → Looks {T = S} (Err e) q r y z → (e ≡ stop.Died → HasDied b q r y) → Builds {T = T} hints k c (Err e) p r x z
+builds_died {b = b} {c = c} le wp went latch spent l late = builds_first (looks_after wp.run went latch l) (λ d. last_more c le (last_then (λ g. b) wp went spent (late d)))
 
 -- a call was refused, or found no word step
 pub builds_cut : {hints : Hints} (S : Type 0) (m : ℕ) (b : Geometry → ℕ) {T : Type 0} {n k a c : ℕ} {p q r : Pool} {x y z : ℕ} (e : Stop) → n + m ≤ k → a + b p.start.geometry ≤ c → IsWorking p → Went p q x y → IsSameLatch p q → IsCut n p q → HasSpent a p q x y → Builds {T = S} hints m (b q.start.geometry) (Err e) q r y z → Builds {T = T} hints k c (Err e) p r x z
@@ -166,6 +166,7 @@ builds_cut {hints = hints} S m b {T = T} {n = n} {k = k} {a = a} {c = c} {p = p}
       spent = alive_map S T (HasSpent (b q.start.geometry) q r y z) (HasSpent c p r x z) e (λ v. spent_more (a + b p.start.geometry) c low (spent_then b wp went h.went spent v)) h.spent;
       cause = cause_after p q r wp.run went.run went.start went.did hints e h.cause;
       died = died_then p q r z e latch h.died;
+      late = λ d. last_more c low (last_then b wp went spent (h.late d));
     }
 
 -- at an exit of a call that was refused
@@ -274,7 +275,7 @@ top_stands {m = m} t some under over left h = left.trees m.root m.block t (apart
 
 -- a call that was done
 pub builds_done : {hints : Hints} {T : Type 0} {n c : ℕ} {p q : Pool} {x y : ℕ} (a : T) → Went p q x y → IsWorking q → IsSameLatch p q → HasSpent c p q x y → Builds {T = T} hints n c (Ok a) p q x y
-builds_done a g w l s = record { went = g; working = w; latch = l; refused = tt; spent = s; cause = tt; died = tt }
+builds_done a g w l s = record { went = g; working = w; latch = l; refused = tt; spent = s; cause = tt; died = tt; late = tt }
 
 -- one call that builds after another
 pub builds_on : {hints : Hints} {S T : Type 0} {m : S} {v : T} {n k a : ℕ} {p q r : Pool} {x y z : ℕ} (b : Geometry → ℕ) → IsWorking p → Builds {T = S} hints n a (Ok m) p q x y → Builds {T = T} hints k (b q.start.geometry) (Ok v) q r y z → Builds {T = T} hints (n + k) (a + b p.start.geometry) (Ok v) p r x z
@@ -286,10 +287,10 @@ builds_drop k wp l went w latch few = builds_done _ (went_on wp.run l.went went)
 
 -- or the drop stopped
 pub builds_stuck : {hints : Hints} {m : Made} {n a : ℕ} {p q r : Pool} {x y z : ℕ} (e : Stop) → IsWorking p → Builds hints n a (Ok m) p q x y → IsCut n p q → Went q r y z → IfAlive {T = Unit {0}} (Err e) (IsWorking r) → IfAlive {T = Unit {0}} (Err e) (IsSameLatch q r) → IfRefused {T = Unit {0}} (Err e) (IsStill q r)
-    → IfRefused {T = Unit {0}} (Err e) (y ≤ z + drop_steps q.start.geometry 0) → StopCause Off q r e → DiedIn e q r z → Builds {T = Made} hints n (a + drop_steps p.start.geometry 0) (Err e) p r x z
-builds_stuck {hints = hints} {n = n} {a = a} {q = q} {r = r} e wp l cut went w latch still few cause died =
+    → IfRefused {T = Unit {0}} (Err e) (y ≤ z + drop_steps q.start.geometry 0) → StopCause Off q r e → DiedIn e q r z → (e ≡ stop.Died → HasDied (drop_steps q.start.geometry 0) q r y) → Builds {T = Made} hints n (a + drop_steps p.start.geometry 0) (Err e) p r x z
+builds_stuck {hints = hints} {n = n} {a = a} {q = q} {r = r} e wp l cut went w latch still few cause died late =
     builds_cut (Unit {0}) 0 (λ g. drop_steps g 0) {T = Made} {n = n} {k = n} {a = a} e (omega arith) (omega arith) wp l.went l.latch cut l.spent
-    (record { went = went; working = w; latch = latch; refused = still_cuts (Unit {0}) _ _ _ still; spent = spent_refused (Unit {0}) _ _ went few; cause = cause_by hints q r e cause; died = died })
+    (record { went = went; working = w; latch = latch; refused = still_cuts (Unit {0}) _ _ _ still; spent = spent_refused (Unit {0}) _ _ went few; cause = cause_by hints q r e cause; died = died; late = late })
 
 pub alive_kept : {T : Type 0} {P Q : Type 0} (o : Result T Stop) → (P → Q) → IfAlive o P → IfAlive o Q
 alive_kept (Ok a) f h = f h
@@ -332,12 +333,13 @@ builds_call {T = T} {c = c} {L = L} {p = p} {q = q} {x = x} {y = y} n (Err e) h 
       spent = alive_map T T (x ≤ y + c) (HasSpent c p q x y) e (spent_call c h.went) h.steps;
       cause = h.cause;
       died = h.died;
+      late = h.late;
     }
 
 -- a call without hints, as one with any
 pub builds_by : {hints : Hints} {T : Type 0} {n c : ℕ} {p q : Pool} {x y : ℕ} (o : Result T Stop) → Builds Off n c o p q x y → Builds hints n c o p q x y
-builds_by (Ok v) h = record { went = h.went; working = h.working; latch = h.latch; refused = h.refused; spent = h.spent; cause = tt; died = tt }
-builds_by {hints = hints} {p = p} {q = q} (Err e) h = record { went = h.went; working = h.working; latch = h.latch; refused = h.refused; spent = h.spent; cause = cause_by hints p q e h.cause; died = h.died }
+builds_by (Ok v) h = record { went = h.went; working = h.working; latch = h.latch; refused = h.refused; spent = h.spent; cause = tt; died = tt; late = tt }
+builds_by {hints = hints} {p = p} {q = q} (Err e) h = record { went = h.went; working = h.working; latch = h.latch; refused = h.refused; spent = h.spent; cause = cause_by hints p q e h.cause; died = h.died; late = h.late }
 
 -- a node that was linked
 pub builds_link : {hints : Hints} {c : ℕ} {p q : Pool} {x y : ℕ} (o : Result Made Stop) → Changes hints c (HasGrown 1) o p q x y → Builds hints 1 c o p q x y

@@ -2,7 +2,7 @@
 use Rattle.shm_tree.specs.{declared.{hints.Hints.Hints, stop.Stop.Stop}, Changing.Changes, Falling.AreFalling}
 use Rattle.shm_tree.specs.{Looking.Looks, Working.{DiedBegun, DiedIn, IsCutOff, IsSameLatch, IsWorking}}
 use Rattle.shm_tree.specs.declared.stop.Stop.TheVariants as stop
-use Rattle.shm_tree.proofs.Alive.{went_dead}
+use Rattle.shm_tree.proofs.{Alive.went_dead, Lasts.{last_any, last_ran}}
 use Rattle.std.proofs.Common.{◌≡◌, ℕ, zero, suc, Bool, true, false, Err, inl, inr, refl, ap, ◌∙◌, arith}
 use Rattle.shm_plain.specs.{Calls.Ran, Pools.{Pool, memo_of}}
 use Rattle.shm_count.specs.Roots.{root_word}
@@ -49,4 +49,4 @@ looks_dead {p = p} {q = q} wp ran falls = record { went = went_dead true p q _ _
 -- ---- a call that changes something
 
 pub changes_dead : {hints : Hints} {T : Type 0} {c : ℕ} {L : Pool → Pool → Type 0} {p q : Pool} {x y : ℕ} → IsWorking p → Ran 0 true false p q x y → (AreFalling p → AreFalling q) → Changes {T = T} hints c L (Err stop.Died) p q x y
-changes_dead {p = p} {q = q} wp ran falls = record { went = went_dead true p q _ _ wp ran falls; working = tt; latch = tt; reaches = tt; refused = tt; steps = tt; cause = tt; died = died_ran _ ran }
+changes_dead {p = p} {q = q} wp ran falls = record { went = went_dead true p q _ _ wp ran falls; working = tt; latch = tt; reaches = tt; refused = tt; steps = tt; cause = tt; died = died_ran _ ran; late = λ d. last_any _ (last_ran wp ran) }

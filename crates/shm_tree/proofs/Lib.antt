@@ -76,5 +76,6 @@ pub mod Unnamed
 pub mod Referring
 pub mod Beginning
 pub mod Roomy
+pub mod Lasts
 pub mod CutOffs
 pub mod Unspent

@@ -4,14 +4,14 @@ use Rattle.shm_tree.specs.declared.{line.TreeTurn.TreeTurn, registers.Registers.
 use Rattle.shm_tree.specs.{CutShort.{IsCutShort, IsWordless}, Falling.AreFalling, ForestCalls.RanLine}
 use Rattle.shm_tree.specs.Forests.{DoesLine, DoesTurn, HasVersions, IsCaused, IsForest, IsInRange, IsLost, IsOwn, IsReading, IsSwept, IsUnspent, KeepsRegisters, Moves, CallStopped, is_died, turn_by, turn_of}
 use Rattle.shm_tree.specs.{Keeping.AreSameLives, Living.{AreFewNew, AreLivesTrees}, Trees.Tree}
-use Rattle.shm_tree.specs.Costing.{Costs, CostsLine, EndsLine, FewLine, FewSet, IfEnded, SpendsLine, UnlessOk, call_steps, line_steps, made_most, new_most, sweep_steps}
+use Rattle.shm_tree.specs.Costing.{Costs, CostsLine, DiesEnding, EndsLine, FewLine, FewSet, IfEnded, LateLine, SpendsLine, UnlessOk, call_steps, line_steps, made_most, new_most, sweep_steps}
 use Rattle.shm_tree.specs.Working.{IfAlive, IfRefused, Went}
 use Rattle.shm_tree.specs.declared.line.TreeAnswer.TheVariants as answers
 use Rattle.shm_tree.specs.declared.line.TreeTurn.TheVariants as turns
 use Rattle.shm_tree.specs.declared.stop.Stop.TheVariants as stop
 use Rattle.shm_tree.specs.declared.line.TreeLine.TheVariants as lines
 use Rattle.shm_tree.proofs.{Bounding.line_most, Eras.spent_stays, Forests.registers_versions, Moving.is_over_not}
-use Rattle.shm_tree.proofs.Fresh.{made_few}
+use Rattle.shm_tree.proofs.{Fresh.made_few, Lasts.last_more}
 use Rattle.shm_tree.proofs.Refusals.{alive_two, all_of, none_least, refused_three, spends_more, spends_of}
 use Rattle.shm_tree.proofs.Settled.{settled_same, settled_trees}
 use Rattle.std.proofs.Common.{◌≡◌, ◌≢◌, ℕ, ◌+◌, ◌<◌, ◌≤◌, Bool, true, false, List, [], refl, arith, sym, ap, ◌∙◌, subst, Result, Ok, Err, true≢false}
@@ -86,6 +86,11 @@ outcome_spends line f g x y o xf lt done ended = by o done ended
     by (Err (stop.CountFull b c)) h k = stopped k
     by (Err (stop.EraSpent e)) h k = stopped k
 
+-- and until it began its last call, where no word step was left for it
+pub outcome_late : (line : TreeLine) (f g : Registers) (x : ℕ) (o : Result TreeAnswer Stop) → IsForest f → IsInRange line → DiesEnding line o f g x → IfErr o (λ e. e ≡ stop.Died → LateLine line f g x)
+outcome_late line f g x (Ok a) xf lt h = tt
+outcome_late line f g x (Err e) xf lt h = λ d ts v. last_more (line_steps line ts f.pool.start.geometry) (line_most line f ts xf lt v) (h ts v d)
+
 -- ---- live blocks
 
 pub outcome_ended : (P : Type 0) (o : Result TreeAnswer Stop) → IfAlive o P → IfEnded (turn_by o) P
@@ -157,9 +162,9 @@ module _ {hints : Hints} {x y : ℕ} (line : TreeLine) (f g : Registers) (o : Re
       by (Err (stop.EraSpent e)) xg w s c d = λ calm. few_same line f g (s calm)
 
 -- all of it, where the client lived
-pub outcome_ran : {hints : Hints} {x y : ℕ} (line : TreeLine) (f g : Registers) (a b : Bool) (o : Result TreeAnswer Stop) (t : TreeTurn) → IsForest f → IsSwept f → AreFalling f.pool → AreFalling g.pool → IsInRange line → t ≡ turn_by o → b ≡ is_died t → Moves hints o f g x y → IfAlive o (IsSwept f → IsSwept g) → IfOk o (λ a. DoesLine line f g a) → IfErr o (λ e. IsReading line → e ≡ stop.Died) → IfOk o (λ a. CostsLine line f g x y) → IfOk o (λ a. FewSet line f g) → IfRefused o (EndsLine line f g x y) → IfOk o IsOwn → IfOk o (λ a. a ≢ answers.Ok → KeepsRegisters f g) → IfErr o (λ e. e ≡ stop.Died → f.tidy ≡ true → 0 < x → IsUnspent g → IsCutShort hints line f g) → (f.tidy ≡ true → (ts : List Tree) → HasVersions f ts → IsWordless line ts → is_ok o ≡ true)
+pub outcome_ran : {hints : Hints} {x y : ℕ} (line : TreeLine) (f g : Registers) (a b : Bool) (o : Result TreeAnswer Stop) (t : TreeTurn) → IsForest f → IsSwept f → AreFalling f.pool → AreFalling g.pool → IsInRange line → t ≡ turn_by o → b ≡ is_died t → Moves hints o f g x y → IfAlive o (IsSwept f → IsSwept g) → IfOk o (λ a. DoesLine line f g a) → IfErr o (λ e. IsReading line → e ≡ stop.Died) → IfOk o (λ a. CostsLine line f g x y) → IfOk o (λ a. FewSet line f g) → IfRefused o (EndsLine line f g x y) → IfOk o IsOwn → IfOk o (λ a. a ≢ answers.Ok → KeepsRegisters f g) → DiesEnding line o f g x → IfErr o (λ e. e ≡ stop.Died → f.tidy ≡ true → 0 < x → IsUnspent g → IsCutShort hints line f g) → (f.tidy ≡ true → (ts : List Tree) → HasVersions f ts → IsWordless line ts → is_ok o ≡ true)
     → RanLine line (record { registers = f; hints = hints; died = a }) (record { registers = g; hints = hints; died = b }) x y t
-outcome_ran {hints = hints} {x = x} {y = y} line f g a b o t xf sf ff fg lt is died m swept does reading costs few ended own kept off idle =
+outcome_ran {hints = hints} {x = x} {y = y} line f g a b o t xf sf ff fg lt is died m swept does reading costs few ended own kept late off idle =
     record {
       went = m.went;
       does = subst (DoesTurn line f g) (sym is) (outcome_does line f g o does reading m.kept);
@@ -169,6 +174,7 @@ outcome_ran {hints = hints} {x = x} {y = y} line f g a b o t xf sf ff fg lt is d
       same = subst (λ (u : TreeTurn). UnlessOk u (IsUnspent g → AreSameLives f.pool g.pool)) (sym is) (outcome_same line f g o xf sf ff fg m swept kept);
       cause = subst (IsCaused hints f.pool g.pool) (sym is) (outcome_caused hints f.pool g.pool o own m.cause);
       over = λ e. outcome_over (y ≡ 0) o m.died (sym is ∙ e);
+      late = λ e. outcome_over (LateLine line f g x) o (outcome_late line f g x o xf lt late) (sym is ∙ e);
       wordless = λ calm ts v none e. outcome_done o (idle (sf calm) ts v none) (sym is ∙ e);
       short = λ e calm after some. outcome_over (f.tidy ≡ true → 0 < x → IsUnspent g → IsCutShort hints line f g) o off (sym is ∙ e) (sf calm) some after;
       hinted = refl;

@@ -1,16 +1,17 @@
 -- What calls leave behind which the latch is given back.
 use Rattle.shm_tree.specs.{declared.{hints.Hints.Hints, stop.Stop.Stop}, Building.{Builds, IsCut}}
 use Rattle.shm_tree.specs.{Costing.{Costs, Spends}, Forests.{CallLeaves, KeepsNamed, block_in}, Keeping.HasMade}
-use Rattle.shm_tree.specs.{Living.KeepsLives, Releasing.{IsGivenBack, IsHeldBack, Releases}, Spending.HasSpent}
-use Rattle.shm_tree.specs.{Standing.TreeStands, Trees.Tree}
+use Rattle.shm_tree.specs.{Living.KeepsLives, Releasing.{IsGivenBack, IsHeldBack, Releases}}
+use Rattle.shm_tree.specs.{Spending.{DiesAfter, HasDied, HasSpent}, Standing.TreeStands, Trees.Tree}
 use Rattle.shm_tree.specs.Working.{DiedIn, IfAlive, IfRefused, IsSameLatch, IsUnderWay, IsWorking, Went}
 use Rattle.shm_tree.specs.declared.stop.Stop.TheVariants as stop
 use Rattle.shm_tree.proofs.{Answering.alive_died, Building.{Looked, alive_any, alive_kept, alive_refused, went_on}}
 use Rattle.shm_tree.proofs.CutShort.{cut_under}
 use Rattle.shm_tree.proofs.Forests.{Quiet, calls_died, cut_still, named_still, named_then, quiet, quiet_then, root_still, stopped_after, stopped_here, stopped_on}
-use Rattle.shm_tree.proofs.Moving.{alive_is, is_over_not, refused_is, refused_when}
+use Rattle.shm_tree.proofs.{Moving.{alive_is, is_over_not, refused_is, refused_when}, Lasts.{last_more, last_then}}
 use Rattle.shm_tree.proofs.{Refusals.{spends_more, spends_still, spends_then}, Resting.{rests_still, rests_then}}
-use Rattle.std.proofs.Common.{◌≡◌, ◌≢◌, ℕ, ◌+◌, ◌<◌, ◌≤◌, refl, sym, ◌∙◌, subst, arith, inl, inr, Result, Ok, Err}
+use Rattle.shm_tree.proofs.Spendings.{spent_call, spent_then}
+use Rattle.std.proofs.Common.{◌≡◌, ◌≢◌, ℕ, ◌+◌, ◌<◌, ◌≤◌, refl, sym, ap, ◌∙◌, subst, arith, inl, inr, Result, Ok, Err}
 use Rattle.std.specs.{Prelude.{IfErr, IfOk, None, Some}, Result.IsErrAnd}
 use Rattle.shm_words.specs.declared.geometry.Geometry.{Geometry}
 use Rattle.shm_plain.specs.Pools.{Pool, memo_of}
@@ -33,9 +34,21 @@ entered_stands {k = k} {p = p} {q = q} n t st = subst (λ (d : ℕ). TreeStands 
 -- ---- how it is given back
 
 -- too few word steps were left for that, as it is handed on
-pub releases_held : {T : Type 0} {a : Result T Stop} {p q : Pool} {x y : ℕ} {e : Stop} (o : Result T Stop) → IsErrAnd o (λ v. v ≡ e) → e ≡ stop.Died → IsHeldBack p q x y → Releases a o p q x y
-releases_held (Ok v) is d h = absurd is
-releases_held {T = T} (Err v) is d h = record { given = alive_died T _ v (is ∙ d); died = λ z. inl h }
+pub releases_held : {T : Type 0} {a : Result T Stop} {p q : Pool} {x y : ℕ} {e : Stop} (o : Result T Stop) → IsErrAnd o (λ v. v ≡ e) → e ≡ stop.Died → a ≢ Err stop.Died → IsHeldBack p q x y → Releases a o p q x y
+releases_held (Ok v) is d alive h = absurd is
+releases_held {T = T} (Err v) is d alive h = record { given = alive_died T _ v (is ∙ d); died = λ z. inl (alive, h) }
+
+-- a call that was done or refused had ended
+pub ended_ok : {T : Type 0} {v : T} (a : Result T Stop) → a ≡ Ok v → a ≢ Err stop.Died
+ended_ok (Ok w) is d = absurd cc
+ended_ok (Err e) is d = absurd cc
+
+abbrev stop_of : {T : Type 0} → Result T Stop → Stop
+stop_of (Ok v) = stop.Died
+stop_of (Err e) = e
+
+pub ended_err : {T : Type 0} {e : Stop} (a : Result T Stop) → a ≡ Err e → e ≢ stop.Died → a ≢ Err stop.Died
+ended_err a is alive d = alive (ap stop_of (sym is ∙ d))
 
 -- the latch is held still behind a call that ended
 pub held_on : {hints : Hints} {T : Type 0} {n i : ℕ} {q r : Pool} {y z : ℕ} (a : Result T Stop) → (memo_of q 0).latch ≡ Some 0 → Builds hints n i a q r y z → IfAlive a ((memo_of r 0).latch ≡ Some 0)
@@ -59,7 +72,7 @@ module _ {hints : Hints} {T : Type 0} {n i k d : ℕ} {p q r s : Pool} {x y z w 
   over e rel d =
       let went = went_on wp.run l.quiet.went b.went in
       elim (rel.died d) [
-        | inl h ↦ (went_on wp.run went h.went, h.over, h.off)
+        | inl h ↦ (went_on wp.run went h.1.went, h.1.over, h.1.off)
         | inr h ↦
             (let dead = (subst (λ (u : Result T Stop). IfErr u (λ v. DiedIn v q r z)) (sym h.0) b.died) d in
             (subst (λ (t : Pool). Went p t x w) (sym h.1) (subst (λ (m : ℕ). Went p r x m) (sym h.2) went), h.2 ∙ dead.0, subst IsUnderWay (sym h.1) (cut_under q r l.held dead.1)))
@@ -119,3 +132,24 @@ module _ {n k d : ℕ} {p q r s : Pool} {x y z w : ℕ} (b : Geometry → ℕ) (
   released_costs h made rests =
       let all = spends h.went made h.spent in
       record { made = all.made; spent = all.spent; rests = rests_then p r s h.working c.working c.went (rests_then p q r l.quiet.working h.working h.went (rests_still l.quiet.still) rests) (rests_still c.still) }
+
+-- ---- how much it had spent
+
+-- what is so of a call that ended
+ended : {T : Type 0} {P : Type 0} (a : Result T Stop) → a ≢ Err stop.Died → IfAlive a P → P
+ended (Ok v) alive h = h
+ended {T = T} (Err e) alive h = alive_is T e (λ d. alive (ap Err d)) h
+
+-- where it stopped for want of a word step, or there was none to give the latch back
+pub released_late : {hints : Hints} {T : Type 0} {n k d : ℕ} {p q r s : Pool} {x y z w : ℕ} (b : Geometry → ℕ) (a : Result T Stop) → IsWorking p → Entered k d p q x y → Builds hints n (b q.start.geometry) a q r y z → (o : Result T Stop) → Releases a o r s z w → DiesAfter (b p.start.geometry + 6) o p s x
+released_late b a wp l h (Ok v) rel = tt
+released_late {hints = hints} {T = T} {n = n} {p = p} {q = q} {r = r} {s = s} {x = x} {y = y} {z = z} b a wp l h (Err e) rel =
+    λ died. elim (rel.died died) [
+      | inl back ↦ last_more (b p.start.geometry + 6) (omega arith) (last_then (λ g. 0) wp (went_on wp.run l.quiet.went h.went) (spent_then b wp l.quiet.went h.went first (ended a back.0 h.spent)) back.1.late)
+      | inr same ↦
+          (let over : Builds {T = T} hints n (b q.start.geometry) (Err e) q r y z = subst (λ (u : Result T Stop). Builds hints n (b q.start.geometry) u q r y z) (sym same.0) h in
+          subst (λ (t : Pool). HasDied (b p.start.geometry + 6) p t x) (sym same.1) (last_more (b p.start.geometry + 6) (omega arith) (last_then b wp l.quiet.went first (over.late died))))
+    ]
+  where
+    first : HasSpent 3 p q x y
+    first = spent_call 3 l.quiet.went l.few

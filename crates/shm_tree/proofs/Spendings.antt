@@ -79,7 +79,10 @@ spent_drop {p} {q} {x} {y} k h (n, torn, few) =
 
 -- ---- levels one above the other, each with the way down to it
 
--- at most as many as for all levels of a tree of the height h: until the lowest one, and until any
+-- at most as many as for all levels of a tree of the height h: before the first one, until the lowest one, and until any
+pub front_most : (n b c l k : ℕ) → b ≤ c → n + b ≤ n + c + l + k
+front_most n b c l k le = omega (arith, le)
+
 pub first_most : (c k e h : ℕ) → e ≤ h → 5 * e + c ≤ 5 * h + c + h * k
 first_most c k e h low = omega (arith, low)
 

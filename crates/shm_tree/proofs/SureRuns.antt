@@ -127,7 +127,7 @@ module _ {P C B A : Type 0} (k : Control C B) (q : Planned P C B A) (laws : Plan
       let begun : CallsFits k q z (memo_of p 0) (memo_of p 0) [] = calls_begin k q laws s (memo_of p 0) new.first new.start (tasks.begins s (memo_of p 0) (subst (λ (u : Me). IsReady u (memo_of p 0)) (sym me) (plan_ready p h)) m) in
       let fit : fits_now c (CallsFits k q) z (memo_of p 0) (memo_of p 0) = subst (λ (b : Bool). CallsFits k q z (memo_of p 0) (memo_of p 0) (call_before b (memo_of p 0).call)) (sym fresh) begun in
       let call : (memo_of r 0).call ≡ t.trail = t.call ∙ ap (λ (b : Bool). call_before b (memo_of (readied p 0) 0).call ++ t.trail) fresh in
-      let some : t.trail ≢ [] = λ e. (let none : length (memo_of r 0).call ≡ 0 = ap length (call ∙ e) in let spent = ran.spent refl refl in let less = ran.less refl in absurd (omega (arith, none, spent, less))) in
+      let some : t.trail ≢ [] = λ e. (let none : length (memo_of r 0).call ≡ 0 = ap length (call ∙ e) in let spent = ran.spent (ran.some refl) refl in let less = ran.less refl in absurd (omega (arith, none, spent, less))) in
       let (us, is, none) = run_sure c (CallsFits k q) (CallsGives k q) (calls_laws k q laws) (calls_know k q knows) (calls_sure k q knows sure) g 0 (state_of p) z (memo_of p 0) t.trail (state_of r) me h.work.who h.run.held led fit t.goes some (sure.begins s (see g p.words)) in
       ap failed (is ∙ ap (λ (b : Bool). call_before b (memo_of p 0).call ++ us) fresh) ∙ none
     where
@@ -138,5 +138,5 @@ module _ {P C B A : Type 0} (k : Control C B) (q : Planned P C B A) (laws : Plan
   pub plan_most : (n : ℕ) (p r : Pool) (s : P) (x y : ℕ) → IsWorking p → q.steered.me s ≡ member p.start.geometry 0 → may s (memo_of p 0) → TookSteps (calls_control k q.steered) 0 p (calls_of q.steered s) r → Ran 0 true true p r x y → IsWithin n (memo_of r 0).call → x ≤ y + n
   plan_most n p r s x y h me m t ran most =
       let whole = plan_whole p r s x y h me m t ran in
-      let spent = ran.spent refl refl in
+      let spent = ran.spent (ran.some refl) refl in
       omega (arith, whole, spent, most)

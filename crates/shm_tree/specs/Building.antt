@@ -5,7 +5,7 @@ use Rattle.shm_plain.specs.Pools.{Pool, memo_of}
 use Rattle.shm_count.specs.{declared.answer.Made.Made, Roots.root_word}
 use Rattle.shm_tree.specs.declared.{balance.Plan.Plan, node.{Content.Content, Pair.Pair, Side.Side}}
 use Rattle.shm_tree.specs.declared.{node.Side.TheVariants.{Left, Right}, hints.Hints.Hints, stop.Stop.Stop}
-use Rattle.shm_tree.specs.{Causes.StopCause, Keeping.{HasMade, HasTree, node_by, other_side}, Spending.HasSpent}
+use Rattle.shm_tree.specs.{Causes.StopCause, Keeping.{HasMade, HasTree, node_by, other_side}, Spending.{DiesAfter, HasSpent}}
 use Rattle.shm_tree.specs.{Standing.{TreeStands, weight}, Trees.{Tree, AreNear, from_left, from_right, height, joined}}
 use Rattle.shm_tree.specs.Working.{DiedIn, IfAlive, IfRefused, IsReached, IsRooted, IsSameLatch, IsWorking, Went}
 
@@ -41,6 +41,7 @@ pub record Builds {T : Type 0} (hints : Hints) (n c : ℕ) (r : Result T Stop) (
   pub spent : IfAlive r (HasSpent c p q x y)
   pub cause : IfErr r (λ e. StopCause hints p q e)
   pub died : IfErr r (λ e. DiedIn e p q y)
+  pub late : DiesAfter c r p q x
 
 -- a tree was built: a root that was empty names it, and no other root changed, nor the trees that they name, nor the blocks of those
 pub record IsBuilt (n : ℕ) (m : Made) (p q : Pool) : Type 0 where

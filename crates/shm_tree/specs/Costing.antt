@@ -1,11 +1,11 @@
 -- What the calls of a line make, how many word steps they take, and what they make live.
-use Rattle.std.specs.Prelude.{◌≢◌, ℕ, ◌+◌, ◌*◌, List}
+use Rattle.std.specs.Prelude.{◌≢◌, ℕ, ◌+◌, ◌*◌, List, Result}
 use Rattle.shm_words.specs.declared.geometry.Geometry.{Geometry}
 use Rattle.shm_plain.specs.Pools.{Pool, memo_of}
-use Rattle.shm_tree.specs.declared.{line.{TreeLine.TreeLine, TreeTurn.TreeTurn}, registers.Registers.Registers}
+use Rattle.shm_tree.specs.declared.{line.{TreeLine.TreeLine, TreeTurn.TreeTurn}, registers.Registers.Registers, stop.Stop.Stop}
 use Rattle.shm_tree.specs.Bounds.{drop_steps, insert_steps, remove_steps, share_steps}
 use Rattle.shm_tree.specs.{Forests.{HasVersions, version}, Keeping.HasMade}
-use Rattle.shm_tree.specs.{Living.{AreFewNew, AreLivesTrees, KeepsLives}, Spending.HasSpent, Trees.{Tree, height}}
+use Rattle.shm_tree.specs.{Living.{AreFewNew, AreLivesTrees, KeepsLives}, Spending.{DiesAfter, HasDied, HasSpent}, Trees.{Tree, height}}
 use Rattle.shm_tree.specs.Working.{IsSpent}
 use Rattle.shm_tree.specs.declared.line.TreeAnswer.TheVariants as answers
 use Rattle.shm_tree.specs.declared.line.TreeLine.TheVariants as lines
@@ -107,6 +107,13 @@ StopsLine line f g x y = (ts : List Tree) → HasVersions f ts → Spends (made_
 abbrev pub EndsLine : TreeLine → Registers → Registers → (x y : ℕ) → Type 0
 EndsLine line f g x y = (ts : List Tree) → HasVersions f ts → Spends (made_most line ts) (call_steps line ts f.pool.start.geometry + sweep_steps f.pool.start.geometry) f.pool g.pool x y
 
+-- where it stopped for want of a word step: how many it had taken when it began its last call, in its own calls or in those that empty roots
+abbrev pub DiesLine : {T : Type 0} → TreeLine → Result T Stop → Registers → Registers → ℕ → Type 0
+DiesLine line r f g x = (ts : List Tree) → HasVersions f ts → DiesAfter (call_steps line ts f.pool.start.geometry) r f.pool g.pool x
+
+abbrev pub DiesEnding : {T : Type 0} → TreeLine → Result T Stop → Registers → Registers → ℕ → Type 0
+DiesEnding line r f g x = (ts : List Tree) → HasVersions f ts → DiesAfter (call_steps line ts f.pool.start.geometry + sweep_steps f.pool.start.geometry) r f.pool g.pool x
+
 -- how many blocks came to be live where it is a set that wasn't refused
 abbrev pub FewSet : TreeLine → Registers → Registers → Type 0
 FewSet (lines.Set to from k n) f g = (ts : List Tree) → HasVersions f ts → MakesFew (height (version ts from) + 1) f.pool g.pool
@@ -127,6 +134,10 @@ UnlessOk (turns.Done answer) P = answer ≢ answers.Ok → P
 -- how many blocks a line made at most, and how many word steps it took, refused or not
 abbrev pub SpendsLine : TreeLine → Registers → Registers → (x y : ℕ) → Type 0
 SpendsLine line f g x y = (ts : List Tree) → HasVersions f ts → Spends (made_most line ts) (line_steps line ts f.pool.start.geometry) f.pool g.pool x y
+
+-- how many word steps a line took until it began its last call, where no word step was left for it
+abbrev pub LateLine : TreeLine → Registers → Registers → ℕ → Type 0
+LateLine line f g x = (ts : List Tree) → HasVersions f ts → HasDied (line_steps line ts f.pool.start.geometry) f.pool g.pool x
 
 -- how many blocks came to be live, refused or not
 abbrev pub FewLine : TreeLine → Registers → Registers → Type 0

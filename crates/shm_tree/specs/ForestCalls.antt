@@ -3,7 +3,7 @@ use Rattle.std.specs.Prelude.{◌≡◌, ◌≢◌, ℕ, ◌<◌, ◌++◌, fals
 use Rattle.shm_graph.specs.{declared.run.Move.Move, Agents.steps_made}
 use Rattle.shm_plain.specs.{Calls.Did, Closings.IsClosedRun, Pools.{IsRun, Pool, first_pool, memo_of}}
 use Rattle.shm_tree.specs.declared.{hints.Hints.{Hints, TheVariants.Off}, line.{TreeLine.TreeLine, TreeTurn.TreeTurn}}
-use Rattle.shm_tree.specs.{Costing.{FewLine, IfEnded, SpendsLine, UnlessOk}, CutShort.{IsCutShort, IsWordless}}
+use Rattle.shm_tree.specs.{Costing.{FewLine, IfEnded, LateLine, SpendsLine, UnlessOk}, CutShort.{IsCutShort, IsWordless}}
 use Rattle.shm_tree.specs.{Ending.HasEnded, Forests.{DoesTurn, Forested, HasVersions, IsCaused, IsUnspent, is_died}}
 use Rattle.shm_tree.specs.{Keeping.{AreSameLives, is_live}, Living.AreLivesTrees, Trees.{Empty, Tree}, Working.Went}
 use Rattle.shm_tree.specs.declared.line.TreeTurn.TheVariants as turns
@@ -23,7 +23,7 @@ pub record IsBegunForest (hints : Hints) (segments : ℕ) (f : Forested) : Type 
 abbrev pub IsFirstForest : ℕ → Forested → Type 0
 IsFirstForest segments f = IsBegunForest Off segments f
 
--- A line on the forest f, whose client lives, with x word steps left: it leaves the forest g and y word steps, with this turn. Unless the own era is spent a tree stands at each live block, and after each answer but Ok the same blocks are live. It isn't finished only where none is left and it takes one more: one that takes none is finished, and of one that had some it is seen that it is cut short
+-- A line on the forest f, whose client lives, with x word steps left: it leaves the forest g and y word steps, with this turn. Unless the own era is spent a tree stands at each live block, and after each answer but Ok the same blocks are live. It isn't finished only where none is left and it takes one more: one that takes none is finished, of one that had some it is seen that it is cut short, and all but those of its last call are within the bound of a finished line
 pub record RanLine (line : TreeLine) (f g : Forested) (x y : ℕ) (turn : TreeTurn) : Type 0 where
   pub went : Went f.registers.pool g.registers.pool x y
   pub does : DoesTurn line f.registers g.registers turn
@@ -33,6 +33,7 @@ pub record RanLine (line : TreeLine) (f g : Forested) (x y : ℕ) (turn : TreeTu
   pub same : UnlessOk turn (IsUnspent g.registers → AreSameLives f.registers.pool g.registers.pool)
   pub cause : IsCaused f.hints f.registers.pool g.registers.pool turn
   pub over : turn ≡ turns.Died → y ≡ 0
+  pub late : turn ≡ turns.Died → LateLine line f.registers g.registers x
   pub wordless : IsUnspent f.registers → (ts : List Tree) → HasVersions f.registers ts → IsWordless line ts → turn ≢ turns.Died
   pub short : turn ≡ turns.Died → IsUnspent f.registers → IsUnspent g.registers → 0 < x → IsCutShort f.hints line f.registers g.registers
   pub hinted : g.hints ≡ f.hints

@@ -7,7 +7,7 @@ ghost use Rattle.shm_count.specs.Roots.{root_word};
 ghost use Rattle.shm_tree.specs.{Bounds.{drop_steps, make_steps, refer_steps, share_steps}, Causes.StopCause};
 ghost use Rattle.shm_tree.specs.{Changing.Changes, Falling.IsUnnamed};
 ghost use Rattle.shm_tree.specs.Keeping.{HasNode, HasTree, IsDropped, IsMade, IsReferring, IsShared, IsStill, child_of};
-ghost use Rattle.shm_tree.specs.{Looking.Looks, Standing.{TreeStands, word_of}, Tearing.HasTorn};
+ghost use Rattle.shm_tree.specs.{Looking.Looks, Spending.DiesAfter, Standing.{TreeStands, word_of}, Tearing.HasTorn};
 ghost use Rattle.shm_tree.specs.Trees.{Tree as ATree, height as height_of};
 ghost use Rattle.shm_tree.specs.Working.{AreSameRoots, DiedBegun, DiedIn, HasRoom, IfAlive, IfRefused, IsCutOff, IsEmptied, IsInCall, IsReached, IsSameLatch, IsSpent, IsWorking, Reaches, Went};
 ghost use Rattle.shm_tree.specs.declared.hints.Hints.TheVariants.{Off};
@@ -33,6 +33,7 @@ pub fn hold(pool: &mut Ground, life: &mut Life) -> Result<(), Stop>
     ensures reaches { IfOk result (λ u. Reaches pool.old pool.new) }
     ensures steps { IfOk result (λ u. life.old.left ≡ life.new.left + 2) }
     ensures died { IfErr result (λ e. (e ≡ stop.Died) × (life.new.left ≡ 0) × (0 < life.old.left → IsInCall pool.new)) }
+    ensures late { DiesAfter 0 result pool.old pool.new life.old.left }
 {
     let holding = Hold::new(pool.me(0), 0);
     match pool.run(0, holding, life) {
@@ -52,6 +53,7 @@ pub fn release(pool: &mut Ground, life: &mut Life) -> Result<(), Stop>
     ensures still { IfOk result (λ u. IsStill pool.old pool.new) }
     ensures steps { IfOk result (λ u. life.old.left ≡ life.new.left + 3) }
     ensures died { IfErr result (λ e. (e ≡ stop.Died) × (life.new.left ≡ 0) × IsCutOff pool.old pool.new) }
+    ensures late { DiesAfter 0 result pool.old pool.new life.old.left }
 {
     let releasing = Release::new(pool.me(0));
     match pool.run(0, releasing, life) {
@@ -65,6 +67,7 @@ pub fn root_of(pool: &mut Ground, root: u8, life: &mut Life) -> Result<u32, Stop
     requires working { IsWorking pool.old }
     requires root { root < 16 }
     ensures looks { Looks result pool.old pool.new life.old.left life.new.left }
+    ensures late { DiesAfter 0 result pool.old pool.new life.old.left }
     ensures names { IfOk result (λ b. b ≡ root_word 0 (memo_of pool.old 0) root) }
     ensures reached { IfOk result (λ b. IsReached pool.new b) }
     ensures steps { IfOk result (λ b. life.old.left ≡ life.new.left + 1) }
@@ -85,6 +88,7 @@ pub fn child(pool: &mut Ground, node: u32, side: Side, life: &mut Life) -> Resul
     requires node { HasNode pool.old node }
     requires reached { IsReached pool.old node }
     ensures looks { Looks result pool.old pool.new life.old.left life.new.left }
+    ensures late { DiesAfter 0 result pool.old pool.new life.old.left }
     ensures names { IfOk result (λ b. b ≡ child_of pool.old node side) }
     ensures reached { IfOk result (λ b. IsReached pool.new b) }
     ensures steps { IfOk result (λ b. life.old.left ≡ life.new.left + 3) }
@@ -104,6 +108,7 @@ fn plain(pool: &mut Ground, node: u32, index: u8, life: &mut Life) -> Result<u64
     requires reached { IsReached pool.old node }
     requires index { index < 3 }
     ensures looks { Looks result pool.old pool.new life.old.left life.new.left }
+    ensures late { DiesAfter 0 result pool.old pool.new life.old.left }
     ensures is { IfOk result (λ x. x ≡ word_of pool.old (Body node (2 + index))) }
     ensures steps { IfOk result (λ x. life.old.left ≡ life.new.left + 2) }
 {
@@ -121,6 +126,7 @@ pub fn key(pool: &mut Ground, node: u32, life: &mut Life) -> Result<u64, Stop>
     requires node { HasNode pool.old node }
     requires reached { IsReached pool.old node }
     ensures looks { Looks result pool.old pool.new life.old.left life.new.left }
+    ensures late { DiesAfter 0 result pool.old pool.new life.old.left }
     ensures is { IfOk result (λ k. k ≡ word_of pool.old (Body node 2)) }
     ensures steps { IfOk result (λ k. life.old.left ≡ life.new.left + 2) }
 {
@@ -133,6 +139,7 @@ pub fn number(pool: &mut Ground, node: u32, life: &mut Life) -> Result<u64, Stop
     requires node { HasNode pool.old node }
     requires reached { IsReached pool.old node }
     ensures looks { Looks result pool.old pool.new life.old.left life.new.left }
+    ensures late { DiesAfter 0 result pool.old pool.new life.old.left }
     ensures is { IfOk result (λ n. n ≡ word_of pool.old (Body node 3)) }
     ensures steps { IfOk result (λ n. life.old.left ≡ life.new.left + 2) }
 {
@@ -145,6 +152,7 @@ pub fn height(pool: &mut Ground, tree: u32, life: &mut Life) -> Result<u64, Stop
     requires tree { HasTree pool.old tree }
     requires reached { IsReached pool.old tree }
     ensures looks { Looks result pool.old pool.new life.old.left life.new.left }
+    ensures late { DiesAfter 0 result pool.old pool.new life.old.left }
     ensures is { IfOk result (λ h. (t : ATree) → TreeStands pool.old tree t → h ≡ height_of t) }
     ensures steps { IfOk result (λ h. life.old.left ≤ life.new.left + 2) }
 {
@@ -267,6 +275,7 @@ pub fn drop_root(pool: &mut Ground, root: u8, life: &mut Life) -> Result<(), Sto
     ensures spent { IfRefused result (IsSpent (memo_of pool.new 0)) }
     ensures cause { IfErr result (λ e. StopCause Off pool.old pool.new e) }
     ensures died { IfErr result (λ e. DiedIn e pool.old pool.new life.new.left) }
+    ensures late { DiesAfter (drop_steps pool.old.start.geometry 0) result pool.old pool.new life.old.left }
     ensures begun { IfErr result (λ e. DiedBegun e pool.old pool.new life.old.left) }
 {
     let dropping = DropRoot::new(pool.me(0), root);

@@ -6,8 +6,7 @@ ghost use Rattle.shm_plain.specs.{Closings.IsClosedRun, Pools.{IsRun, Pool as AP
 ghost use Rattle.shm_tree.specs.{Ending.{HasEnded, HasParted, IsRevived, IsYoung}, Falling.AreFalling, Keeping.is_live};
 ghost use Rattle.shm_tree.specs.Working.{IsSpent, IsWorking};
 
-use plans::Calls;
-use shm_client::die;
+use shm_client::{die, follow};
 use shm_count::EraSpent;
 use shm_graph::Life;
 use shm_plain::{PlainClosed, PlainPool};
@@ -38,8 +37,8 @@ fn leave(pool: &mut PlainPool) -> Result<(), EraSpent>
     ensures parted { HasParted pool.old pool.new result }
     ensures roomy { IsYoung pool.old → is_ok result ≡ true }
 {
-    let mut leaving = Calls::new(Leave::new(pool.me(0)));
-    pool.call(0, &mut leaving, &mut Life::of(LIFE)).unwrap()
+    let leaving = Leave::new(pool.me(0));
+    follow(pool, 0, leaving, &mut Life::of(LIFE)).unwrap()
 }
 
 /// The client, which is dead, is recovered. Nobody else steps, so that 2^38 word steps are enough.
@@ -51,8 +50,8 @@ fn recover_dead(pool: &mut PlainPool) -> Result<(), EraSpent>
     ensures revived { IsRevived pool.old pool.new result }
     ensures roomy { IsYoung pool.old → is_ok result ≡ true }
 {
-    let mut recovery = Calls::new(Recover::new(pool.me(0)));
-    pool.call(0, &mut recovery, &mut Life::of(LIFE)).unwrap()
+    let recovery = Recover::new(pool.me(0));
+    follow(pool, 0, recovery, &mut Life::of(LIFE)).unwrap()
 }
 
 /// The client leaves; where it died, or its own era is spent, it is dead and is recovered.

@@ -2,7 +2,7 @@
 
 ghost use Rattle.std.specs.Prelude.{◌≡◌, ◌≢◌, ℕ, ◌+◌, ◌*◌, ◌-◌, ◌^◌, ◌<◌, ◌≤◌, Some, IfOk};
 ghost use Rattle.shm_plain.specs.Pools.{memo_of};
-ghost use Rattle.shm_tree.specs.{Building.IsAtHand, Looking.Looks, Standing.{TreeStands, weight}};
+ghost use Rattle.shm_tree.specs.{Building.IsAtHand, Looking.Looks, Spending.DiesAfter, Standing.{TreeStands, weight}};
 ghost use Rattle.shm_tree.specs.Trees.{Tree as ATree, IsSearch, found, height};
 ghost use Rattle.shm_tree.specs.{Ways.{IsDeep, IsEnd, IsLast, IsPlace, down}, Working.{IsReached, IsWorking}};
 
@@ -25,6 +25,7 @@ pub fn find(pool: &mut Ground, tree: u32, wanted: u32, life: &mut Life) -> Resul
     requires latch { (memo_of pool.old 0).latch ≡ Some 0 }
     requires tree { IsAtHand pool.old tree }
     ensures looks { Looks result pool.old pool.new life.old.left life.new.left }
+    ensures late { (t : ATree) → TreeStands pool.old tree t → DiesAfter (5 * height t + 2) result pool.old pool.new life.old.left }
     ensures steps { IfOk result (λ w. life.old.left ≤ life.new.left + 5 * w.depth + 2) }
     ensures place { IfOk result (λ w. (t : ATree) → TreeStands pool.old tree t → IsPlace pool.new w.node wanted w.depth t) }
     ensures low { IfOk result (λ w. w.depth < 2 ^ 24) }
@@ -57,6 +58,7 @@ pub fn above(
     requires tree { IsAtHand pool.old tree }
     requires deep { (t : ATree) → TreeStands pool.old tree t → IsDeep wanted t depth }
     ensures looks { Looks result pool.old pool.new life.old.left life.new.left }
+    ensures late { DiesAfter (5 * depth) result pool.old pool.new life.old.left }
     ensures steps { IfOk result (λ w. life.old.left ≡ life.new.left + 5 * depth) }
     ensures stands { IfOk result (λ w. (t : ATree) → TreeStands pool.old tree t → TreeStands pool.new w (down wanted t depth)) }
     ensures reached { IfOk result (λ w. IsReached pool.new w) }
@@ -80,6 +82,7 @@ pub fn last(pool: &mut Ground, place: Place, life: &mut Life) -> Result<Place, S
     requires reached { IsReached pool.old place.node }
     requires low { place.depth < 2 ^ 24 }
     ensures looks { Looks result pool.old pool.new life.old.left life.new.left }
+    ensures late { (t : ATree) → TreeStands pool.old place.node t → IsSearch t → DiesAfter (3 * height t) result pool.old pool.new life.old.left }
     ensures steps { IfOk result (λ w. life.old.left ≡ life.new.left + 3 * (w.depth - place.depth + 1)) }
     ensures below { IfOk result (λ w. place.depth ≤ w.depth) }
     ensures last { IfOk result (λ w. (x : ℕ) (t : ATree) → TreeStands pool.old place.node t → IsSearch t → IsEnd x t → IsLast pool.new w.node x (w.depth - place.depth) t) }
@@ -108,6 +111,7 @@ pub fn number_at(
     requires latch { (memo_of pool.old 0).latch ≡ Some 0 }
     requires tree { IsAtHand pool.old tree }
     ensures looks { Looks result pool.old pool.new life.old.left life.new.left }
+    ensures late { (t : ATree) → TreeStands pool.old tree t → DiesAfter (5 * height t + 4) result pool.old pool.new life.old.left }
     ensures steps { IfOk result (λ o. (t : ATree) → TreeStands pool.old tree t → life.old.left ≤ life.new.left + 5 * height t + 4) }
     ensures is { IfOk result (λ o. (t : ATree) → TreeStands pool.old tree t → o ≡ found wanted t) }
 {

@@ -5,7 +5,7 @@ ghost use Rattle.shm_graph.specs.Bounds.{tear_steps};
 ghost use Rattle.shm_plain.specs.Pools.{memo_of};
 ghost use Rattle.shm_tree.specs.{Bounds.{insert_steps, lowest_steps}, Building.{Builds, IsAtHand, IsBuilt, rooms}};
 ghost use Rattle.shm_tree.specs.Inserting.{IsRegistered, StandsLowest, WeighsLowest, left_of, outside, right_of};
-ghost use Rattle.shm_tree.specs.{Looking.Looks, Living.{AreFewNew, AreLivesTrees, KeepsLives}, Sharing.IsFresh};
+ghost use Rattle.shm_tree.specs.{Looking.Looks, Living.{AreFewNew, AreLivesTrees, KeepsLives}, Sharing.IsFresh, Spending.DiesAfter};
 ghost use Rattle.shm_tree.specs.{Standing.{TreeStands, weight}, Trees.{Tree as ATree, height, inserted}};
 ghost use Rattle.shm_tree.specs.Working.{IsReached, IsSpent, IsWorking};
 
@@ -24,6 +24,7 @@ fn trees_of(pool: &mut Ground, node: u32, life: &mut Life) -> Result<Pair, Stop>
     requires latch { (memo_of pool.old 0).latch ≡ Some 0 }
     requires node { IsAtHand pool.old node }
     ensures looks { Looks result pool.old pool.new life.old.left life.new.left }
+    ensures late { DiesAfter 6 result pool.old pool.new life.old.left }
     ensures steps { IfOk result (λ w. life.old.left ≤ life.new.left + 6) }
     ensures near { IfOk result (λ w. (t : ATree) → TreeStands pool.old node t → TreeStands pool.old w.near (left_of t)) }
     ensures far { IfOk result (λ w. (t : ATree) → TreeStands pool.old node t → TreeStands pool.old w.far (right_of t)) }

@@ -5,7 +5,7 @@ ghost use Rattle.shm_graph.specs.declared.spot.Spot.TheVariants.{Body};
 ghost use Rattle.shm_plain.specs.Pools.{memo_of};
 ghost use Rattle.shm_tree.specs.{declared.node.Side.TheVariants.{Left, Right}, Bounds.link_steps, Changing.Changes};
 ghost use Rattle.shm_tree.specs.Keeping.{HasGrown, HasNode, HasTree, IsLinked, child_of, other_side, side_word};
-ghost use Rattle.shm_tree.specs.{Looking.Looks, Standing.word_of, Working.{HasRoom, IsReached, IsWorking}};
+ghost use Rattle.shm_tree.specs.{Looking.Looks, Spending.DiesAfter, Standing.word_of, Working.{HasRoom, IsReached, IsWorking}};
 
 use crate::calls::{child, height, key, make, number, refer};
 use crate::ground::Ground;
@@ -74,6 +74,7 @@ pub fn content_of(pool: &mut Ground, node: u32, life: &mut Life) -> Result<Conte
     requires node { HasNode pool.old node }
     requires reached { IsReached pool.old node }
     ensures looks { Looks result pool.old pool.new life.old.left life.new.left }
+    ensures late { DiesAfter 4 result pool.old pool.new life.old.left }
     ensures key { IfOk result (λ c. c.key ≡ word_of pool.old (Body node 2)) }
     ensures number { IfOk result (λ c. c.number ≡ word_of pool.old (Body node 3)) }
     ensures steps { IfOk result (λ c. life.old.left ≡ life.new.left + 4) }
@@ -90,6 +91,7 @@ pub fn children(pool: &mut Ground, node: u32, side: Side, life: &mut Life) -> Re
     requires node { HasNode pool.old node }
     requires reached { IsReached pool.old node }
     ensures looks { Looks result pool.old pool.new life.old.left life.new.left }
+    ensures late { DiesAfter 6 result pool.old pool.new life.old.left }
     ensures near { IfOk result (λ t. t.near ≡ child_of pool.old node side) }
     ensures far { IfOk result (λ t. t.far ≡ child_of pool.old node (other_side side)) }
     ensures steps { IfOk result (λ t. life.old.left ≡ life.new.left + 6) }

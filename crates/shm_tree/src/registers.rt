@@ -4,10 +4,10 @@ ghost use Rattle.std.specs.Prelude.{◌≡◌, ◌≢◌, ◌+◌, ◌*◌, ◌<
 ghost use Rattle.std.specs.Option.{is_some};
 ghost use Rattle.shm_plain.specs.Pools.{memo_of};
 ghost use Rattle.shm_tree.specs.{Bounds.drop_steps, Building.{root_block, rooms}};
-ghost use Rattle.shm_tree.specs.Costing.{Costs, CostsLine, EndsLine, FewSet, MakesFew, Spends, StopsLine, copied_steps, copy_steps, del_steps, planted_steps, pruned_steps, read_steps, set_steps, sweep_steps};
+ghost use Rattle.shm_tree.specs.Costing.{Costs, CostsLine, DiesEnding, DiesLine, EndsLine, FewSet, MakesFew, Spends, StopsLine, copied_steps, copy_steps, del_steps, planted_steps, pruned_steps, read_steps, set_steps, sweep_steps};
 ghost use Rattle.shm_tree.specs.CutShort.{DiesHalfDone, IsCutShort, IsWordless};
 ghost use Rattle.shm_tree.specs.Forests.{CallLeaves, DoesLine, HasVersions, IsForest, IsFree, IsInRange, IsLeft, IsOwn, IsPruned, IsPut, IsReading, IsSpare, IsSwept, IsTidy, IsUnspent, KeepsNamed, KeepsRegisters, Moves, CallStopped, block_in, root_at, version};
-ghost use Rattle.shm_tree.specs.{Keeping.IsStill, Looking.Looks, Releasing.Releases, Standing.{IsTree, TreeStands}};
+ghost use Rattle.shm_tree.specs.{Keeping.IsStill, Looking.Looks, Releasing.Releases, Spending.{DiesAfter, HasDied}, Standing.{IsTree, TreeStands}};
 ghost use Rattle.shm_tree.specs.Trees.{Empty, Tree as ATree, found, height, inserted, removed};
 ghost use Rattle.shm_tree.specs.Working.{AreSameRoots, DiedBegun, IfAlive, IfRefused, IsInCall, IsOver, IsReached, IsRooted, IsSameLatch, IsSpent, IsUnderWay, IsWorking, Went};
 ghost use Rattle.shm_tree.specs.declared.hints.Hints.TheVariants.{Off};
@@ -44,6 +44,7 @@ pub struct Registers {
 fn tree_in(pool: &mut Ground, root: u8, life: &mut Life) -> Result<u32, Stop>
     requires working { IsWorking pool.old }
     requires root { root ≤ 16 }
+    ensures late { DiesAfter 0 result pool.old pool.new life.old.left }
     ensures looks { Looks result pool.old pool.new life.old.left life.new.left }
     ensures names { IfOk result (λ b. b ≡ block_in pool.old root) }
     ensures reached { IfOk result (λ b. IsReached pool.new b) }
@@ -67,6 +68,7 @@ fn read(pool: &mut Ground, root: u8, key: u32, life: &mut Life) -> Result<Option
     ensures latch { IfOk result (λ o. IsSameLatch pool.old pool.new) }
     ensures still { IfOk result (λ o. IsStill pool.old pool.new) }
     ensures is { IfOk result (λ o. (t : ATree) → TreeStands pool.old (block_in pool.old root) t → o ≡ found key t) }
+    ensures late { (t : ATree) → TreeStands pool.old (block_in pool.old root) t → DiesAfter (read_steps (height t)) result pool.old pool.new life.old.left }
     ensures costs { IfOk result (λ o. (t : ATree) → TreeStands pool.old (block_in pool.old root) t → Costs 0 (read_steps (height t)) pool.old pool.new life.old.left life.new.left) }
     ensures died { IfErr result (λ e. (e ≡ stop.Died) × (life.new.left ≡ 0) × (0 < life.old.left → IsUnderWay pool.new)) }
 {
@@ -118,6 +120,7 @@ fn planted(
     ensures rooted { IfOk result (λ m. IsRooted m.root m.block pool.old pool.new) }
     ensures some { IfOk result (λ m. m.block ≢ 0) }
     ensures is { IfOk result (λ m. (t : ATree) → IsTree pool.old (block_in pool.old root) t → IsTree pool.new m.block (inserted key number t)) }
+    ensures late { (t : ATree) → IsTree pool.old (block_in pool.old root) t → DiesAfter (planted_steps (height t) pool.old.start.geometry) result pool.old pool.new life.old.left }
     ensures costs { IfOk result (λ m. (t : ATree) → IsTree pool.old (block_in pool.old root) t → Costs (height t + 3) (planted_steps (height t) pool.old.start.geometry) pool.old pool.new life.old.left life.new.left) }
     ensures refused { IfRefused result ((t : ATree) → IsTree pool.old (block_in pool.old root) t → Spends (height t + 3) (planted_steps (height t) pool.old.start.geometry) pool.old pool.new life.old.left life.new.left) }
     ensures few { IfOk result (λ m. (t : ATree) → IsTree pool.old (block_in pool.old root) t → MakesFew (height t + 1) pool.old pool.new) }
@@ -139,6 +142,7 @@ fn copied(pool: &mut Ground, root: u8, life: &mut Life) -> Result<Made, Stop>
     ensures rooted { IfOk result (λ m. IsRooted m.root m.block pool.old pool.new) }
     ensures some { IfOk result (λ m. m.block ≢ 0) }
     ensures is { IfOk result (λ m. (t : ATree) → TreeStands pool.old (root_block pool.old root) t → TreeStands pool.new m.block t) }
+    ensures late { DiesAfter (copied_steps pool.old.start.geometry) result pool.old pool.new life.old.left }
     ensures costs { IfOk result (λ m. Costs 0 (copied_steps pool.old.start.geometry) pool.old pool.new life.old.left life.new.left) }
     ensures refused { IfRefused result (Spends 0 (copied_steps pool.old.start.geometry) pool.old pool.new life.old.left life.new.left) }
 {
@@ -162,6 +166,7 @@ fn pruned(
     ensures off { IfErr result (λ e. e ≡ stop.Died → 0 < life.old.left → IsUnderWay pool.new) }
     ensures calls { CallLeaves hints KeepsNamed result pool.old pool.new life.old.left life.new.left }
     ensures pruned { IfOk result (λ o. IsPruned key root o pool.old pool.new) }
+    ensures late { (t : ATree) → IsTree pool.old (block_in pool.old root) t → DiesAfter (pruned_steps (height t) pool.old.start.geometry) result pool.old pool.new life.old.left }
     ensures costs { IfOk result (λ o. (t : ATree) → IsTree pool.old (block_in pool.old root) t → Costs (3 * height t) (pruned_steps (height t) pool.old.start.geometry) pool.old pool.new life.old.left life.new.left) }
     ensures refused { IfRefused result ((t : ATree) → IsTree pool.old (block_in pool.old root) t → Spends (3 * height t) (pruned_steps (height t) pool.old.start.geometry) pool.old pool.new life.old.left life.new.left) }
 {
@@ -184,6 +189,7 @@ impl Registers {
         ensures same { IfOk result (λ u. KeepsRegisters self.old self.new) }
         ensures roots { self.new.roots ≡ self.old.roots }
         ensures tidy { IfOk result (λ u. IsTidy self.new) }
+        ensures late { DiesAfter (sweep_steps self.old.pool.start.geometry) result self.old.pool self.new.pool life.old.left }
         ensures costs { IfOk result (λ u. Costs 0 (sweep_steps self.old.pool.start.geometry) self.old.pool self.new.pool life.old.left life.new.left) }
         ensures told { IfOk result (λ u. self.new.tidy ≡ true) }
         ensures refused { IfRefused result (Spends 0 (sweep_steps self.old.pool.start.geometry) self.old.pool self.new.pool life.old.left life.new.left) }
@@ -212,6 +218,7 @@ impl Registers {
         ensures idle { root_at self.old at ≡ 16 → is_ok result ≡ true }
         ensures moves { Moves Off result self.old self.new life.old.left life.new.left }
         ensures put { IfOk result (λ u. IsPut at root self.old self.new) }
+        ensures late { DiesAfter (drop_steps self.old.pool.start.geometry 0) result self.old.pool self.new.pool life.old.left }
         ensures costs { IfOk result (λ u. Costs 0 (drop_steps self.old.pool.start.geometry 0) self.old.pool self.new.pool life.old.left life.new.left) }
         ensures left { IfOk result (λ u. (k : ℕ) → k < 16 → IsFree self.new.roots k → (k ≢ root) × IsLeft self.old self.new k) }
         ensures told { self.new.tidy ≡ self.old.tidy }
@@ -238,6 +245,7 @@ impl Registers {
         ensures kept { IfErr result (λ e. self.new.roots ≡ self.old.roots) }
         ensures moves { Moves Off result self.old self.new life.old.left life.new.left }
         ensures put { IfOk result (λ u. IsPut at root self.old self.new) }
+        ensures late { DiesAfter (drop_steps self.old.pool.start.geometry 0) result self.old.pool self.new.pool life.old.left }
         ensures costs { IfOk result (λ u. Costs 0 (drop_steps self.old.pool.start.geometry 0) self.old.pool self.new.pool life.old.left life.new.left) }
         ensures told { IfOk result (λ u. self.new.tidy ≡ true) }
         ensures refused { IfRefused result (Spends 0 (drop_steps self.old.pool.start.geometry 0) self.old.pool self.new.pool life.old.left life.new.left) }
@@ -256,6 +264,7 @@ impl Registers {
         ensures died { IfErr result (λ e. e ≡ stop.Died) }
         ensures is { IfOk result (λ o. (ts : List ATree) → HasVersions self.old ts → (o ≡ found key (version ts at)) × HasVersions self.new ts) }
         ensures same { IfOk result (λ o. KeepsRegisters self.old self.new) }
+        ensures late { DiesLine (lines.Get at key) result self.old self.new life.old.left }
         ensures costs { IfOk result (λ o. (ts : List ATree) → HasVersions self.old ts → Costs 0 (read_steps (height (version ts at))) self.old.pool self.new.pool life.old.left life.new.left) }
         ensures told { self.new.tidy ≡ self.old.tidy }
     {
@@ -278,6 +287,7 @@ impl Registers {
         ensures off { DiesHalfDone (lines.Set to from key number) result self.old self.new life.old.left }
         ensures moves { Moves hints result self.old self.new life.old.left life.new.left }
         ensures done { IfOk result (λ u. (ts : List ATree) → HasVersions self.old ts → HasVersions self.new (slice_set ts to (inserted key number (version ts from)))) }
+        ensures late { DiesLine (lines.Set to from key number) result self.old self.new life.old.left }
         ensures costs { IfOk result (λ u. (ts : List ATree) → HasVersions self.old ts → Costs (height (version ts from) + 3) (set_steps (height (version ts from)) self.old.pool.start.geometry) self.old.pool self.new.pool life.old.left life.new.left) }
         ensures few { IfOk result (λ u. (ts : List ATree) → HasVersions self.old ts → MakesFew (height (version ts from) + 1) self.old.pool self.new.pool) }
         ensures told { IfOk result (λ u. self.new.tidy ≡ true) }
@@ -305,6 +315,7 @@ impl Registers {
         ensures idle { self.old.tidy ≡ true → root_at self.old to ≡ 16 → root_at self.old from ≡ 16 → is_ok result ≡ true }
         ensures moves { Moves Off result self.old self.new life.old.left life.new.left }
         ensures done { IfOk result (λ u. (ts : List ATree) → HasVersions self.old ts → HasVersions self.new (slice_set ts to (version ts from))) }
+        ensures late { DiesLine (lines.Copy to from) result self.old self.new life.old.left }
         ensures costs { IfOk result (λ u. Costs 0 (copy_steps self.old.pool.start.geometry) self.old.pool self.new.pool life.old.left life.new.left) }
         ensures told { IfOk result (λ u. self.new.tidy ≡ true) }
         ensures refused { IfRefused result (Spends 0 (copy_steps self.old.pool.start.geometry) self.old.pool self.new.pool life.old.left life.new.left) }
@@ -327,6 +338,7 @@ impl Registers {
         ensures idle { root_at self.old at ≡ 16 → is_ok result ≡ true }
         ensures moves { Moves Off result self.old self.new life.old.left life.new.left }
         ensures done { IfOk result (λ u. (ts : List ATree) → HasVersions self.old ts → HasVersions self.new (slice_set ts at Empty)) }
+        ensures late { DiesLine (lines.Clear at) result self.old self.new life.old.left }
         ensures costs { IfOk result (λ u. Costs 0 (drop_steps self.old.pool.start.geometry 0) self.old.pool self.new.pool life.old.left life.new.left) }
         ensures told { self.new.tidy ≡ self.old.tidy }
         ensures refused { IfRefused result (Spends 0 (drop_steps self.old.pool.start.geometry 0) self.old.pool self.new.pool life.old.left life.new.left) }
@@ -351,6 +363,7 @@ impl Registers {
         ensures missing { result ≡ Ok false → (ts : List ATree) → HasVersions self.old ts → (found key (version ts from) ≡ None) × HasVersions self.new ts }
         ensures absent { result ≡ Ok false → KeepsRegisters self.old self.new }
         ensures done { result ≡ Ok true → (ts : List ATree) → HasVersions self.old ts → (is_some (found key (version ts from)) ≡ true) × HasVersions self.new (slice_set ts to (removed key (version ts from))) }
+        ensures late { DiesLine (lines.Del to from key) result self.old self.new life.old.left }
         ensures costs { IfOk result (λ b. (ts : List ATree) → HasVersions self.old ts → Costs (3 * height (version ts from)) (del_steps (height (version ts from)) self.old.pool.start.geometry) self.old.pool self.new.pool life.old.left life.new.left) }
         ensures told { IfOk result (λ b. self.new.tidy ≡ true) }
         ensures refused { IfRefused result ((ts : List ATree) → HasVersions self.old ts → Spends (3 * height (version ts from)) (del_steps (height (version ts from)) self.old.pool.start.geometry) self.old.pool self.new.pool life.old.left life.new.left) }
@@ -387,6 +400,7 @@ impl Registers {
         ensures idle { self.old.tidy ≡ true → (ts : List ATree) → HasVersions self.old ts → IsWordless line.now ts → is_ok result ≡ true }
         ensures moves { Moves hints result self.old self.new life.old.left life.new.left }
         ensures does { IfOk result (λ a. DoesLine line.now self.old self.new a) }
+        ensures late { DiesLine line.now result self.old self.new life.old.left }
         ensures costs { IfOk result (λ a. CostsLine line.now self.old self.new life.old.left life.new.left) }
         ensures few { IfOk result (λ a. FewSet line.now self.old self.new) }
         ensures reading { IfErr result (λ e. IsReading line.now → e ≡ stop.Died) }
@@ -439,6 +453,7 @@ impl Registers {
         ensures kept { result ≢ stop.Died → IsForest self.new × KeepsRegisters self.old self.new }
         ensures why { (result ≡ why) ⊎ CallStopped Off self.old.pool self.new.pool result }
         ensures died { IsOver result life.new.left }
+        ensures late { result ≡ stop.Died → HasDied (sweep_steps self.old.pool.start.geometry) self.old.pool self.new.pool life.old.left }
         ensures spends { result ≢ stop.Died → Spends 0 (sweep_steps self.old.pool.start.geometry) self.old.pool self.new.pool life.old.left life.new.left }
         ensures swept { result ≢ stop.Died → IsSwept self.new }
     {
@@ -461,6 +476,7 @@ impl Registers {
         ensures idle { self.old.tidy ≡ true → (ts : List ATree) → HasVersions self.old ts → IsWordless line.now ts → is_ok result ≡ true }
         ensures moves { Moves hints result self.old self.new life.old.left life.new.left }
         ensures does { IfOk result (λ a. DoesLine line.now self.old self.new a) }
+        ensures late { DiesEnding line.now result self.old self.new life.old.left }
         ensures costs { IfOk result (λ a. CostsLine line.now self.old self.new life.old.left life.new.left) }
         ensures few { IfOk result (λ a. FewSet line.now self.old self.new) }
         ensures reading { IfErr result (λ e. IsReading line.now → e ≡ stop.Died) }

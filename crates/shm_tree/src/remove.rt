@@ -7,7 +7,8 @@ ghost use Rattle.shm_tree.specs.Bounds.{remnant_steps, remove_steps, share_steps
 ghost use Rattle.shm_tree.specs.declared.{node.Side.TheVariants.{Left, Right}, hints.Hints.TheVariants.Off};
 ghost use Rattle.shm_tree.specs.{Building.{Builds, IsAtHand, block_of, rooms}, Inserting.IsRegistered};
 ghost use Rattle.shm_tree.specs.{Keeping.child_of, Looking.Looks, Living.{AreFewNew, AreLivesTrees, KeepsLives}};
-ghost use Rattle.shm_tree.specs.{Removing.{IsKept, IsRemoved, StandsMoved, content_in}, Standing.TreeStands};
+ghost use Rattle.shm_tree.specs.Removing.{IsKept, IsRemoved, StandsMoved, content_in};
+ghost use Rattle.shm_tree.specs.{Spending.DiesAfter, Standing.TreeStands};
 ghost use Rattle.shm_tree.specs.{Trees.{Tree as ATree, height}, Working.{IsSpent, IsWorking}};
 
 use crate::balance::raise;
@@ -83,6 +84,7 @@ fn next_of(
     requires node { IsAtHand pool.old lowest.node }
     requires some { lowest.node ≢ 0 }
     ensures looks { Looks result pool.old pool.new life.old.left life.new.left }
+    ensures late { DiesAfter 4 result pool.old pool.new life.old.left }
     ensures steps { IfOk result (λ o. life.old.left ≤ life.new.left + 4) }
     ensures next { IfOk result (λ o. (t : ATree) → TreeStands pool.old lowest.node t → o ≡ (if lowest.depth == place.depth then None else Some (content_in t))) }
 {

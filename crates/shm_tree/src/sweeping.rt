@@ -3,7 +3,7 @@
 ghost use Rattle.std.specs.Prelude.{◌≡◌, ◌≢◌, ◌<◌, ◌≤◌, ℕ, true, Ok, length, IfErr, IfOk, is_ok};
 ghost use Rattle.shm_plain.specs.Pools.{memo_of};
 ghost use Rattle.shm_tree.specs.{Bounds.drop_steps, Building.root_block, Costing.{Costs, Spends, sweep_steps}};
-ghost use Rattle.shm_tree.specs.{Forests.{CallLeaves, IsFree, KeepsOthers, KeepsRoots}, Keeping.IsStill};
+ghost use Rattle.shm_tree.specs.{Forests.{CallLeaves, IsFree, KeepsOthers, KeepsRoots}, Keeping.IsStill, Spending.DiesAfter};
 ghost use Rattle.shm_tree.specs.Working.{DiedBegun, IfRefused, IsSpent, IsWorking};
 ghost use Rattle.shm_tree.specs.declared.hints.Hints.TheVariants.{Off};
 
@@ -21,6 +21,7 @@ fn drop_other(pool: &mut Ground, roots: [u8; 12], root: u8, life: &mut Life) -> 
     ensures calls { CallLeaves Off (KeepsRoots roots) result pool.old pool.new life.old.left life.new.left }
     ensures others { IfOk result (λ u. (k : ℕ) → k ≢ root → root_block pool.new k ≡ root_block pool.old k) }
     ensures empty { IfOk result (λ u. IsFree roots root → root_block pool.new root ≡ 0) }
+    ensures late { DiesAfter (drop_steps pool.old.start.geometry 0) result pool.old pool.new life.old.left }
     ensures costs { IfOk result (λ u. Costs 0 (drop_steps pool.old.start.geometry 0) pool.old pool.new life.old.left life.new.left) }
     ensures refused { IfRefused result (Spends 0 (drop_steps pool.old.start.geometry 0) pool.old pool.new life.old.left life.new.left) }
     ensures spent { IfRefused result (IsSpent (memo_of pool.new 0)) }
@@ -42,6 +43,7 @@ pub fn swept(pool: &mut Ground, roots: [u8; 12], life: &mut Life) -> Result<(), 
     requires long { length roots ≡ 12 }
     ensures calls { CallLeaves Off (KeepsRoots roots) result pool.old pool.new life.old.left life.new.left }
     ensures empty { IfOk result (λ u. (k : ℕ) → k < 16 → IsFree roots k → root_block pool.new k ≡ 0) }
+    ensures late { DiesAfter (sweep_steps pool.old.start.geometry) result pool.old pool.new life.old.left }
     ensures costs { IfOk result (λ u. Costs 0 (sweep_steps pool.old.start.geometry) pool.old pool.new life.old.left life.new.left) }
     ensures refused { IfRefused result (Spends 0 (sweep_steps pool.old.start.geometry) pool.old pool.new life.old.left life.new.left) }
     ensures spent { IfRefused result (IsSpent (memo_of pool.new 0)) }
@@ -66,6 +68,7 @@ pub fn emptied(pool: &mut Ground, root: u8, life: &mut Life) -> Result<(), Stop>
     ensures others { IfOk result (λ u. (k : ℕ) → k ≢ root → root_block pool.new k ≡ root_block pool.old k) }
     ensures empty { IfOk result (λ u. root < 16 → root_block pool.new root ≡ 0) }
     ensures still { IfRefused result (IsStill pool.old pool.new) }
+    ensures late { DiesAfter (drop_steps pool.old.start.geometry 0) result pool.old pool.new life.old.left }
     ensures costs { IfOk result (λ u. Costs 0 (drop_steps pool.old.start.geometry 0) pool.old pool.new life.old.left life.new.left) }
     ensures refused { IfRefused result (Spends 0 (drop_steps pool.old.start.geometry 0) pool.old pool.new life.old.left life.new.left) }
 {

@@ -3,13 +3,13 @@ use Rattle.std.proofs.Common.{◌≡◌, ℕ, ◌+◌, ◌≤◌, Bool, true, fa
 use Rattle.std.proofs.lemmas.Grind.{flat_map-append}
 use Rattle.std.specs.List.{flat_map}
 use Rattle.json.specs.Token.{Token, begin_object, end_object, end_array}
-use Rattle.json.specs.Json.{Json, null, number, string, array, object}
+use Rattle.json.specs.Json.{Json, null, number, object}
 use Rattle.json.specs.Tree.{json_tokens, items_tokens, members_tokens, depth, items_depth, members_depth}
 use Rattle.shm_audit.specs.declared.verdict.Verdict.{Verdict}
 use Rattle.shm_view.specs.declared.cell.Cell.{Cell, TheVariants.{Number, Client, Status}}
 use Rattle.shm_view.specs.declared.stats.Stats.{Stats}
 use Rattle.shm_view.specs.Tables.{Grid, grids_of}
-use Rattle.shm_view.specs.FiguresJson.{items_of, members_of, member_tokens, client_json, cell_json, row_members, row_json, rows_json, grid_member, verdict_member, figures_json}
+use Rattle.shm_view.specs.FiguresJson.{items_of, members_of, member_tokens, cell_json, row_members, row_json, grid_member, verdict_member, figures_json}
 
 -- ---- tokens
 

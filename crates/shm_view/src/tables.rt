@@ -15,16 +15,16 @@ use std::alloc::{AllocError, Global};
 pub fn tables_of(alloc: Global, stats: &Stats) -> Result<Vec<Table>, AllocError>
     ensures { IfOk result (λ v. map grid_of v.items ≡ grids_of stats.now) }
 {
-    let pool = pool_table(alloc, stats)?;
-    let owners = owners_table(alloc, stats.geometry, &stats.census.owners)?;
-    let classes = classes_table(alloc, &stats.census)?;
-    let counts = counts_table(alloc, &stats.census.counts)?;
-    let identities = identities_table(alloc, stats.identities.as_slice())?;
     let mut tables = Vec::new(alloc);
+    let pool = pool_table(alloc, stats)?;
     tables.push(pool)?;
+    let owners = owners_table(alloc, stats.geometry, &stats.census.owners)?;
     tables.push(owners)?;
+    let classes = classes_table(alloc, &stats.census)?;
     tables.push(classes)?;
+    let counts = counts_table(alloc, &stats.census.counts)?;
     tables.push(counts)?;
+    let identities = identities_table(alloc, stats.identities.as_slice())?;
     tables.push(identities)?;
     Ok(tables)
 }

@@ -2,11 +2,9 @@
 
 ghost use Rattle.std.specs.Prelude.{◌<◌};
 
-use crate::tests::closed_and_audited;
+use crate::checks::{Told, hold, live_after, wrong};
 use lojarnek::prelude::*;
-use shm_audit::Verdict;
 use std::alloc::Global;
-use std::test::Fail;
 use std::thread;
 use std::thread::Threads;
 
@@ -138,38 +136,39 @@ fn four<R: Threads + Sync>(rt: &R, pool: &Pool, steps: u64) -> Result<u32, Error
     )
 }
 
-/// Four clients in a pool of their own: how many rounds they played, and what the closed pool's audit says.
-fn played_and_audited<R: Threads + Sync>(
+/// Four clients in a pool of their own: whether they played more than 100 rounds, and left a clean pool.
+fn played<R: Threads + Sync>(
     rt: &R,
     alloc: Global,
     builder: Builder,
     steps: u64,
-) -> Result<(u32, Option<Verdict>), Error> {
+) -> Result<bool, Error> {
     let pool = builder.clients(4).segments(8).build(alloc)?;
     let played = four(rt, &pool, steps)?;
-    Ok((played, closed_and_audited(alloc, pool)))
+    Ok(100 < played && live_after(alloc, pool).is_some())
+}
+
+/// The same with three budgets.
+fn played_thrice<R: Threads + Sync>(rt: &R, alloc: Global, builder: Builder) -> Told {
+    Ok(wrong(&[
+        (
+            "lives from 100 word steps on",
+            played(rt, alloc, builder, 100)?,
+        ),
+        ("lives from 500 on", played(rt, alloc, builder, 500)?),
+        ("lives from 2,000 on", played(rt, alloc, builder, 2_000)?),
+    ]))
 }
 
 #[test]
-fn four_clients_die_and_are_recovered(rt: HostRuntime) -> Result<(), Fail> {
-    for steps in [100u64, 500, 2_000] {
-        let played = played_and_audited(&rt, rt.alloc(), Pool::builder(), steps)?;
-        assert!(rt;
-            100 < played.0 && matches!(played.1, Some(Verdict::Clean { .. })),
-            "{played:?}"
-        );
-    }
-    Ok(())
+fn four_clients_die_and_are_recovered(rt: HostRuntime) {
+    hold(&rt, played_thrice(&rt, rt.alloc(), Pool::builder()));
 }
 
 #[test]
-fn four_clients_on_blocks_die_and_are_recovered(rt: HostRuntime) -> Result<(), Fail> {
-    for steps in [100u64, 500, 2_000] {
-        let played = played_and_audited(&rt, rt.alloc(), Pool::builder().blocks(), steps)?;
-        assert!(rt;
-            100 < played.0 && matches!(played.1, Some(Verdict::Clean { .. })),
-            "{played:?}"
-        );
-    }
-    Ok(())
+fn four_clients_on_blocks_die_and_are_recovered(rt: HostRuntime) {
+    hold(
+        &rt,
+        played_thrice(&rt, rt.alloc(), Pool::builder().blocks()),
+    );
 }

@@ -16,7 +16,7 @@
 //! | `meet` | makes a call with a gate at which four clients meet before their first command, and clients 0 and 1 before their hundredth again; tells its status, how many came to each meeting, whether one of them waited in vain, and how many logs there are |
 //! | `clean` | has the program audit what the last call wrote, and tells the status and whether that is a clean image, but not how much is live in it, which threads may leave otherwise each time |
 //! | `lives A B` | makes calls in whose input 1 to A stands for `N`: without anything for `M`, and with a space and 1 to B. Tells for each of the A what the first call came to, where that is new, and with how many of the B the others came to the same |
-//! | `want CALL` | makes a call of a library: `parse`, `replay`, `run`, `report` or `migrate` with the input, or `plain N G`, `shared N G` or `close N G` with a pool of N clients and G segments; and tells whether there was memory for it |
+//! | `want CALL` | makes a call of a library: `parse`, `replay`, `run`, `report` or `migrate` with the input, or `plain N G`, `shared N G`, `close N G`, or lojarnek's `build N G` and `finish N G`, with a pool of N clients and G segments; and tells whether there was memory for it |
 //! | `words` | tells how many words the pool has that the last call handed out, and those that aren't 0, behind their addresses |
 //! | `answers` | tells the answers in the logs that it handed out, with the blocks that they name |
 //! | `args WORD ..` | tells the words of a call whose process has these |

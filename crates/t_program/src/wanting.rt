@@ -4,6 +4,7 @@ ghost use Rattle.std.specs.Prelude.{IfOk};
 ghost use Rattle.shm_words.specs.Layout.{GeometryFits};
 
 use crate::reading::pair;
+use lojarnek::{Error, NotClosed, Pool};
 use shm_audit::write_image;
 use shm_migrate::{MigrateStop, migrate};
 use shm_plain::PlainPool;
@@ -117,6 +118,14 @@ fn pooled(alloc: Global, name: &str, sizes: &str) -> Told {
             Ok("made")
         }
         "close" => closed(alloc, geometry),
+        "build" => match built(alloc, geometry) {
+            Ok(_) => Ok("made"),
+            Err(error) => why(error),
+        },
+        "finish" => match built(alloc, geometry) {
+            Ok(pool) => finished(alloc, pool),
+            Err(_) => Ok("no pool"),
+        },
         _ => Ok("no such call"),
     }
 }
@@ -142,6 +151,48 @@ fn closed(alloc: Global, geometry: Geometry) -> Told
         }),
         Err(_) => Ok("a token is missing"),
     }
+}
+
+/// What an error of lojarnek says.
+fn why(error: Error) -> Told {
+    match error {
+        Error::NoMemory => Err(AllocError),
+        _ => Ok("another error"),
+    }
+}
+
+/// `Builder::build` of a pool of these sizes.
+fn built(alloc: Global, geometry: Geometry) -> Result<Pool, Error> {
+    Pool::builder()
+        .clients(geometry.clients())
+        .segments(geometry.segments())
+        .build(alloc)
+}
+
+/// A client joins, puts a number and leaves.
+fn use_once(pool: &Pool) -> Result<(), Error> {
+    let mut client = pool.vacant(0)?.join();
+    client.put(5, 77)?;
+    client.leave()?;
+    Ok(())
+}
+
+/// `Pool::close` of a pool that was used; where it is refused, again, of the pool that the refusal gave back, which is used once more before.
+fn finished(alloc: Global, pool: Pool) -> Told {
+    if use_once(&pool).is_err() {
+        return Ok("not used");
+    }
+    let NotClosed { pool, error } = match pool.close(alloc) {
+        Ok(_) => return Ok("made"),
+        Err(stop) => stop,
+    };
+    if error != Error::NoMemory || use_once(&pool).is_err() {
+        return Ok("not closed");
+    }
+    Ok(match pool.close(alloc) {
+        Ok(_) => "refused, then made",
+        Err(_) => "refused twice",
+    })
 }
 
 /// The sizes of a pool, from a row.

@@ -1,8 +1,8 @@
 -- clients with nothing to finish: how they come to be so, and stay so
-use Rattle.std.proofs.Common.{◌≡◌, ℕ, Bool, refl, ◌∙◌}
+use Rattle.std.proofs.Common.{◌≡◌, ℕ, refl, ◌∙◌}
 use Rattle.std.specs.Prelude.{None, Some, slice_index}
 use Rattle.shm_graph.specs.{declared.memo.Memo.Memo, Agents.recovers, Held.is_loose}
-use Rattle.shm_plain.specs.{Calls.{IsAtWork, Ran}, Pools.{IsRun, Pool, memo_of}}
+use Rattle.shm_plain.specs.{Calls.IsAtWork, Pools.{IsRun, Pool, memo_of}}
 use Rattle.shm_count.specs.Waiting.{LeavesQueues, LeavesWaiting}
 use Rattle.shm_client.specs.Clear.{IsClear}
 use Rattle.t_uses.specs.Blocks.{HasRun, IsFree, IsHolding}

@@ -5,8 +5,7 @@ use Rattle.shm_graph.specs.{Asks.Trail, Events.Event, Held.is_loose, Laws.Contro
 use Rattle.shm_graph.specs.declared.memo.Memo.{Memo}
 use Rattle.shm_count.specs.{declared.answer.Made.Made, Roots.root_word}
 use Rattle.shm_count.proofs.RootSpots.{roots_reached}
-use Rattle.shm_pool.specs.{declared.reply.Reply.TheVariants.Done, Called.HasCalled, Doing.HasDone}
-use Rattle.shm_pool.specs.Tokens.{Acting}
+use Rattle.shm_pool.specs.{declared.reply.Reply.TheVariants.Done, Called.HasCalled, Doing.HasDone, Tokens.Acting}
 use Rattle.t_uses.specs.Singles.{HasBlock}
 
 -- who was answered lives

@@ -1,10 +1,8 @@
 -- pairs of blocks: how their roots, their reference and their home come to be so
-use Rattle.std.proofs.Common.{◌≡◌, ◌≢◌, ℕ, sym, ap, ◌∙◌, List}
+use Rattle.std.proofs.Common.{◌≡◌, ℕ, ap, List}
 use Rattle.std.specs.Prelude.{slice_index}
 use Rattle.shm_graph.specs.{declared.{ask.Me.Me, memo.Memo.Memo}, Asks.Trail, Events.Event, Held.is_loose}
-use Rattle.shm_count.specs.{declared.answer.Made.Made, Roots.root_word}
 use Rattle.shm_ref.specs.SetHome.{HomeFilled}
-use Rattle.t_uses.specs.Blocks.{AreRooted, IsMade}
 use Rattle.t_uses.proofs.Frees.{KeepsLists}
 
 -- a home that was set leaves what waits as it was

@@ -1,12 +1,12 @@
 -- clients of a pool that threads share: how they come to have nothing that waits, and stay so
-use Rattle.std.proofs.Common.{◌≡◌, ℕ, Bool, true, false, List, [], ◌∷◌, ◌++◌, refl, ap, ◌∙◌, subst}
+use Rattle.std.proofs.Common.{◌≡◌, ℕ, Bool, true, false, List, refl, ap, ◌∙◌, subst}
 use Rattle.std.specs.Prelude.{slice_index}
 use Rattle.shm_graph.specs.declared.{ask.Me.Me, memo.{Kind.TheVariants.Client, Memo.Memo}, run.Start.Start}
 use Rattle.shm_graph.specs.{Agents.entered, Asks.Trail, Events.Event, Held.is_loose, Laws.Control, Runs.first_memo}
 use Rattle.shm_graph.proofs.States.FirstHeld.{same_everywhere}
 use Rattle.shm_count.specs.Waiting.{LeavesQueues}
 use Rattle.shm_recover.specs.Join.{JoinGives, join_fresh}
-use Rattle.shm_pool.specs.{Called.Rests, declared.reply.Reply.TheVariants.Done, Doing.HasDone, Tokens.{Acting, Token}}
+use Rattle.shm_pool.specs.{Called.Rests, declared.reply.Reply.TheVariants.Done, Doing.HasDone, Tokens.Acting}
 use Rattle.t_uses.specs.Sharing.{IsQuiet}
 
 -- where it joins for the first time

@@ -2,10 +2,13 @@
 
 ghost use Rattle.std.specs.{Prelude.{◌≡◌, ◌==◌, ◌<◌, false, true, [], IfErr, IfOk, IfSome}, Option.is_some};
 ghost use Rattle.shm_words.specs.Layout.{GeometryFits};
-ghost use Rattle.shm_graph.specs.{Agents.recovers, Core.core, Reach.is_reached};
+ghost use Rattle.shm_graph.specs.{declared.memo.Memo.Memo as AMemo, Agents.recovers, Asks.Trail, Core.core};
+ghost use Rattle.shm_graph.specs.Reach.{is_reached};
+ghost use Rattle.plans.specs.CallsFit.{CallsFits};
 ghost use Rattle.shm_plain.specs.{Calls.{Did, IsAtWork, Ran}, Pools.{IsRun, memo_of}};
 ghost use Rattle.shm_count.specs.Roots.{root_word};
-ghost use Rattle.t_uses.specs.Compare.{CompareMay, comparing, compare_plan, Laws.{compare_laws, compare_task}};
+ghost use Rattle.t_uses.specs.Compare.{CompareCalls, CompareMay, comparing, compare_plan, root_of};
+ghost use Rattle.t_uses.specs.Compare.Laws.{compare_laws, compare_task};
 ghost use Rattle.t_uses.specs.declared.stop.Stop.TheVariants as stop;
 
 use crate::stop::Stop;
@@ -18,23 +21,13 @@ use shm_words::Geometry;
 use std::alloc::Global;
 use std::marker::Model;
 
-/// Which call of it comes next.
-#[derive(Clone, Copy, Drop)]
-pub enum ComparePoint {
-    /// What the first root names is asked.
-    First,
-    /// What the second root names is asked.
-    Second,
-}
-
-/// The control of it; `found` is what the first root was found to name.
+/// The control of it; `found` is what the first root was found to name, once it was asked.
 #[derive(Clone, Copy, Drop)]
 pub struct CompareState {
     pub me: Me,
     pub first: u8,
     pub second: u8,
-    pub found: u32,
-    pub point: ComparePoint,
+    pub found: Option<u32>,
 }
 
 /// The plan: two calls of `RootOf`, one after the other.
@@ -72,8 +65,7 @@ impl Compare {
                 me,
                 first,
                 second,
-                found: 0,
-                point: ComparePoint::First,
+                found: None,
             },
         }
     }
@@ -93,22 +85,21 @@ impl Plan for Compare {
 
     #[inline(always)]
     fn call(&self) -> Calls<RootOf> {
-        let root = match self.state.point {
-            ComparePoint::First => self.state.first,
-            ComparePoint::Second => self.state.second,
+        let root = match self.state.found {
+            None => self.state.first,
+            Some(_) => self.state.second,
         };
         Calls::new(RootOf::new(self.state.me, root))
     }
 
     #[inline(always)]
     fn next(&mut self, block: u32) -> Option<bool> {
-        match self.state.point {
-            ComparePoint::First => {
-                self.state.found = block;
-                self.state.point = ComparePoint::Second;
+        match self.state.found {
+            None => {
+                self.state.found = Some(block);
                 None
             }
-            ComparePoint::Second => Some(self.state.found == block),
+            Some(first) => Some(first == block),
         }
     }
 
@@ -120,6 +111,11 @@ impl Task for Compare {
 
     ghost tasks = { compare_task };
 }
+
+/// Whoever stops it on the way, after any word step, finds that nothing but reading was done.
+pub fn compare_reads()
+    ensures { (m : CompareCalls) (r0 r : AMemo) (tr : Trail) → CallsFits root_of compare_plan m r0 r tr → core r ≡ core r0 }
+{}
 
 /// Says whether two roots of `who` name the same block, or neither names one; none where no word step was left. It changes nothing.
 pub fn same_block(

@@ -1,13 +1,11 @@
 -- what the whole trails of commands show of why they were refused
-use Rattle.std.proofs.Common.{◌≡◌, ℕ, refl, subst, Bool, true, false, [], ◌++◌, Option, Some, None}
+use Rattle.std.proofs.Common.{◌≡◌, ℕ, refl, subst, Bool, false, [], ◌++◌, Option, Some, None}
 use Rattle.std.specs.Prelude.{Result, Ok, Err, ◌==◌, ◌-◌}
 use Rattle.shm_graph.specs.{declared.ask.Me.Me, Asks.Trail, Laws.Outcome}
 use Rattle.plans.specs.{declared.or.Or.TheVariants.{First, Second}, Plans.plan_trail}
-use Rattle.shm_count.specs.declared.answer.{EraSpent.EraSpent, ShareFault.ShareFault, UpFault.UpFault}
-use Rattle.shm_count.specs.UpRoot.Control.{rooting}
+use Rattle.shm_count.specs.{declared.answer.{EraSpent.EraSpent, UpFault.UpFault}, UpRoot.Control.rooting}
 use Rattle.shm_count.specs.declared.answer.UpFault.TheVariants as up
 use Rattle.shm_count.specs.declared.point.Aim.TheVariants as aims
-use Rattle.shm_alloc.specs.declared.alloc.AllocFault.{AllocFault}
 use Rattle.shm_queue.specs.declared.{answer.SendFault.SendFault, send.{SendPoint.SendPoint, SendState.SendState}}
 use Rattle.shm_queue.specs.Answers.{send_fault}
 use Rattle.shm_queue.specs.Send.Control.{SendAnswer, send_after, send_call_at, send_turns, sending, slot_at}
@@ -19,7 +17,7 @@ use Rattle.shm_script.specs.declared.log.Answer.{Answer}
 use Rattle.shm_script.specs.declared.log.Answer.TheVariants as answer
 use Rattle.shm_table.specs.declared.{answer.PutFault.PutFault, copy.{CopyPoint.CopyPoint, CopyState.CopyState}}
 use Rattle.shm_table.specs.declared.{del.{DelPoint.DelPoint, DelState.DelState}, enter.Entered.Entered}
-use Rattle.shm_table.specs.declared.{enter.Entered.TheVariants.{Linked, Unlinked, Unmade}, fetch.Fetched.Fetched}
+use Rattle.shm_table.specs.declared.{enter.Entered.TheVariants.{Unlinked, Unmade}, fetch.Fetched.Fetched}
 use Rattle.shm_table.specs.declared.fetch.{FetchPoint.FetchPoint, FetchState.FetchState}
 use Rattle.shm_table.specs.declared.fetch_head.{FetchedHead.FetchedHead, FetchHeadPoint.FetchHeadPoint}
 use Rattle.shm_table.specs.declared.{fetch_head.FetchHeadState.FetchHeadState, find.Found.TheVariants.{Absent, At}}
@@ -73,29 +71,9 @@ module _ (me : Me) where
   put_root_shows : (p : PutRootState) (t : Trail) (a : Result Bool PutFault) → (p.me ≡ me) × Faulty me p.refused [] → plan_trail put_root_plan p t a → Faulty me (fault_of a) t
   put_root_shows p t a = along_plan put_root_plan (λ p tr. (p.me ≡ me) × Faulty me p.refused tr) (λ a. Faulty me (fault_of a)) (λ p tr t b k h. go p p.point tr t b k h) p t a
     where
-      opened : (p : PutRootState) (y : PutRootPoint) (f : PutFault) (tr t : Trail) → p.me ≡ me → put_root_part.asks (put_root_call p y) t (First (First (Err f))) → Shows me (fault_answer f) (tr ++ t)
-      opened p root.Open f tr t k h = shows_later me (fault_answer f) tr t (open_shows me (opening p.me) t (Err f) k h)
-      opened p root.Locate f tr t k h = absurd h
-      opened p root.Replace f tr t k h = absurd h
-      opened p root.Enter f tr t k h = absurd h
-      opened p root.Unlatch f tr t k h = absurd h
-      opened p root.Drop f tr t k h = absurd h
-
-      replaced : (p : PutRootState) (y : PutRootPoint) (f : PutFault) (tr t : Trail) → p.me ≡ me → put_root_part.asks (put_root_call p y) t (Second (First (First (Err f)))) → Shows me (fault_answer f) (tr ++ t)
-      replaced p root.Replace f tr t k h = shows_later me (fault_answer f) tr t (replace_shows me (replacing p.me p.entry p.value) t (Err f) k h)
-      replaced p root.Open f tr t k h = absurd h
-      replaced p root.Locate f tr t k h = absurd h
-      replaced p root.Enter f tr t k h = absurd h
-      replaced p root.Unlatch f tr t k h = absurd h
-      replaced p root.Drop f tr t k h = absurd h
-
       entered : (p : PutRootState) (y : PutRootPoint) (a : Entered) (t : Trail) → p.me ≡ me → put_root_part.asks (put_root_call p y) t (Second (First (Second a))) → EnteredSo me a t
       entered p root.Enter a t k h = enter_shows me (entering p.me p.key p.value p.home p.first) t a k h
-      entered p root.Open a t k h = absurd h
-      entered p root.Locate a t k h = absurd h
-      entered p root.Replace a t k h = absurd h
-      entered p root.Unlatch a t k h = absurd h
-      entered p root.Drop a t k h = absurd h
+      entered p _ a t k h = absurd h
 
       dropped : (p : PutRootState) (y : PutRootPoint) (e : EraSpent) (tr t : Trail) → p.me ≡ me → put_root_part.asks (put_root_call p y) t (Second (Second (Second (Err e)))) → LoadsEra me e.era (tr ++ t)
       dropped p root.Drop e tr t k h = spent_drop p.me (root_or p.root) e tr t k h
@@ -111,13 +89,11 @@ module _ (me : Me) where
 
       go : (p : PutRootState) (y : PutRootPoint) (tr t : Trail) (b : PutRootAnswer) → (p.me ≡ me) × Faulty me p.refused tr → put_root_part.asks (put_root_call p y) t b
           → Outcome (put_root_turns p b) (((put_root_after p b).me ≡ me) × Faulty me (put_root_after p b).refused (tr ++ t)) (λ a. Faulty me (fault_of a) (tr ++ t))
-      go p y tr t (First (First (Ok done))) k h = (k.0, faulty_more me p.refused tr t k.1)
-      go p y tr t (First (First (Err f))) k h = opened p y f tr t k.0 h
       go p y tr t (First (Second (At e b w))) k h = (k.0, faulty_more me p.refused tr t k.1)
-      go p y tr t (First (Second (Absent x b))) k h = (k.0, faulty_more me p.refused tr t k.1)
-      go p y tr t (Second (First (First (Ok z)))) k h = (k.0, tt)
-      go p y tr t (Second (First (First (Err f)))) k h = (k.0, replaced p y f tr t k.0 h)
-      go p y tr t (Second (First (Second (Linked j)))) k h = (k.0, tt)
+      go p root.Open tr t (First (First (Err f))) k h = shows_later me (fault_answer f) tr t (open_shows me (opening p.me) t (Err f) k.0 h)
+      go p _ tr t (First (First (Err f))) k h = absurd h
+      go p root.Replace tr t (Second (First (First (Err f)))) k h = (k.0, shows_later me (fault_answer f) tr t (replace_shows me (replacing p.me p.entry p.value) t (Err f) k.0 h))
+      go p _ tr t (Second (First (First (Err f)))) k h = absurd h
       go p y tr t (Second (First (Second (Unlinked j f)))) k h = (k.0, shows_later me (fault_answer f) tr t (entered p y (Unlinked j f) t k.0 h))
       go p y tr t (Second (First (Second (Unmade f)))) k h = (k.0, shows_later me (fault_answer f) tr t (entered p y (Unmade f) t k.0 h))
       go p y tr t (Second (Second (First done))) k h = freed p p.root tr t k
@@ -127,6 +103,8 @@ module _ (me : Me) where
           stuck : (z : Bool) (o : Option PutFault) → Faulty me (fault_of (stuck_answer z o e)) (tr ++ t)
           stuck z None = tt
           stuck z (Some f) = dropped p y e tr t k.0 h
+      go p y tr t (First _) k h = (k.0, faulty_more me p.refused tr t k.1)
+      go p y tr t (Second (First _)) k h = (k.0, tt)
 
   -- as a call
   root_shows : (own : Me) (key b : ℕ) (f : PutFault) (tr t : Trail) → own ≡ me → plan_trail put_root_plan (putting_root own key b) t (Err f) → Shows me (fault_answer f) (tr ++ t)
@@ -139,20 +117,12 @@ module _ (me : Me) where
   FetchedSo a tr = Unit {0}
 
   fetched_more : (a : Fetched) (tr t : Trail) → FetchedSo a tr → FetchedSo a (tr ++ t)
-  fetched_more fetched.Missing tr t h = tt
   fetched_more (fetched.Refused f) tr t h = shows_more me (fault_answer f) tr t h
-  fetched_more (fetched.Rooted k b n) tr t h = tt
+  fetched_more _ tr t h = tt
 
   fetch_shows : (p : FetchState) (t : Trail) (a : Fetched) → (p.me ≡ me) × FetchedSo p.outcome [] → plan_trail fetch_plan p t a → FetchedSo a t
   fetch_shows p t a = along_plan fetch_plan (λ p tr. (p.me ≡ me) × FetchedSo p.outcome tr) FetchedSo (λ p tr t b k h. go p p.point tr t b k h) p t a
     where
-      shared : (p : FetchState) (y : FetchPoint) (f : ShareFault) (tr t : Trail) → p.me ≡ me → (fetch_part p y).asks (fetch_call p y) t (Second (Second (First (Err f)))) → Shows me (fault_answer (shared_fault f)) (tr ++ t)
-      shared p fetch.Share f tr t k h = shows_later me (fault_answer (shared_fault f)) tr t (rooting_shows me (rooting p.me p.block) t (Err f) k refl h)
-      shared p fetch.Search f tr t k h = absurd h
-      shared p fetch.Value f tr t k h = absurd h
-      shared p fetch.Number f tr t k h = absurd h
-      shared p fetch.Give f tr t k h = absurd h
-
       read : (p : FetchState) (y : FetchPoint) (n : ℕ) (tr t : Trail) → (p.me ≡ me) × FetchedSo p.outcome tr → let x = fetch_after (record p { point = y }) (Second (First n)) in (x.me ≡ me) × FetchedSo x.outcome (tr ++ t)
       read p fetch.Value n tr t k = (k.0, fetched_more p.outcome tr t k.1)
       read p _ n tr t k = (k.0, fetched_more p.outcome tr t k.1)
@@ -160,11 +130,11 @@ module _ (me : Me) where
       go : (p : FetchState) (y : FetchPoint) (tr t : Trail) (b : FetchAnswer) → (p.me ≡ me) × FetchedSo p.outcome tr → (fetch_part p y).asks (fetch_call p y) t b
           → Outcome (fetch_turns (record p { point = y }) b) (((fetch_after (record p { point = y }) b).me ≡ me) × FetchedSo (fetch_after (record p { point = y }) b).outcome (tr ++ t)) (λ a. FetchedSo a (tr ++ t))
       go p y tr t (First (At e b w)) k h = (k.0, fetched_more p.outcome tr t k.1)
-      go p y tr t (First (Absent x b)) k h = (k.0, tt)
       go p y tr t (Second (First n)) k h = read p y n tr t k
-      go p y tr t (Second (Second (First (Ok j)))) k h = (k.0, tt)
-      go p y tr t (Second (Second (First (Err f)))) k h = (k.0, shared p y f tr t k.0 h)
+      go p fetch.Share tr t (Second (Second (First (Err f)))) k h = (k.0, shows_later me (fault_answer (shared_fault f)) tr t (rooting_shows me (rooting p.me p.block) t (Err f) k.0 refl h))
+      go p _ tr t (Second (Second (First (Err f)))) k h = absurd h
       go p y tr t (Second (Second (Second done))) k h = fetched_more p.outcome tr t k.1
+      go p y tr t _ k h = (k.0, tt)
 
   abbrev HeadSo : FetchedHead → Trail → Type 0
   HeadSo (head.Refused f) tr = Shows me (fault_answer f) tr
@@ -173,45 +143,25 @@ module _ (me : Me) where
   fetch_head_shows : (p : FetchHeadState) (t : Trail) (a : FetchedHead) → p.me ≡ me → plan_trail fetch_head_plan p t a → HeadSo a t
   fetch_head_shows p t a is = along_plan fetch_head_plan (λ p tr. p.me ≡ me) HeadSo (λ p tr t b k h. go p p.point tr t b k h) p t a is
     where
-      shared : (p : FetchHeadState) (y : FetchHeadPoint) (f : ShareFault) (tr t : Trail) → p.me ≡ me → (fetch_head_part p y).asks (fetch_head_call p y) t (Second (Err f)) → Shows me (fault_answer (shared_fault f)) (tr ++ t)
-      shared p fetch_head.Share f tr t k h = shows_later me (fault_answer (shared_fault f)) tr t (rooting_shows me (rooting p.me p.block) t (Err f) k refl h)
-      shared p fetch_head.Head f tr t k h = absurd h
-      shared p fetch_head.Tail f tr t k h = absurd h
-      shared p fetch_head.Slot f tr t k h = absurd h
-      shared p fetch_head.Number f tr t k h = absurd h
-
       read : (p : FetchHeadState) (y : FetchHeadPoint) (n : ℕ) (u : Trail) → p.me ≡ me → Outcome (read_turns p y n) ((read_after p y n).me ≡ me) (λ a. HeadSo a u)
       read p fetch_head.Tail n u k = either_way (n == p.at) (Some (head.Empty p.at)) None (p.me ≡ me) (λ a. HeadSo a u) tt k
-      read p fetch_head.Head n u k = k
-      read p fetch_head.Slot n u k = k
-      read p fetch_head.Number n u k = k
-      read p fetch_head.Share n u k = k
+      read p _ n u k = k
 
       go : (p : FetchHeadState) (y : FetchHeadPoint) (tr t : Trail) (b : FetchHeadAnswer) → p.me ≡ me → (fetch_head_part p y).asks (fetch_head_call p y) t b
           → Outcome (fetch_head_turns (record p { point = y }) b) ((fetch_head_after (record p { point = y }) b).me ≡ me) (λ a. HeadSo a (tr ++ t))
       go p y tr t (First n) k h = read (record p { point = y }) y n (tr ++ t) k
       go p y tr t (Second (Ok j)) k h = tt
-      go p y tr t (Second (Err f)) k h = shared p y f tr t k h
+      go p fetch_head.Share tr t (Second (Err f)) k h = shows_later me (fault_answer (shared_fault f)) tr t (rooting_shows me (rooting p.me p.block) t (Err f) k refl h)
+      go p _ tr t (Second (Err f)) k h = absurd h
 
   -- ---- put, copy and receive
 
   pub put_shows : (p : PutState) (t : Trail) (a : Answer) → (p.me ≡ me) × Faulty me p.refused [] → plan_trail put_plan p t a → Shows me a t
   put_shows p t a = along_plan put_plan (λ p tr. (p.me ≡ me) × Faulty me p.refused tr) (Shows me) (λ p tr t b k h. go p p.point tr t b k h) p t a
     where
-      made : (p : PutState) (y : PutPoint) (f : AllocFault) (tr t : Trail) → p.me ≡ me → put_part.asks (put_call_at p y) t (First (Err f)) → Shows me (fault_answer (made_fault f)) (tr ++ t)
-      made p put.Make f tr t k h = subst (λ x. Shows x (fault_answer (made_fault f)) (tr ++ t)) k (alloc_shows p.me (value_request p.number) f tr t refl h)
-      made p put.Put f tr t k h = absurd h
-      made p put.Drop f tr t k h = absurd h
-
       dropped : (p : PutState) (y : PutPoint) (e : EraSpent) (tr t : Trail) → p.me ≡ me → put_part.asks (put_call_at p y) t (Second (Second (Err e))) → LoadsEra me e.era (tr ++ t)
       dropped p put.Drop e tr t k h = spent_drop p.me p.root e tr t k h
-      dropped p put.Make e tr t k h = absurd h
-      dropped p put.Put e tr t k h = absurd h
-
-      refused : (p : PutState) (y : PutPoint) (f : PutFault) (tr t : Trail) → p.me ≡ me → put_part.asks (put_call_at p y) t (Second (First (Err f))) → Shows me (fault_answer f) (tr ++ t)
-      refused p put.Put f tr t k h = root_shows p.me p.key p.block f tr t k h
-      refused p put.Make f tr t k h = absurd h
-      refused p put.Drop f tr t k h = absurd h
+      dropped p _ e tr t k h = absurd h
 
       answered : (b : ℕ) (o : Option PutFault) (u : Trail) → Faulty me o u → Shows me (puts.put_answer b o) u
       answered b None u h = tt
@@ -220,9 +170,11 @@ module _ (me : Me) where
       go : (p : PutState) (y : PutPoint) (tr t : Trail) (b : PutAnswer) → (p.me ≡ me) × Faulty me p.refused tr → put_part.asks (put_call_at p y) t b
           → Outcome (put_turns p b) (((put_after p b).me ≡ me) × Faulty me (put_after p b).refused (tr ++ t)) (λ a. Shows me a (tr ++ t))
       go p y tr t (First (Ok b)) k h = (k.0, faulty_more me p.refused tr t k.1)
-      go p y tr t (First (Err f)) k h = made p y f tr t k.0 h
+      go p put.Make tr t (First (Err f)) k h = subst (λ x. Shows x (fault_answer (made_fault f)) (tr ++ t)) k.0 (alloc_shows p.me (value_request p.number) f tr t refl h)
+      go p _ tr t (First (Err f)) k h = absurd h
       go p y tr t (Second (First (Ok z))) k h = (k.0, tt)
-      go p y tr t (Second (First (Err f))) k h = (k.0, refused p y f tr t k.0 h)
+      go p put.Put tr t (Second (First (Err f))) k h = (k.0, root_shows p.me p.key p.block f tr t k.0 h)
+      go p _ tr t (Second (First (Err f))) k h = absurd h
       go p y tr t (Second (Second (Ok z))) k h = answered p.block p.refused (tr ++ t) (faulty_more me p.refused tr t k.1)
       go p y tr t (Second (Second (Err e))) k h = stuck p.refused
         where
@@ -237,28 +189,19 @@ module _ (me : Me) where
   pub copy_shows : (p : CopyState) (t : Trail) (a : Answer) → (p.me ≡ me) × Faulty me p.refused [] → plan_trail copy_plan p t a → Shows me a t
   copy_shows p t a = along_plan copy_plan (λ p tr. (p.me ≡ me) × Faulty me p.refused tr) (Shows me) (λ p tr t b k h. go p p.point tr t b k h) p t a
     where
-      unfetched : (p : CopyState) (y : CopyPoint) (f : PutFault) (tr t : Trail) → p.me ≡ me → copy_part.asks (copy_call_at p y) t (First (fetched.Refused f)) → Shows me (fault_answer f) (tr ++ t)
-      unfetched p copy.Fetch f tr t k h = shows_later me (fault_answer f) tr t (fetch_shows (fetching p.me p.author p.other) t (fetched.Refused f) (k, tt) h)
-      unfetched p copy.Put f tr t k h = absurd h
-      unfetched p copy.Drop f tr t k h = absurd h
-
       dropped : (p : CopyState) (y : CopyPoint) (e : EraSpent) (tr t : Trail) → p.me ≡ me → copy_part.asks (copy_call_at p y) t (Second (Second (Err e))) → LoadsEra me e.era (tr ++ t)
       dropped p copy.Drop e tr t k h = spent_drop p.me p.root e tr t k h
-      dropped p copy.Fetch e tr t k h = absurd h
-      dropped p copy.Put e tr t k h = absurd h
-
-      refused : (p : CopyState) (y : CopyPoint) (f : PutFault) (tr t : Trail) → p.me ≡ me → copy_part.asks (copy_call_at p y) t (Second (First (Err f))) → Shows me (fault_answer f) (tr ++ t)
-      refused p copy.Put f tr t k h = root_shows p.me p.key p.block f tr t k h
-      refused p copy.Fetch f tr t k h = absurd h
-      refused p copy.Drop f tr t k h = absurd h
+      dropped p _ e tr t k h = absurd h
 
       go : (p : CopyState) (y : CopyPoint) (tr t : Trail) (b : CopyAnswer) → (p.me ≡ me) × Faulty me p.refused tr → copy_part.asks (copy_call_at p y) t b
           → Outcome (copy_turns p b) (((copy_after p b).me ≡ me) × Faulty me (copy_after p b).refused (tr ++ t)) (λ a. Shows me a (tr ++ t))
       go p y tr t (First fetched.Missing) k h = tt
-      go p y tr t (First (fetched.Refused f)) k h = unfetched p y f tr t k.0 h
+      go p copy.Fetch tr t (First (fetched.Refused f)) k h = shows_later me (fault_answer f) tr t (fetch_shows (fetching p.me p.author p.other) t (fetched.Refused f) (k.0, tt) h)
+      go p _ tr t (First (fetched.Refused f)) k h = absurd h
       go p y tr t (First (fetched.Rooted j b n)) k h = (k.0, faulty_more me p.refused tr t k.1)
       go p y tr t (Second (First (Ok z))) k h = (k.0, tt)
-      go p y tr t (Second (First (Err f))) k h = (k.0, refused p y f tr t k.0 h)
+      go p copy.Put tr t (Second (First (Err f))) k h = (k.0, root_shows p.me p.key p.block f tr t k.0 h)
+      go p _ tr t (Second (First (Err f))) k h = absurd h
       go p y tr t (Second (Second (Ok z))) k h = copied p.number p.block p.refused (tr ++ t) (faulty_more me p.refused tr t k.1)
       go p y tr t (Second (Second (Err e))) k h = stuck p.refused
         where
@@ -269,38 +212,25 @@ module _ (me : Me) where
   pub recv_shows : (p : RecvState) (t : Trail) (a : Answer) → (p.me ≡ me) × Faulty me p.refused [] → plan_trail recv_plan p t a → Shows me a t
   recv_shows p t a = along_plan recv_plan (λ p tr. (p.me ≡ me) × Faulty me p.refused tr) (Shows me) (λ p tr t b k h. go p p.point tr t b k h) p t a
     where
-      unfetched : (p : RecvState) (y : RecvPoint) (f : PutFault) (tr t : Trail) → p.me ≡ me → recv_part.asks (recv_call_at p y) t (First (First (head.Refused f))) → Shows me (fault_answer f) (tr ++ t)
-      unfetched p recv.Fetch f tr t k h = shows_later me (fault_answer f) tr t (fetch_head_shows (fetching_head p.me p.from) t (head.Refused f) k h)
-      unfetched p recv.Put f tr t k h = absurd h
-      unfetched p recv.Take f tr t k h = absurd h
-      unfetched p recv.Drop f tr t k h = absurd h
-
       dropped : (p : RecvState) (y : RecvPoint) (e : EraSpent) (tr t : Trail) → p.me ≡ me → recv_part.asks (recv_call_at p y) t (Second (Second (Err e))) → LoadsEra me e.era (tr ++ t)
       dropped p recv.Drop e tr t k h = spent_drop p.me p.root e tr t k h
-      dropped p recv.Fetch e tr t k h = absurd h
-      dropped p recv.Put e tr t k h = absurd h
-      dropped p recv.Take e tr t k h = absurd h
-
-      refused : (p : RecvState) (y : RecvPoint) (f : PutFault) (tr t : Trail) → p.me ≡ me → recv_part.asks (recv_call_at p y) t (Second (First (Err f))) → Shows me (fault_answer f) (tr ++ t)
-      refused p recv.Put f tr t k h = root_shows p.me p.key p.block f tr t k h
-      refused p recv.Fetch f tr t k h = absurd h
-      refused p recv.Take f tr t k h = absurd h
-      refused p recv.Drop f tr t k h = absurd h
+      dropped p _ e tr t k h = absurd h
 
       go : (p : RecvState) (y : RecvPoint) (tr t : Trail) (b : RecvAnswer) → (p.me ≡ me) × Faulty me p.refused tr → recv_part.asks (recv_call_at p y) t b
           → Outcome (recv_turns p b) (((recv_after p b).me ≡ me) × Faulty me (recv_after p b).refused (tr ++ t)) (λ a. Shows me a (tr ++ t))
       go p y tr t (First (First (head.Empty n))) k h = tt
-      go p y tr t (First (First (head.Refused f))) k h = unfetched p y f tr t k.0 h
-      go p y tr t (First (First (head.Rooted j b v n))) k h = (k.0, faulty_more me p.refused tr t k.1)
-      go p y tr t (First (Second a)) k h = (k.0, faulty_more me p.refused tr t k.1)
+      go p recv.Fetch tr t (First (First (head.Refused f))) k h = shows_later me (fault_answer f) tr t (fetch_head_shows (fetching_head p.me p.from) t (head.Refused f) k.0 h)
+      go p _ tr t (First (First (head.Refused f))) k h = absurd h
       go p y tr t (Second (First (Ok z))) k h = (k.0, tt)
-      go p y tr t (Second (First (Err f))) k h = (k.0, refused p y f tr t k.0 h)
+      go p recv.Put tr t (Second (First (Err f))) k h = (k.0, root_shows p.me p.key p.block f tr t k.0 h)
+      go p _ tr t (Second (First (Err f))) k h = absurd h
       go p y tr t (Second (Second (Ok z))) k h = copied p.number p.block p.refused (tr ++ t) (faulty_more me p.refused tr t k.1)
       go p y tr t (Second (Second (Err e))) k h = stuck p.refused
         where
           stuck : (o : Option PutFault) → Shows me (copies.stuck_answer p.number p.block o e) (tr ++ t)
           stuck None = tt
           stuck (Some f) = dropped p y e tr t k.0 h
+      go p y tr t (First _) k h = (k.0, faulty_more me p.refused tr t k.1)
 
   -- ---- send
 
@@ -315,29 +245,20 @@ module _ (me : Me) where
       go p send.Tail tr t (First n) k h = k
       go p send.Head tr t (First n) k h = either_way (p.tail - n == 8) (Some (Err (sent_fault.QueueFull n p.tail))) None (p.me ≡ me) (λ a. Shows me (sent_answer a) (tr ++ t)) tt k
       go p send.Store tr t (First n) k h = tt
-      go p send.Up tr t (First n) k h = absurd h
       go p send.Up tr t (Second (Ok done)) k h = k
       go p send.Up tr t (Second (Err f)) k h = raised p f tr t k h
-      go p send.Tail tr t (Second b) k h = absurd h
-      go p send.Head tr t (Second b) k h = absurd h
-      go p send.Store tr t (Second b) k h = absurd h
+      go p _ tr t _ k h = absurd h
 
   pub send_key_shows : (p : SendKeyState) (t : Trail) (a : Answer) → (p.me ≡ me) × Shows me p.outcome [] → plan_trail send_key_plan p t a → Shows me a t
   send_key_shows p t a = along_plan send_key_plan (λ p tr. (p.me ≡ me) × Shows me p.outcome tr) (Shows me) (λ p tr t b k h. go p p.point tr t b k h) p t a
     where
-      sent : (p : SendKeyState) (y : SendKeyPoint) (a : Result ℕ SendFault) (tr t : Trail) → p.me ≡ me → (send_key_part p y).asks (send_key_call p y) t (Second (Second (First a))) → Shows me (sent_answer a) (tr ++ t)
-      sent p send_key.Send a tr t k h = shows_later me (sent_answer a) tr t (send_shows (sending p.me p.to p.block) t a k h)
-      sent p send_key.Search a tr t k h = absurd h
-      sent p send_key.Value a tr t k h = absurd h
-      sent p send_key.Give a tr t k h = absurd h
-
       go : (p : SendKeyState) (y : SendKeyPoint) (tr t : Trail) (b : SendKeyAnswer) → (p.me ≡ me) × Shows me p.outcome tr → (send_key_part p y).asks (send_key_call p y) t b
           → Outcome (send_key_turns p b) (((send_key_after p b).me ≡ me) × Shows me (send_key_after p b).outcome (tr ++ t)) (λ a. Shows me a (tr ++ t))
-      go p y tr t (First (At e b w)) k h = (k.0, shows_more me p.outcome tr t k.1)
       go p y tr t (First (Absent x b)) k h = (k.0, tt)
-      go p y tr t (Second (First n)) k h = (k.0, shows_more me p.outcome tr t k.1)
-      go p y tr t (Second (Second (First a))) k h = (k.0, sent p y a tr t k.0 h)
+      go p send_key.Send tr t (Second (Second (First a))) k h = (k.0, shows_later me (sent_answer a) tr t (send_shows (sending p.me p.to p.block) t a k.0 h))
+      go p _ tr t (Second (Second (First a))) k h = absurd h
       go p y tr t (Second (Second (Second done))) k h = shows_more me p.outcome tr t k.1
+      go p y tr t _ k h = (k.0, shows_more me p.outcome tr t k.1)
 
   -- ---- removal
 
@@ -348,38 +269,23 @@ module _ (me : Me) where
   unlink_shows : (p : UnlinkState) (t : Trail) (a : Result (Unit {0}) UpFault) → p.me ≡ me → plan_trail unlink_plan p t a → Cut a t
   unlink_shows p t a is = along_plan unlink_plan (λ p tr. p.me ≡ me) Cut (λ p tr t b k h. go p p.point tr t b k h) p t a is
     where
-      lowered : (p : UnlinkState) (y : UnlinkPoint) (e : EraSpent) (tr t : Trail) → p.me ≡ me → (unlink_plan.part (record p { point = y })).asks (unlink_call_at p y) t (Second (First (Err e))) → LoadsEra me e.era (tr ++ t)
-      lowered p unlink.Lower e tr t k h = step_shows me p.me (link_at p) (aims.Down p.entry) (up.EraSpent e.era) tr t k h
-      lowered p unlink.Look e tr t k h = absurd h
-      lowered p unlink.Change e tr t k h = absurd h
-      lowered p unlink.Tear e tr t k h = absurd h
-
-      changed : (p : UnlinkState) (y : UnlinkPoint) (f : UpFault) (tr t : Trail) → p.me ≡ me → (unlink_plan.part (record p { point = y })).asks (unlink_call_at p y) t (Second (Second (First (Err f)))) → Shows me (fault_answer (raised_fault f)) (tr ++ t)
-      changed p unlink.Change f tr t k h = step_shows me p.me (link_at p) (aims.Change p.entry p.next) f tr t k h
-      changed p _ f tr t k h = absurd h
-
       go : (p : UnlinkState) (y : UnlinkPoint) (tr t : Trail) (b : UnlinkAnswer) → p.me ≡ me → (unlink_plan.part (record p { point = y })).asks (unlink_call_at p y) t b → Outcome (unlink_turns p b) ((unlink_after p b).me ≡ me) (λ a. Cut a (tr ++ t))
-      go p y tr t (First n) k h = k
-      go p y tr t (Second (First (Ok true))) k h = k
       go p y tr t (Second (First (Ok false))) k h = tt
-      go p y tr t (Second (First (Err e))) k h = lowered p y e tr t k h
-      go p y tr t (Second (Second (First (Ok true)))) k h = k
+      go p unlink.Lower tr t (Second (First (Err e))) k h = step_shows me p.me (link_at p) (aims.Down p.entry) (up.EraSpent e.era) tr t k h
+      go p _ tr t (Second (First (Err e))) k h = absurd h
       go p y tr t (Second (Second (First (Ok false)))) k h = tt
-      go p y tr t (Second (Second (First (Err f)))) k h = changed p y f tr t k h
+      go p unlink.Change tr t (Second (Second (First (Err f)))) k h = step_shows me p.me (link_at p) (aims.Change p.entry p.next) f tr t k h
+      go p _ tr t (Second (Second (First (Err f)))) k h = absurd h
       go p y tr t (Second (Second (Second a))) k h = tt
+      go p y tr t _ k h = k
 
   pub del_shows : (p : DelState) (t : Trail) (a : Answer) → (p.me ≡ me) × Shows me p.answer [] → plan_trail del_plan p t a → Shows me a t
   del_shows p t a = along_plan del_plan (λ p tr. (p.me ≡ me) × Shows me p.answer tr) (Shows me) (λ p tr t b k h. go p p.point tr t b k h) p t a
     where
-      cut : (p : DelState) (y : DelPoint) (f : UpFault) (tr t : Trail) → p.me ≡ me → del_part.asks (del_call_at p y) t (Second (First (Err f))) → Shows me (fault_answer (raised_fault f)) (tr ++ t)
-      cut p del.Cut f tr t k h = shows_later me (fault_answer (raised_fault f)) tr t (unlink_shows (unlinking p.me p.entry p.before p.word) t (Err f) k h)
-      cut p del.Search f tr t k h = absurd h
-      cut p del.Back f tr t k h = absurd h
-
       go : (p : DelState) (y : DelPoint) (tr t : Trail) (b : DelCallAnswer) → (p.me ≡ me) × Shows me p.answer tr → del_part.asks (del_call_at p y) t b
           → Outcome (del_turns p b) (((del_after p b).me ≡ me) × Shows me (del_after p b).answer (tr ++ t)) (λ a. Shows me a (tr ++ t))
       go p y tr t (First (At e b w)) k h = (k.0, shows_more me p.answer tr t k.1)
-      go p y tr t (First (Absent x b)) k h = (k.0, tt)
-      go p y tr t (Second (First (Ok done))) k h = (k.0, tt)
-      go p y tr t (Second (First (Err f))) k h = (k.0, cut p y f tr t k.0 h)
+      go p del.Cut tr t (Second (First (Err f))) k h = (k.0, shows_later me (fault_answer (raised_fault f)) tr t (unlink_shows (unlinking p.me p.entry p.before p.word) t (Err f) k.0 h))
+      go p _ tr t (Second (First (Err f))) k h = absurd h
       go p y tr t (Second (Second done)) k h = shows_more me p.answer tr t k.1
+      go p y tr t _ k h = (k.0, tt)

@@ -10,7 +10,7 @@ use Rattle.shm_graph.specs.{Asks.{Trail, pair}, Trails.{Answers, Asked, Chosen}}
 use Rattle.kind_laws.proofs.Lists.{newest}
 use Rattle.shm_count.specs.declared.answer.{EraSpent.EraSpent as ASpent, UpFault.UpFault}
 use Rattle.shm_count.specs.declared.{answer.UpFault.TheVariants.{EraSpent, CountFull}, point.Aim.Aim}
-use Rattle.shm_count.specs.declared.point.{Aim.TheVariants.{Up, Down, Change}, Half.TheVariants.First}
+use Rattle.shm_count.specs.declared.point.{Aim.TheVariants.{Down, Change}, Half.TheVariants.First}
 use Rattle.shm_count.specs.Step.Asks.{StepTrails, exchange_trail, show_trail, row_trail, header_trail, set_trail, load_trail, end_trail, close_trail, slot_trail, redo_trail, step_trail, first_trail, more_trail}
 use Rattle.shm_count.specs.Step.Control.{last_era, block_at, raises, value_after, redo_at, count_after, row_address, spent}
 use Rattle.shm_count.specs.Tear.Asks.{OnTrails, TearTrails, after_down, enter_trail, free_trail, link_trail, next_trail, on_trail, return_trail, tear_trail, word_trail}
@@ -71,10 +71,9 @@ module _ (P : UpFault → Type 0) where
     end_ends e z = ends_asked (Store (address me.geometry (place.Era me.who me.who)) (e + 1)) (λ _. Answers (Ok z)) (λ _. ends_done z)
 
     close_ends : (x : Aim) (e : ℕ) (z : Bool) → Ends (close_trail me x e z)
-    close_ends (Up b) e z = end_ends e z
-    close_ends (Down b) e z = end_ends e z
     close_ends (Change a b) e z =
         ends_asked (Store (address me.geometry (place.Era me.who me.who)) (e + 1)) (λ _. load_trail me false a (e + 1) (end_trail me (e + 1))) (λ _. load_ends false a (e + 1) (end_trail me (e + 1)) (λ n up. absurd (false≢true up)) (λ y. end_ends (e + 1) y))
+    close_ends _ e z = end_ends e z
 
     -- from the redo record on
     redo_ends : (slot : ℕ) (x : Aim) (e : ℕ) → ((n : ℕ) → raises x First ≡ true → P (CountFull (block_at x First) n)) → Ends (redo_trail me slot x e)

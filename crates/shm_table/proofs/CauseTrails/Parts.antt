@@ -100,9 +100,7 @@ module _ (me : Me) where
       go p rooting.Look tr t (First n) k h = look p n tr t (n == 0) (eqb-false n 0) k (one_pair (rooting_ask p.me p.root rooting.Look) t n h)
       go p rooting.Step tr t (Second (Ok done)) k h = tt
       go p rooting.Step tr t (Second (Err f)) k (a, is, h) = taken_up p.me (taken_up_at p.me p.root p.block p.era).slot p.era (taken_up_at p.me p.root p.block p.era).aim f tr t a is h
-      go p rooting.Era tr t (Second b) k h = absurd h
-      go p rooting.Look tr t (Second b) k h = absurd h
-      go p rooting.Step tr t (First n) k h = absurd h
+      go p _ tr t _ k h = absurd h
 
   -- ---- the drop of a root
 
@@ -116,23 +114,14 @@ module _ (me : Me) where
       own : (p : DropState) (e : ℕ) (tr t : Trail) → p.me ≡ me → LoadsEra p.me e t → LoadsEra me e (tr ++ t)
       own p e tr t k h = shows_later me (answer.EraSpent e) tr t (subst (λ y. LoadsEra y e t) k h)
 
-      lowered : (p : DropState) (y : DropPoint) (e : EraSpent) (tr t : Trail) → p.me ≡ me → (drop_plan.part (record p { point = y })).asks (drop_call_at p y) t (Second (First (Err e))) → LoadsEra me e.era (tr ++ t)
-      lowered p drop.Lower e tr t k h = own p e.era tr t k (step_era p.me (root_at p) (aims.Down p.block) t e.era h)
-      lowered p drop.Load e tr t k h = absurd h
-      lowered p drop.Tear e tr t k h = absurd h
-
-      torn : (p : DropState) (y : DropPoint) (e : EraSpent) (tr t : Trail) → p.me ≡ me → (drop_plan.part (record p { point = y })).asks (drop_call_at p y) t (Second (Second (Err e))) → LoadsEra me e.era (tr ++ t)
-      torn p drop.Tear e tr t k h = own p e.era tr t k (tear_era p.me p.block t e h)
-      torn p drop.Load e tr t k h = absurd h
-      torn p drop.Lower e tr t k h = absurd h
-
       go : (p : DropState) (y : DropPoint) (tr t : Trail) (b : DropAnswer) → p.me ≡ me → (drop_plan.part (record p { point = y })).asks (drop_call_at p y) t b → Outcome (drop_turns p b) ((drop_after p b).me ≡ me) (λ a. Dropped a (tr ++ t))
       go p y tr t (First n) k h = either_way (n % address_limit == 0) (Some (Ok false)) None (p.me ≡ me) (λ a. Dropped a (tr ++ t)) tt k
       go p y tr t (Second (First (Ok true))) k h = k
-      go p y tr t (Second (First (Ok false))) k h = tt
-      go p y tr t (Second (First (Err e))) k h = lowered p y e tr t k h
-      go p y tr t (Second (Second (Ok done))) k h = tt
-      go p y tr t (Second (Second (Err e))) k h = torn p y e tr t k h
+      go p drop.Lower tr t (Second (First (Err e))) k h = own p e.era tr t k (step_era p.me (root_at p) (aims.Down p.block) t e.era h)
+      go p _ tr t (Second (First (Err e))) k h = absurd h
+      go p drop.Tear tr t (Second (Second (Err e))) k h = own p e.era tr t k (tear_era p.me p.block t e h)
+      go p _ tr t (Second (Second (Err e))) k h = absurd h
+      go p y tr t (Second _) k h = tt
 
   -- ---- a directory
 
@@ -143,32 +132,16 @@ module _ (me : Me) where
   pub open_shows : (p : OpenState) (t : Trail) (a : Result (Unit {0}) PutFault) → p.me ≡ me → plan_trail open_plan p t a → Opened a t
   open_shows p t a is = along_plan open_plan (λ p tr. p.me ≡ me) Opened (λ p tr t b k h. go p p.point tr t b k h) p t a is
     where
-      made : (p : OpenState) (y : OpenPoint) (f : AllocFault) (tr t : Trail) → p.me ≡ me → (open_plan.part (record p { point = y })).asks (open_call_at p y) t (Second (First (Err f))) → Shows me (fault_answer (made_fault f)) (tr ++ t)
-      made p open_point.Make f tr t k h = subst (λ x. Shows x (fault_answer (made_fault f)) (tr ++ t)) k (alloc_shows p.me directory_request f tr t refl h)
-      made p open_point.Look f tr t k h = absurd h
-      made p open_point.Name f tr t k h = absurd h
-      made p open_point.Drop f tr t k h = absurd h
-
-      raised : (p : OpenState) (y : OpenPoint) (f : UpFault) (tr t : Trail) → p.me ≡ me → (open_plan.part (record p { point = y })).asks (open_call_at p y) t (Second (Second (First (Err f)))) → Shows me (fault_answer (raised_fault f)) (tr ++ t)
-      raised p open_point.Name f tr t k h = step_shows me p.me (home_address p.me) (aims.Up p.block) f tr t k h
-      raised p open_point.Look f tr t k h = absurd h
-      raised p open_point.Make f tr t k h = absurd h
-      raised p open_point.Drop f tr t k h = absurd h
-
-      dropped : (p : OpenState) (y : OpenPoint) (e : EraSpent) (tr t : Trail) → p.me ≡ me → (open_plan.part (record p { point = y })).asks (open_call_at p y) t (Second (Second (Second (Err e)))) → LoadsEra me e.era (tr ++ t)
-      dropped p open_point.Drop e tr t k h = shows_later me (answer.EraSpent e.era) tr t (drop_shows (dropping p.me p.root) t (Err e) k h)
-      dropped p open_point.Look e tr t k h = absurd h
-      dropped p open_point.Make e tr t k h = absurd h
-      dropped p open_point.Name e tr t k h = absurd h
-
       go : (p : OpenState) (y : OpenPoint) (tr t : Trail) (b : OpenAnswer) → p.me ≡ me → (open_plan.part (record p { point = y })).asks (open_call_at p y) t b → Outcome (open_turns p b) ((open_after p b).me ≡ me) (λ a. Opened a (tr ++ t))
       go p y tr t (First n) k h = either_way (n == 0) None (Some (Ok tt)) (p.me ≡ me) (λ a. Opened a (tr ++ t)) k tt
-      go p y tr t (Second (First (Ok a))) k h = k
-      go p y tr t (Second (First (Err f))) k h = made p y f tr t k h
-      go p y tr t (Second (Second (First (Ok done)))) k h = k
-      go p y tr t (Second (Second (First (Err f)))) k h = raised p y f tr t k h
+      go p open_point.Make tr t (Second (First (Err f))) k h = subst (λ x. Shows x (fault_answer (made_fault f)) (tr ++ t)) k (alloc_shows p.me directory_request f tr t refl h)
+      go p _ tr t (Second (First (Err f))) k h = absurd h
+      go p open_point.Name tr t (Second (Second (First (Err f)))) k h = step_shows me p.me (home_address p.me) (aims.Up p.block) f tr t k h
+      go p _ tr t (Second (Second (First (Err f)))) k h = absurd h
       go p y tr t (Second (Second (Second (Ok z)))) k h = tt
-      go p y tr t (Second (Second (Second (Err e)))) k h = dropped p y e tr t k h
+      go p open_point.Drop tr t (Second (Second (Second (Err e)))) k h = shows_later me (answer.EraSpent e.era) tr t (drop_shows (dropping p.me p.root) t (Err e) k h)
+      go p _ tr t (Second (Second (Second (Err e)))) k h = absurd h
+      go p y tr t (Second _) k h = k
 
   -- ---- a new entry
 
@@ -182,10 +155,7 @@ module _ (me : Me) where
     where
       made : (p : EnterState) (y : EnterPoint) (f : AllocFault) (tr t : Trail) → p.me ≡ me → (enter_part p y).asks (enter_call_at p y) t (First (Err f)) → Shows me (fault_answer (made_fault f)) (tr ++ t)
       made p enter.Make f tr t k h = subst (λ x. Shows x (fault_answer (made_fault f)) (tr ++ t)) k (alloc_shows p.me (entry_request p.key) f tr t refl h)
-      made p enter.Value f tr t k h = absurd h
-      made p enter.Next f tr t k h = absurd h
-      made p enter.Link f tr t k h = absurd h
-      made p enter.Change f tr t k h = absurd h
+      made p _ f tr t k h = absurd h
 
       up_at : EnterState → EnterPoint → ℕ
       up_at p y = enter_block p y + 2 + enter_word p y
@@ -194,19 +164,12 @@ module _ (me : Me) where
       raised p enter.Value f tr t k h = step_shows me p.me (up_at p enter.Value) (aims.Up p.value) f tr t k h
       raised p enter.Next f tr t k h = step_shows me p.me (up_at p enter.Next) (aims.Up p.first) f tr t k h
       raised p enter.Link f tr t k h = step_shows me p.me (up_at p enter.Link) (aims.Up p.entry) f tr t k h
-      raised p enter.Make f tr t k h = absurd h
-      raised p enter.Change f tr t k h = absurd h
-
-      changed : (p : EnterState) (y : EnterPoint) (f : UpFault) (tr t : Trail) → p.me ≡ me → (enter_part p y).asks (enter_call_at p y) t (Second (Second (Err f))) → Shows me (fault_answer (raised_fault f)) (tr ++ t)
-      changed p enter.Change f tr t k h = step_shows me p.me (p.home + 2 + p.key % 16) (aims.Change p.first p.entry) f tr t k h
-      changed p _ f tr t k h = absurd h
+      raised p _ f tr t k h = absurd h
 
       linked : (p : EnterState) (y : EnterPoint) (u : Trail) → p.me ≡ me → Outcome (raised_turns p y) ((raised_after p y).me ≡ me) (λ a. EnteredSo a u)
       linked p enter.Value u k = k
       linked p enter.Next u k = k
-      linked p enter.Make u k = tt
-      linked p enter.Link u k = tt
-      linked p enter.Change u k = tt
+      linked p _ u k = tt
 
       go : (p : EnterState) (y : EnterPoint) (tr t : Trail) (b : EnterAnswer) → p.me ≡ me → (enter_part p y).asks (enter_call_at p y) t b → Outcome (enter_turns (record p { point = y }) b) ((enter_after (record p { point = y }) b).me ≡ me) (λ a. EnteredSo a (tr ++ t))
       go p y tr t (First (Ok made)) k h = k
@@ -214,21 +177,17 @@ module _ (me : Me) where
       go p y tr t (Second (First (Ok done))) k h = linked (record p { point = y }) y (tr ++ t) k
       go p y tr t (Second (First (Err f))) k h = raised p y f tr t k h
       go p y tr t (Second (Second (Ok z))) k h = tt
-      go p y tr t (Second (Second (Err f))) k h = changed p y f tr t k h
+      go p enter.Change tr t (Second (Second (Err f))) k h = step_shows me p.me (p.home + 2 + p.key % 16) (aims.Change p.first p.entry) f tr t k h
+      go p _ tr t (Second (Second (Err f))) k h = absurd h
 
   -- ---- another value block
 
   pub replace_shows : (p : ReplaceState) (t : Trail) (a : Result Bool PutFault) → p.me ≡ me → plan_trail replace_plan p t a → Faulty me (fault_of a) t
   replace_shows p t a is = along_plan replace_plan (λ p tr. p.me ≡ me) (λ a. Faulty me (fault_of a)) (λ p tr t b k h. go p p.point tr t b k h) p t a is
     where
-      changed : (p : ReplaceState) (y : ReplacePoint) (f : UpFault) (tr t : Trail) → p.me ≡ me → (replace_plan.part (record p { point = y })).asks (replace_call_at p y) t (Second (First (Err f))) → Shows me (fault_answer (raised_fault f)) (tr ++ t)
-      changed p replace.Change f tr t k h = step_shows me p.me ((p.entry + 2 + 1) % address_limit) (aims.Change p.before p.to) f tr t k h
-      changed p replace.Look f tr t k h = absurd h
-      changed p replace.Tear f tr t k h = absurd h
-
       go : (p : ReplaceState) (y : ReplacePoint) (tr t : Trail) (b : ReplaceAnswer) → p.me ≡ me → (replace_plan.part (record p { point = y })).asks (replace_call_at p y) t b → Outcome (replace_turns p b) ((replace_after p b).me ≡ me) (λ a. Faulty me (fault_of a) (tr ++ t))
       go p y tr t (First n) k h = either_way (n % address_limit == p.to) (Some (Ok false)) None (p.me ≡ me) (λ a. Faulty me (fault_of a) (tr ++ t)) tt k
       go p y tr t (Second (First (Ok true))) k h = k
-      go p y tr t (Second (First (Ok false))) k h = tt
-      go p y tr t (Second (First (Err f))) k h = changed p y f tr t k h
-      go p y tr t (Second (Second a)) k h = tt
+      go p replace.Change tr t (Second (First (Err f))) k h = step_shows me p.me ((p.entry + 2 + 1) % address_limit) (aims.Change p.before p.to) f tr t k h
+      go p _ tr t (Second (First (Err f))) k h = absurd h
+      go p y tr t (Second _) k h = tt

@@ -3,8 +3,8 @@ use Rattle.std.proofs.Common.{◌≡◌, ℕ, refl, ap, ◌∙◌, subst, Bool, 
 use Rattle.std.specs.Prelude.{◌==◌, if◌then◌else◌}
 use Rattle.shm_graph.specs.{declared.{ask.Me.Me, memo.Memo.Memo}, Asks.Trail, Events.Event}
 use Rattle.shm_graph.specs.{Laws.{Control, Steady, is_some}, Tells.after_all, Bounds.redo_steps}
-use Rattle.plans.specs.{declared.or.Or.TheVariants.{First, Second}, CallsFit.CallsFits}
-use Rattle.plans.specs.{Deciding.{StillRuns, where_decided}, Proved.PlanKept.{kept_along, plan_kept}}
+use Rattle.plans.specs.{declared.or.Or.TheVariants.{First, Second}, CallsControl.calls_of, CallsFit.CallsFits}
+use Rattle.plans.specs.{Deciding.{StillRuns, where_decided}, Either.or_control, Proved.PlanKept.{kept_along, plan_kept}}
 use Rattle.kind_parts.specs.Reparting.{map_in}
 use Rattle.shm_script.specs.declared.{line.Line.Line, log.Answer.Answer}
 use Rattle.shm_script.specs.declared.line.Line.TheVariants as line
@@ -24,32 +24,16 @@ use Rattle.shm_table.specs.Del.{DelKnows, DelSays, del_part, del_plan}
 use Rattle.shm_table.specs.Effects.{copy_at, del_at, is_removed, put_at, recv_at, send_key_at, unlink_decided}
 use Rattle.shm_table.specs.{Get.{Control.get_parts, get_plan}, Machines.Change.del, Put.{Control.put_parts, put_plan}}
 use Rattle.shm_table.specs.{RecvKey.{Control.recv_parts, recv_plan}, SendKey.{Control.send_key_parts, send_key_plan}}
-use Rattle.shm_table.specs.{Staying.{MapCut, SameMap}, Unlink.Control.{unlink_parts, unlinking, unlink_steered}}
-use Rattle.shm_table.specs.Unlink.{unlink_plan}
+use Rattle.shm_table.specs.Staying.{MapCut, SameMap}
+use Rattle.shm_table.specs.Unlink.Control.{UnlinkCalls, unlink_control, unlink_parts, unlink_steered, unlinking}
+use Rattle.shm_table.specs.{Unlink.unlink_plan, Locate.Control.locate_control, Unlatch.Control.unlatch_control}
 use Rattle.shm_table.specs.declared.del.DelPoint.TheVariants as deletes
-use Rattle.shm_table.proofs.Running.{Entries.{MapBy, UnlinkDoes, unlink_so}, Fetching.{get_still, send_key_still}}
-use Rattle.shm_table.proofs.Running.{Puts.{copy_so, put_so, recv_so}, Reading.{locate_still, unlatch_still}}
-use Rattle.shm_table.proofs.Running.{Roots.{by_call, by_then, start_kept}, Still.same_now}
+use Rattle.shm_table.proofs.Running.AsMade.{at_first, at_second_first, at_second_second, made_so}
+use Rattle.shm_table.proofs.Running.{Entries.{MapBy, UnlinkDoes, unlink_so}, Fetching.{get_quiet, send_key_still}}
+use Rattle.shm_table.proofs.Running.{Puts.{copy_so, put_so, recv_so}, Reading.{locate_quiet, unlatch_quiet}}
+use Rattle.shm_table.proofs.Running.{Roots.{by_call, by_then}, Still.same_now}
 
 -- ---- removals
-
-abbrev DelCalled : DelState → DelPoint → DelCall → Type 0
-DelCalled m y (First c) = y ≡ deletes.Search
-DelCalled m y (Second (First c)) = (y ≡ deletes.Cut) × (unlink_steered.start c.plan ≡ unlinking m.me m.entry m.before m.word)
-DelCalled m y (Second (Second c)) = y ≡ deletes.Back
-
-del_called : (m : DelCalls) (t : Trail) → after_all del_parts (del_call_at m.plan m.plan.point) t ≡ m.call → DelCalled m.plan m.plan.point m.call
-del_called m t there = subst (DelCalled m.plan m.plan.point) there (kept_along del_parts (DelCalled m.plan m.plan.point) (kept m.plan m.plan.point) (del_call_at m.plan m.plan.point) t (start m.plan m.plan.point))
-  where
-    kept : (p : DelState) (y : DelPoint) (c : DelCall) (n : ℕ) → DelCalled p y c → DelCalled p y (del_parts.after c n)
-    kept p y (First c) n h = h
-    kept p y (Second (First c)) n (at, e) = (at, start_kept unlink_parts unlink_plan unlink_laws (unlinking p.me p.entry p.before p.word) c n e)
-    kept p y (Second (Second c)) n h = h
-
-    start : (p : DelState) (y : DelPoint) → DelCalled p y (del_call_at p y)
-    start p deletes.Search = refl
-    start p deletes.Cut = (refl, refl)
-    start p deletes.Back = refl
 
 -- what it says by its answer
 said_so : (me : Me) (key steps : ℕ) (r0 r : Memo) (tr : Trail) (es : List Event) (a : Answer) → DelSays me key steps r0 r tr es a → MapBy (is_removed a) (MapCut key r0 r) r0 r
@@ -59,25 +43,29 @@ said_so me key steps r0 r tr es (answer.EraSpent e) h = h.map
 said_so me key steps r0 r tr es (answer.CountFull b n) h = h.map
 said_so me key steps r0 r tr es _ h = absurd h
 
+abbrev DelSo : DelState → (r0 rs r : Memo) → Trail → DelCall → Type 0
+DelSo p r0 rs r t c = del_parts.finished c ≡ false → del_part.fits c rs r t → MapBy (del_at p c) (MapCut p.key r0 r) r0 r
+
 pub del_so : (m : DelCalls) (r0 r : Memo) (tr : Trail) → del.finished m ≡ false → CallsFits del_parts del_plan m r0 r tr → MapBy (del_at m.plan m.call) (MapCut m.plan.key r0 r) r0 r
-del_so m r0 r tr going fit = go m.plan m.plan.point m.call r0 fit.rs r fit.before fit.t fit.es (del_called m fit.t fit.there) going fit.knows fit.fits
+del_so m r0 r tr going fit = go m.plan m.plan.point m.call r0 fit.rs r fit.before fit.t fit.es fit.there fit.knows going fit.fits
   where
     cut_after : (key : ℕ) (r0 rs r : Memo) → SameMap r0 rs → MapCut key rs r → MapCut key r0 r
     cut_after key r0 rs r same cut k = cut k ∙ ap (λ (o : Option (ℕ × ℕ)). if key == k then None else o) (same k)
 
-    go : (p : DelState) (y : DelPoint) (c : DelCall) (r0 rs r : Memo) (before t : Trail) (es : List Event) → DelCalled p y c → del_parts.finished c ≡ false → DelKnows p y r0 rs before es → del_part.fits c rs r t → MapBy (del_at p c) (MapCut p.key r0 r) r0 r
-    go p y (First c) r0 rs r before t es at run h fit =
-        let known = subst (λ y. DelKnows p y r0 rs before es) at h in
-        same_more r0 rs r (same_now r0 rs known.2) (locate_still c rs r t run fit)
-    go p y (Second (First c)) r0 rs r before t es (at, e) run h fit =
-        let known = subst (λ y. DelKnows p y r0 rs before es) at h in
+    go : (p : DelState) (y : DelPoint) (c : DelCall) (r0 rs r : Memo) (before t : Trail) (es : List Event) → after_all del_parts (del_call_at p y) t ≡ c → DelKnows p y r0 rs before es → DelSo p r0 rs r t c
+    go p deletes.Search c r0 rs r before t es there known =
+        at_first locate_control (or_control unlink_control unlatch_control) (DelSo p r0 rs r t) _ t there
+        (λ run fit. same_more r0 rs r (same_now r0 rs known.2) (locate_quiet _ rs r t run fit).0)
+    go p deletes.Cut c r0 rs r before t es there known =
         let w = known.located in
         let same : SameMap r0 rs = same_map r0 rs ((rests_read p.me.who w.latched rs w.found.reads).part ∙ (latched_else p.me.who p.me.who r0 w.latched w.took).2) in
-        by_call (unlink_decided c) (UnlinkDoes c.plan rs r) (MapCut p.key r0 r) r0 rs r same
-        (λ d. cut_after p.key r0 rs r same (subst (λ s. UnlinkDoes s rs r) e d p.key (found_unlinks p.me p.key p.entry p.before p.word r0 rs before es known))) (unlink_so c rs r t run fit)
-    go p y (Second (Second c)) r0 rs r before t es at run h fit =
-        let known = subst (λ y. DelKnows p y r0 rs before es) at h in
-        by_then (is_removed p.answer) (MapCut p.key r0 rs) (MapCut p.key r0 r) r0 rs r (λ d k. unlatch_still c rs r t run fit k ∙ d k) (unlatch_still c rs r t run fit) (said_so p.me p.key (17 + redo_steps p.me.geometry.wide) r0 rs before es p.answer known.says)
+        let made = made_so unlink_parts unlink_plan unlink_laws (unlinking p.me p.entry p.before p.word) t refl in
+        let x : UnlinkCalls = after_all unlink_control (calls_of unlink_steered (unlinking p.me p.entry p.before p.word)) t in
+        at_second_first locate_control unlink_control unlatch_control (DelSo p r0 rs r t) _ t there
+        (λ run fit. by_call (unlink_decided x) (UnlinkDoes x.plan rs r) (MapCut p.key r0 r) r0 rs r same (λ d. cut_after p.key r0 rs r same (subst (λ s. UnlinkDoes s rs r) made d p.key (found_unlinks p.me p.key p.entry p.before p.word r0 rs before es known))) (unlink_so x rs r t run fit))
+    go p deletes.Back c r0 rs r before t es there known =
+        at_second_second locate_control unlink_control unlatch_control (DelSo p r0 rs r t) _ t there
+        (λ run fit. by_then (is_removed p.answer) (MapCut p.key r0 rs) (MapCut p.key r0 r) r0 rs r (λ d k. (unlatch_quiet _ rs r t run fit).0 k ∙ d k) (unlatch_quiet _ rs r t run fit).0 (said_so p.me p.key (17 + redo_steps p.me.geometry.wide) r0 rs before es p.answer known.says))
 
 -- ---- each command: its line, which stays
 
@@ -91,11 +79,7 @@ line_of (Second (Second (Second c))) = line.Recv c.plan.from c.plan.key
 
 line_begun : (me : Me) (l : Line) → line_of (command_of me l) ≡ l
 line_begun me (line.Put key n) = refl
-line_begun me (line.Copy key a other) = refl
-line_begun me (line.Del key) = refl
-line_begun me (line.Get a key) = refl
-line_begun me (line.Send to key) = refl
-line_begun me (line.Recv from key) = refl
+line_begun me _ = refl
 
 line_kept : (l : Line) (m : CommandCall) (n : ℕ) → line_of m ≡ l → line_of (command_control.after m n) ≡ l
 line_kept l (First (First c)) n e = plan_kept put_parts put_plan (λ p. line.Put p.key p.number ≡ l) (λ p b h. ap (λ s. line.Put s.key s.number) ((put_laws (put_root_laws open_laws locate_laws replace_laws enter_laws)).stays p b).same_start ∙ h) c n e
@@ -117,7 +101,7 @@ of_line : (m : CommandCall) (r0 r : Memo) (tr : Trail) → command_control.finis
 of_line (First (First c)) r0 r tr going fit = shown_so (line.Put c.plan.key c.plan.number) (answer.Stored c.plan.block) (put_at c.plan c.call) r0 r (put_so c r0 r tr going fit)
 of_line (First (Second c)) r0 r tr going fit = shown_so (line.Copy c.plan.key c.plan.author c.plan.other) (answer.Value c.plan.number c.plan.block) (copy_at c.plan c.call) r0 r (copy_so c r0 r tr going fit)
 of_line (Second (First (First c))) r0 r tr going fit = shown_so (line.Del c.plan.key) answer.Ok (del_at c.plan c.call) r0 r (del_so c r0 r tr going fit)
-of_line (Second (First (Second c))) r0 r tr going fit = get_still c r0 r tr going fit
+of_line (Second (First (Second c))) r0 r tr going fit = (get_quiet c r0 r tr going fit).0
 of_line (Second (Second (First c))) r0 r tr going fit = sent (send_key_at c.plan c.call) (send_key_still c r0 r tr going fit)
   where
     sent : (z : Bool) → SameMap r0 r → MapSoFar (line.Send c.plan.to c.plan.key) (where_decided z answer.Ok) r0 r
@@ -142,11 +126,7 @@ still_going k steady m (x ∷ tr) going runs = still_going k steady (k.after m x
 
 begun_going : (me : Me) (l : Line) → command_control.finished (command_of me l) ≡ false
 begun_going me (line.Put key n) = refl
-begun_going me (line.Copy key a other) = refl
-begun_going me (line.Del key) = refl
-begun_going me (line.Get a key) = refl
-begun_going me (line.Send to key) = refl
-begun_going me (line.Recv from key) = refl
+begun_going me _ = refl
 
 pub command_going : (me : Me) (l : Line) (start : Trail) → StillRuns command_control (command_of me l) start → command_control.finished (after_all command_control (command_of me l) start) ≡ false
 command_going me l start runs = still_going command_control steady (command_of me l) start (begun_going me l) runs
@@ -162,8 +142,4 @@ runs_so_far me l start r0 r tr runs fit = map_so_far me l start r0 r tr (command
 
 pub none_shown : (me : Me) (l : Line) → command_effect (command_of me l) ≡ None
 none_shown me (line.Put key n) = refl
-none_shown me (line.Copy key a other) = refl
-none_shown me (line.Del key) = refl
-none_shown me (line.Get a key) = refl
-none_shown me (line.Send to key) = refl
-none_shown me (line.Recv from key) = refl
+none_shown me _ = refl

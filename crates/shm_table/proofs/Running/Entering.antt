@@ -1,21 +1,24 @@
 -- a new entry: while its machine runs the own map is what it was, until the bucket names the entry, and from then on the key has its value block
-use Rattle.std.proofs.Common.{◌≡◌, ◌≢◌, ℕ, ◌%◌, ◌<◌, refl, sym, ap, ◌∙◌, subst, arith, Bool, true, false, cond, eqb, List, Some}
+use Rattle.std.proofs.Common.{◌≡◌, ◌≢◌, ℕ, ◌+◌, ◌%◌, ◌<◌, refl, sym, ap, ◌∙◌, subst, arith, Bool, true, false, cond, eqb, List, Some}
 use Rattle.shm_graph.specs.{declared.{ask.Me.Me, memo.Memo.Memo, spot.Spot.TheVariants.{Body, Home}}, Asks.Trail}
 use Rattle.shm_graph.specs.{Events.Event, Tells.after_all, Views.own_word}
-use Rattle.plans.specs.{declared.or.Or.TheVariants.{First, Second}, CallsFit.CallsFits, Proved.PlanKept.kept_along}
+use Rattle.plans.specs.{declared.or.Or.TheVariants.{First, Second}, CallsFit.CallsFits, Either.or_control}
 use Rattle.kind_parts.specs.{Beginning.IsOwnWord, Reparting.{IsKnown, IsValue, TableStep, sight}}
 use Rattle.kind_parts.specs.Reparting.TableStep.{Links, Prepares}
-use Rattle.shm_count.specs.Step.{ExchangeMade.step_exchanged, Parts.part_after}
+use Rattle.shm_count.specs.{declared.point.{StepPoint.TheVariants.Era, StepState.StepState}, Step.Control.step_control}
+use Rattle.shm_count.specs.Step.{ExchangeMade.step_exchanged, Machines.up_control, Parts.part_after}
 use Rattle.shm_count.specs.declared.point.Aim.TheVariants as aims
+use Rattle.shm_alloc.specs.Alloc.Control.{alloc_control}
 use Rattle.shm_table.specs.declared.enter.{EnterPoint.EnterPoint, EnterState.EnterState}
 use Rattle.shm_table.specs.Effects.{enter_at, enter_decided}
-use Rattle.shm_table.specs.Enter.Control.{EnterCall, enter_call_at, enter_parts, enter_to}
+use Rattle.shm_table.specs.Enter.Control.{EnterCall, enter_block, enter_call_at, enter_parts, enter_spot, enter_to, enter_word, up_of}
 use Rattle.shm_table.specs.Enter.{EnterKnows, IsMade, enter_part, enter_plan}
 use Rattle.shm_table.specs.Proved.Enter.Steps.{bucket_own, entry_own, first_apart, value_number}
 use Rattle.shm_table.specs.Proved.{PutRoot.Steps.same_more, Staying.{Laws.same_map, Steps.map_word}}
 use Rattle.shm_table.specs.{PutRoot.Control.{EnterCalls, enter_control}, Staying.{MapSet, SameMap}}
 use Rattle.shm_table.specs.declared.enter.EnterPoint.TheVariants as entering
-use Rattle.shm_table.proofs.Running.{Entries.{MapBy, aimed_part, by_part}, Steps.PartBy, Still.{alloc_still, same_now}}
+use Rattle.shm_table.proofs.Running.{AsMade.{at_first, at_second_first, at_second_second}, Entries.{MapBy, by_part}}
+use Rattle.shm_table.proofs.Running.{Steps.{PartBy, aimed_part}, Still.{alloc_still, same_now}}
 
 -- ---- the count steps
 
@@ -41,57 +44,35 @@ module _ (me : Me) (key v n home first k b : ℕ) (r0 rs r : Memo) (h : IsMade m
 
 -- ---- the machine
 
--- the points at which a step up is called
-abbrev IsRaising : EnterPoint → Type 0
-IsRaising entering.Make = ⊥
-IsRaising entering.Change = ⊥
-IsRaising y = Unit {0}
-
-abbrev EnterCalled : EnterState → EnterPoint → EnterCall → Type 0
-EnterCalled m y (First a) = y ≡ entering.Make
-EnterCalled m y (Second (First s)) = IsRaising y × (s.me ≡ m.me) × (s.aim ≡ aims.Up (enter_to m y))
-EnterCalled m y (Second (Second s)) = (y ≡ entering.Change) × (s.me ≡ m.me) × (s.aim ≡ aims.Change m.first m.entry)
-
-enter_called : (m : EnterCalls) (t : Trail) → after_all enter_parts (enter_call_at m.plan m.plan.point) t ≡ m.call → EnterCalled m.plan m.plan.point m.call
-enter_called m t there = subst (EnterCalled m.plan m.plan.point) there (kept_along enter_parts (EnterCalled m.plan m.plan.point) (kept m.plan m.plan.point) (enter_call_at m.plan m.plan.point) t (start m.plan m.plan.point))
-  where
-    kept : (p : EnterState) (y : EnterPoint) (c : EnterCall) (n : ℕ) → EnterCalled p y c → EnterCalled p y (enter_parts.after c n)
-    kept p y (First a) n h = h
-    kept p y (Second (First s)) n h = h
-    kept p y (Second (Second s)) n h = h
-
-    start : (p : EnterState) (y : EnterPoint) → EnterCalled p y (enter_call_at p y)
-    start p entering.Make = refl
-    start p entering.Value = (tt, refl, refl)
-    start p entering.Next = (tt, refl, refl)
-    start p entering.Link = (tt, refl, refl)
-    start p entering.Change = (refl, refl, refl)
-
 -- what it does to the map
 abbrev pub EnterDoes : EnterState → Memo → Memo → Type 0
 EnterDoes m r0 r = (n : ℕ) → IsValue (sight m.me.who r0) m.value n → MapSet m.key n m.value r0 r
 
+abbrev EnterSo : EnterState → EnterPoint → (r0 rs r : Memo) → Trail → EnterCall → Type 0
+EnterSo p y r0 rs r t c = enter_parts.finished c ≡ false → (enter_part p y).fits c rs r t → MapBy (enter_at (record p { point = y }) c) (EnterDoes p r0 r) r0 r
+
 pub enter_so : (m : EnterCalls) (r0 r : Memo) (tr : Trail) → enter_control.finished m ≡ false → CallsFits enter_parts enter_plan m r0 r tr → MapBy (enter_decided m) (EnterDoes m.plan r0 r) r0 r
-enter_so m r0 r tr going fit = go m.plan m.plan.point m.call r0 fit.rs r fit.before fit.t fit.es (enter_called m fit.t fit.there) going fit.knows fit.fits
+enter_so m r0 r tr going fit = go m.plan m.plan.point m.call r0 fit.rs r fit.before fit.t fit.es fit.there fit.knows going fit.fits
   where
-    go : (p : EnterState) (y : EnterPoint) (c : EnterCall) (r0 rs r : Memo) (before t : Trail) (es : List Event) → EnterCalled p y c → enter_parts.finished c ≡ false → EnterKnows p y r0 rs before es → (enter_part p y).fits c rs r t → MapBy (enter_at (record p { point = y }) c) (EnterDoes p r0 r) r0 r
-    go p y (First a) r0 rs r before t es at run h fit =
-        let known = subst (λ y. EnterKnows p y r0 rs before es) at h in
-        same_more r0 rs r (same_now r0 rs known.1) (alloc_still a rs r t run fit)
-    go p y (Second (Second s)) r0 rs r before t es (at, who, aim) run h fit =
-        let known = subst (λ y. EnterKnows p y r0 rs before es) at h in
-        let made = known.1.1 in
-        by_part (step_exchanged s) p.me.who (Body p.home (p.key % 16)) p.entry (EnterDoes p r0 r) r0 rs r made.map (linked p.me p.key p.value known.1.0 p.home p.first p.root p.entry r0 rs r made)
-        (aimed_part p.me (aims.Change p.first p.entry) p.home (p.key % 16) s rs r t who aim run (subst (λ y. (enter_part p y).fits (Second (Second s)) rs r t) at fit).1)
-    go p entering.Value (Second (First s)) r0 rs r before t es (at, who, aim) run h fit =
+    -- a step up
+    up : (p : EnterState) (y : EnterPoint) (r0 rs r : Memo) (t : Trail) (c : EnterCall) → after_all enter_parts (up_of p (enter_block p y) (enter_word p y) (enter_to p y)) t ≡ c
+        → ((s : StepState) → PartBy (step_exchanged s) p.me.who (enter_spot p y) (enter_to p y) rs r → MapBy (enter_at (record p { point = y }) (Second (First s))) (EnterDoes p r0 r) r0 r) → EnterSo p y r0 rs r t c
+    up p y r0 rs r t c there so =
+        let s : StepState = record { me = p.me; slot = enter_block p y + 2 + enter_word p y; aim = aims.Up (enter_to p y); point = Era } in
+        at_second_first alloc_control up_control step_control (EnterSo p y r0 rs r t) s t there (λ run fit. so (after_all up_control s t) (aimed_part up_control (λ x n. (refl, refl)) s (enter_spot p y) tt rs r t t run fit.1))
+
+    go : (p : EnterState) (y : EnterPoint) (c : EnterCall) (r0 rs r : Memo) (before t : Trail) (es : List Event) → after_all enter_parts (enter_call_at p y) t ≡ c → EnterKnows p y r0 rs before es → EnterSo p y r0 rs r t c
+    go p entering.Make c r0 rs r before t es there known =
+        at_first alloc_control (or_control up_control step_control) (EnterSo p entering.Make r0 rs r t) _ t there (λ run fit. same_more r0 rs r (same_now r0 rs known.1) (alloc_still _ rs r t run fit))
+    go p entering.Change c r0 rs r before t es there known =
+        at_second_second alloc_control up_control step_control (EnterSo p entering.Change r0 rs r t) _ t there
+        (λ run fit. by_part _ p.me.who (Body p.home (p.key % 16)) p.entry (EnterDoes p r0 r) r0 rs r known.1.1.map (linked p.me p.key p.value known.1.0 p.home p.first p.root p.entry r0 rs r known.1.1) (aimed_part step_control (λ x n. (refl, refl)) _ (Body p.home (p.key % 16)) tt rs r t t run fit.1))
+    go p entering.Value c r0 rs r before t es there h =
         let made = h.0.1 in
-        filled p.me p.key p.value h.0.0 p.home p.first p.root p.entry 0 0 r0 rs r made (step_exchanged s) 1 p.value (omega arith) made.may.some made.coming.value_is (aimed_part p.me (aims.Up p.value) p.entry 1 s rs r t who aim run fit.1)
-    go p entering.Next (Second (First s)) r0 rs r before t es (at, who, aim) run h fit =
+        up p entering.Value r0 rs r t c there (λ s part. filled p.me p.key p.value h.0.0 p.home p.first p.root p.entry 0 0 r0 rs r made (step_exchanged s) 1 p.value (omega arith) made.may.some made.coming.value_is part)
+    go p entering.Next c r0 rs r before t es there h =
         let made = h.1.1 in
-        filled p.me p.key p.value h.1.0 p.home p.first p.root p.entry 0 p.value r0 rs r made (step_exchanged s) 0 p.first (omega arith) h.0 made.coming.next_is (aimed_part p.me (aims.Up p.first) p.entry 0 s rs r t who aim run fit.1)
-    go p entering.Link (Second (First s)) r0 rs r before t es (at, who, aim) run h fit =
+        up p entering.Next r0 rs r t c there (λ s part. filled p.me p.key p.value h.1.0 p.home p.first p.root p.entry 0 p.value r0 rs r made (step_exchanged s) 0 p.first (omega arith) h.0 made.coming.next_is part)
+    go p entering.Link c r0 rs r before t es there h =
         let made : IsMade p.me p.key p.value h.1.0 p.home p.first p.root p.entry p.first p.value r0 rs = subst (λ x. IsMade p.me p.key p.value h.1.0 p.home p.first p.root p.entry x p.value r0 rs) (sym h.0) h.1.1 in
-        by_part (step_exchanged s) p.me.who (Body p.home (p.key % 16)) p.entry (EnterDoes p r0 r) r0 rs r made.map (linked p.me p.key p.value h.1.0 p.home p.first p.root p.entry r0 rs r made)
-        (aimed_part p.me (aims.Up p.entry) p.home (p.key % 16) s rs r t who aim run fit.1)
-    go p entering.Make (Second (First s)) r0 rs r before t es (at, who, aim) run h fit = absurd at
-    go p entering.Change (Second (First s)) r0 rs r before t es (at, who, aim) run h fit = absurd at
+        up p entering.Link r0 rs r t c there (λ s part. by_part (step_exchanged s) p.me.who (Body p.home (p.key % 16)) p.entry (EnterDoes p r0 r) r0 rs r made.map (linked p.me p.key p.value h.1.0 p.home p.first p.root p.entry r0 rs r made) part)

@@ -5,9 +5,10 @@ use Rattle.std.specs.Prelude.{slice_index_or, Option, None, Some}
 use Rattle.shm_graph.specs.{declared.{ask.Me.Me, memo.Memo.Memo}, Agents.died, Asks.Trail, Events.Event}
 use Rattle.shm_graph.specs.{MemoAfterStore.lane_with, Tells.after_all}
 use Rattle.plans.specs.{declared.or.Or.TheVariants.{First, Second}, CallsFit.CallsFits}
-use Rattle.plans.specs.{Deciding.{StillRuns, where_decided}, Proved.PlanKept.kept_along}
+use Rattle.plans.specs.{Deciding.{StillRuns, where_decided}, Either.or_control, Words.word_control}
 use Rattle.kind_parts.specs.Reparting.{map_in}
 use Rattle.kind_parts.proofs.Items.{put_at}
+use Rattle.shm_queue.specs.Machines.{send}
 use Rattle.shm_script.specs.declared.{line.Line.Line, log.Answer.Answer}
 use Rattle.shm_script.specs.declared.line.Line.TheVariants as line
 use Rattle.shm_script.specs.declared.log.Answer.TheVariants as answer
@@ -15,13 +16,15 @@ use Rattle.shm_table.specs.declared.send_key.{SendKeyPoint.SendKeyPoint, SendKey
 use Rattle.shm_table.specs.Command.{CommandCall, CommandFits, command_control, command_effect, command_of}
 use Rattle.shm_table.specs.Command.Sends.{SameSent, SentOne, SentSoFar, sent_to}
 use Rattle.shm_table.specs.Effects.{copy_at, del_at, is_sent, put_at as stored_at, recv_at, send_key_at}
-use Rattle.shm_table.specs.Machines.Send.{send_key}
+use Rattle.shm_table.specs.{Locate.Control.locate_control, Machines.Send.send_key, Unlatch.Control.unlatch_control}
 use Rattle.shm_table.specs.SendKey.Control.{SendKeyCall, SendKeyCalls, send_key_call, send_key_parts}
 use Rattle.shm_table.specs.SendKey.{GiveKnows, SendKeyKnows, got, send_key_part, send_key_plan}
 use Rattle.shm_table.specs.declared.get.GetPoint.TheVariants as getting
 use Rattle.shm_table.specs.declared.send_key.SendKeyPoint.TheVariants as keys
-use Rattle.shm_table.proofs.Running.Commands.{command_going, line_along, line_of}
-use Rattle.shm_table.proofs.Running.SentMachines.{copy_sends, del_sends, get_sends, get_sent, locate_sends, put_sends, recv_sends, send_sends, unlatch_sends}
+use Rattle.shm_table.proofs.Running.AsMade.{at_first, at_second, at_second_first, at_second_second}
+use Rattle.shm_table.proofs.Running.{Commands.{command_going, line_along, line_of}, Fetching.{get_kept, get_quiet}}
+use Rattle.shm_table.proofs.Running.Reading.{locate_quiet, send_quiet, unlatch_quiet}
+use Rattle.shm_table.proofs.Running.SentMachines.{copy_sends, del_sends, put_sends, recv_sends}
 use Rattle.shm_table.proofs.Running.SentSteps.{SentSame, sent_now, word_sends}
 
 -- ---- a send
@@ -35,30 +38,11 @@ abbrev SentBy : Bool → ℕ → ℕ → Memo → Memo → Type 0
 SentBy false i key r0 r = SentSame r0 r
 SentBy true i key r0 r = HasSent i key r0 r
 
--- each call is the one of its point
-abbrev SendCalled : SendKeyPoint → SendKeyCall → Type 0
-SendCalled y (First c) = y ≡ keys.Search
-SendCalled y (Second (First w)) = y ≡ keys.Value
-SendCalled y (Second (Second (First s))) = y ≡ keys.Send
-SendCalled y (Second (Second (Second u))) = y ≡ keys.Give
-
-send_called : (m : SendKeyCalls) (t : Trail) → after_all send_key_parts (send_key_call m.plan m.plan.point) t ≡ m.call → SendCalled m.plan.point m.call
-send_called m t there = subst (SendCalled m.plan.point) there (kept_along send_key_parts (SendCalled m.plan.point) (kept m.plan.point) (send_key_call m.plan m.plan.point) t (start m.plan m.plan.point))
-  where
-    kept : (y : SendKeyPoint) (c : SendKeyCall) (n : ℕ) → SendCalled y c → SendCalled y (send_key_parts.after c n)
-    kept y (First c) n h = h
-    kept y (Second (First w)) n h = h
-    kept y (Second (Second (First s))) n h = h
-    kept y (Second (Second (Second u))) n h = h
-
-    start : (p : SendKeyState) (y : SendKeyPoint) → SendCalled y (send_key_call p y)
-    start p keys.Search = refl
-    start p keys.Value = refl
-    start p keys.Send = refl
-    start p keys.Give = refl
+abbrev SendSo : SendKeyState → SendKeyPoint → (r0 rs r : Memo) → Trail → SendKeyCall → Type 0
+SendSo p y r0 rs r t c = send_key_parts.finished c ≡ false → (send_key_part p y).fits c rs r t → SentBy (send_key_at p c) p.to p.key r0 r
 
 send_key_so : (m : SendKeyCalls) (r0 r : Memo) (tr : Trail) → send_key.finished m ≡ false → CallsFits send_key_parts send_key_plan m r0 r tr → SentBy (send_key_at m.plan m.call) m.plan.to m.plan.key r0 r
-send_key_so m r0 r tr going fit = go m.plan m.plan.point m.call r0 fit.rs r fit.before fit.t fit.es (send_called m fit.t fit.there) going fit.knows fit.fits
+send_key_so m r0 r tr going fit = go m.plan m.plan.point m.call r0 fit.rs r fit.before fit.t fit.es fit.there fit.knows going fit.fits
   where
     -- what is to be answered tells it
     says : (p : SendKeyState) (a : Answer) (r0 r : Memo) (tr : Trail) (es : List Event) → GiveKnows p a r0 r tr es → SentBy (is_sent a) p.to p.key r0 r
@@ -74,19 +58,17 @@ send_key_so m r0 r tr going fit = go m.plan m.plan.point m.call r0 fit.rs r fit.
     more false i key r0 rs r h same = same ∙ h
     more true i key r0 rs r (n, b, has, sent) same = (n, b, has, same ∙ sent)
 
-    go : (p : SendKeyState) (y : SendKeyPoint) (c : SendKeyCall) (r0 rs r : Memo) (before t : Trail) (es : List Event) → SendCalled y c → send_key_parts.finished c ≡ false → SendKeyKnows p y r0 rs before es → (send_key_part p y).fits c rs r t → SentBy (send_key_at p c) p.to p.key r0 r
-    go p y (First c) r0 rs r before t es at run h fit =
-        let known = subst (λ y. SendKeyKnows p y r0 rs before es) at h in
-        locate_sends c rs r t run fit ∙ sent_now r0 rs known.1
-    go p y (Second (First w)) r0 rs r before t es at run h fit =
-        let known = subst (λ y. SendKeyKnows p y r0 rs before es) at h in
-        word_sends _ w rs r t run fit ∙ get_sent (got p getting.Value) getting.Value r0 rs before es known.0
-    go p y (Second (Second (First s))) r0 rs r before t es at run h fit =
-        let known = subst (λ y. SendKeyKnows p y r0 rs before es) at h in
-        send_sends s rs r t run fit ∙ get_sent (got p getting.Number) getting.Number r0 rs before es known.0
-    go p y (Second (Second (Second u))) r0 rs r before t es at run h fit =
-        let known = subst (λ y. SendKeyKnows p y r0 rs before es) at h in
-        more (is_sent p.outcome) p.to p.key r0 rs r (says p p.outcome r0 rs before es known) (unlatch_sends u rs r t run fit)
+    go : (p : SendKeyState) (y : SendKeyPoint) (c : SendKeyCall) (r0 rs r : Memo) (before t : Trail) (es : List Event) → after_all send_key_parts (send_key_call p y) t ≡ c → SendKeyKnows p y r0 rs before es → SendSo p y r0 rs r t c
+    go p keys.Search c r0 rs r before t es there known =
+        at_first locate_control (or_control word_control (or_control send unlatch_control)) (SendSo p keys.Search r0 rs r t) _ t there (λ run fit. (locate_quiet _ rs r t run fit).1 ∙ sent_now r0 rs known.1)
+    go p keys.Value c r0 rs r before t es there known =
+        at_second_first locate_control word_control (or_control send unlatch_control) (SendSo p keys.Value r0 rs r t) _ t there (λ run fit. word_sends _ _ rs r t run fit ∙ (get_kept (got p getting.Value) getting.Value r0 rs before es known.0).1)
+    go p keys.Send c r0 rs r before t es there known =
+        at_second locate_control (or_control word_control (or_control send unlatch_control)) (SendSo p keys.Send r0 rs r t) _ t there
+        (at_second_first word_control send unlatch_control (λ x. SendSo p keys.Send r0 rs r t (Second x)) _ t refl (λ run fit. (send_quiet _ rs r t run fit).1 ∙ (get_kept (got p getting.Number) getting.Number r0 rs before es known.0).1))
+    go p keys.Give c r0 rs r before t es there known =
+        at_second locate_control (or_control word_control (or_control send unlatch_control)) (SendSo p keys.Give r0 rs r t) _ t there
+        (at_second_second word_control send unlatch_control (λ x. SendSo p keys.Give r0 rs r t (Second x)) _ t refl (λ run fit. more (is_sent p.outcome) p.to p.key r0 rs r (says p p.outcome r0 rs before es known) (unlatch_quiet _ rs r t run fit).1))
 
 -- ---- to each receiver
 
@@ -121,7 +103,7 @@ sent_line (Second (First (First c))) r0 r tr going fit = none (del_at c.plan c.c
     none : (z : Bool) → SameSent r0 r → SentSoFar (line.Del c.plan.key) (where_decided z answer.Ok) r0 r
     none true h = h
     none false h = h
-sent_line (Second (First (Second c))) r0 r tr going fit = same_sent r0 r (get_sends c r0 r tr going fit)
+sent_line (Second (First (Second c))) r0 r tr going fit = same_sent r0 r (get_quiet c r0 r tr going fit).1
 sent_line (Second (Second (First c))) r0 r tr going fit = sent (send_key_at c.plan c.call) (send_key_so c r0 r tr going fit)
   where
     sent : (z : Bool) → SentBy z c.plan.to c.plan.key r0 r → SentSoFar (line.Send c.plan.to c.plan.key) (where_decided z answer.Ok) r0 r

@@ -84,10 +84,8 @@ module _ (me : Me) (q : Memo) (e w : ℕ) where
       let m : Memo = record q { op = op.Down Committed p b e; made = without_made q b } in
       let n : Memo = with_untaken c p b (with_unsent c p 0 m) in
       lowered_sent (header_of (header_after me (Down b) e First w)).count b (cut c p (reparted c n p 0)) ∙ (untaken_sent c p b (with_unsent c p 0 m) ∙ unsent_sent c p 0 m)
-  set_sent (Change a b) p First = refl
-  set_sent (Up b) p Second = refl
-  set_sent (Down b) p Second = refl
   set_sent (Change a b) p Second = lowered_sent (header_of (header_after me (Change a b) e Second w)).count a (cut c p (record q { op = op.Change (Lowering Closed) p a b e; made = without_made q a }))
+  set_sent _ p _ = refl
 
   -- nor the store of a slot
   slot_sent : (x : Aim) (p : Spot) → IsPlace p → (slot_memo me x p e q w).sent ≡ q.sent

@@ -1,12 +1,12 @@
 -- the partition of a memo while a count step or a tear-down is running: as it was up to the exchange of the first half, and from then on the one that the slot leads to
-use Rattle.std.proofs.Common.{◌≡◌, ℕ, refl, sym, ap, ◌∙◌, Bool, true, false, eqb, ◌&&◌, List, cond}
+use Rattle.std.proofs.Common.{◌≡◌, ℕ, refl, sym, ap, ◌∙◌, subst, Bool, true, false, eqb, ◌&&◌, List, cond}
 use Rattle.std.proofs.lemmas.Bool.{true≢false}
 use Rattle.std.specs.List.{filter}
 use Rattle.shm_words.specs.Headers.{header_of}
 use Rattle.shm_graph.specs.declared.{ask.Me.Me, spot.Spot.Spot, memo.First.TheVariants.Committed}
 use Rattle.shm_graph.specs.declared.memo.{Second.TheVariants.Closed, ChangeStage.TheVariants.Lowering, Memo.Memo}
 use Rattle.shm_graph.specs.{declared.{memo.Stored.Stored, table.Part.{Part, TheVariants.{Loose, Table}}}, Asks.Trail}
-use Rattle.shm_graph.specs.Chains.{part_set}
+use Rattle.shm_graph.specs.{Laws.Control, Tells.after_all, Chains.part_set}
 use Rattle.shm_graph.specs.MemoAfterExchange.{cut, lowered, reparted, without_made, with_unsent, with_untaken}
 use Rattle.shm_graph.specs.{Ops.{On, cover, is_op, slot_of}, Reach.{learnt, shown, sifted}, Spots.same_spot}
 use Rattle.shm_graph.specs.MemoAfterStore.{making_with, other_than, put, written}
@@ -24,6 +24,7 @@ use Rattle.shm_count.specs.Step.{AtFirst, InHalf, PointHas, StepFits, set_memo, 
 use Rattle.shm_count.specs.Proved.Step.{Memos.closed_part, Parts.first_sight, BeforeExchange.ready_part}
 use Rattle.shm_count.specs.StepsFrom.{FitsFrom}
 use Rattle.shm_count.specs.declared.point.StepPoint.TheVariants as point
+use Rattle.shm_table.proofs.Running.AsMade.{KeepsAim, aimed_so}
 
 -- ---- slots
 
@@ -90,17 +91,15 @@ module _ (me : Me) (q : Memo) (e w : ℕ) where
       lowers_part b (cut c p (reparted c n p 0))
       ∙ (slot_none n.known c (shown n (spot.Home c)) t r k 0 n.part ∙ (untaken_part c t r k b (with_unsent c p 0 m) ∙ (unsent_part c t r k 0 m ∙ sym (lane_after c (sight c q) t r k 0))))
   set_part (Change a b) p s = refl
-  set_part (Up b) _ s = absurd s
-  set_part (Down b) _ s = absurd s
+  set_part _ _ s = absurd s
 
   -- that of the second half doesn't
   second_part : (x : Aim) (p : Spot) → (set_memo me x p e Second q w).part ≡ q.part
-  second_part (Up b) p = refl
-  second_part (Down b) p = refl
   second_part (Change a b) p =
       let n : ℕ = (header_of (header_after me (Change a b) e Second w)).count in
       let m : Memo = cut c p (record q { op = op.Change (Lowering Closed) p a b e; made = without_made q a }) in
       ap (λ (y : Memo). (sifted c y).part) {y = record m { dying = dying_after n a m.dying; known = known_lowered n a m.known }} (lowered_is n a m)
+  second_part _ p = refl
 
   -- and it stays with the store of the slot
   slot_part : (x : Aim) (p : Spot) → IsPlace p → (slot_memo me x p e q w).part ≡ leads p (value_after x)
@@ -143,11 +142,10 @@ module _ (me : Me) (slot : ℕ) (x : Aim) (p : Spot) (r0 : Memo) (place : IsPlac
     where
       go : (y : Aim) (h : Half) → PartFits y h → x ≡ y → InHalf me slot x p r0 r e h → PartBy (is_second y h) me.who p (value_after x) r0 r
       go (Up b) First part same k = first_part r e k
-      go (Down b) First part same k = first_part r e k
-      go (Change a b) First part same k = first_part r e k
       go (Change a b) Second part same k = second_after r e k
       go (Up b) Second part same k = absurd part
       go (Down b) Second part same k = absurd part
+      go _ First part same k = first_part r e k
 
   pub point_part : (r : Memo) (y : StepPoint) → PointFits me x y → is_over y ≡ false → PointHas me slot x p r0 r y → PartBy (exchanged_at x y) me.who p (value_after x) r0 r
   point_part r point.Era fits going (same, put) = ap (λ (m : Memo). m.part) same
@@ -188,3 +186,12 @@ root_from z c k e m rs r tr going fit =
     came : (b : Bool) → PointHas m.me m.slot m.aim (spot.Root c k) fit.r0 rs (cond b (point.More e) (point.Redo e)) → rs.part ≡ fit.r0.part
     came true h = ap (λ (x : Memo). x.part) h.0
     came false h = ap (λ (x : Memo). x.part) h.0 ∙ ready_part (λ (x : Memo). x.part) m.me m.slot m.aim e fit.r0 refl
+
+-- ---- a step by its identity and its aim as it was made
+
+pub aimed_part : {A : Type 0} (k : Control StepState A) → KeepsAim k → (s : StepState) (p : Spot) → IsPlace p → (r0 r : Memo) (t tr : Trail) → let x = after_all k s t in step_control.finished x ≡ false → StepFits p x r0 r tr → PartBy (step_exchanged x) s.me.who p (value_after s.aim) r0 r
+aimed_part k keep s p place r0 r t tr going fit =
+    let x : StepState = after_all k s t in
+    let (who, aim) = aimed_so k keep s t in
+    subst (λ (i : Me). PartBy (step_exchanged x) i.who p (value_after s.aim) r0 r) who
+    (subst (λ (y : Aim). PartBy (step_exchanged x) x.me.who p (value_after y) r0 r) aim (step_part p x r0 r tr place going fit))

@@ -1,6 +1,6 @@
 -- machines that leave the own map while they run, and the parts of larger machines that do
 use Rattle.std.proofs.Common.{◌≡◌, ℕ, ◌+◌, ◌%◌, refl, sym, ap, ◌∙◌, subst, Bool, true, false, cond, List}
-use Rattle.std.specs.Prelude.{◌==◌, nat_lt, if◌then◌else◌, Result, Ok, Err}
+use Rattle.std.specs.Prelude.{◌==◌, nat_lt, if◌then◌else◌, Result, Ok}
 use Rattle.shm_words.specs.{declared.tag.Tag.Tag as ATag, Layout.address_limit}
 use Rattle.shm_graph.specs.{declared.{ask.Me.Me, memo.{Memo.Memo, Op.{Op, TheVariants.Nothing}}}, Asks.Trail}
 use Rattle.shm_graph.specs.{Chains.part_set, Events.Event, Laws.{Control, is_some}, Mapped.OnTheWay}
@@ -22,7 +22,7 @@ use Rattle.shm_count.specs.declared.point.StepNext.TheVariants as next
 use Rattle.shm_count.specs.declared.point.StepPoint.TheVariants as step
 use Rattle.shm_count.specs.declared.tear_point.TearPoint.TheVariants as tear
 use Rattle.shm_alloc.specs.Alloc.{Control.alloc_control, AllocFits}
-use Rattle.shm_table.specs.{Proved.{PutRoot.Steps.same_more, Staying.Laws.same_map}, Staying.SameMap}
+use Rattle.shm_table.specs.{Proved.Staying.Laws.same_map, Staying.SameMap}
 use Rattle.shm_table.proofs.Running.Steps.{lane_part, point_part, quiet_by, root_part}
 
 -- ---- the form
@@ -44,12 +44,6 @@ calls_running R more k q known keeps m r0 r tr going fit = more r0 fit.rs r (kno
 -- the map is what it was when the machine began
 abbrev pub IsStill : {S A : Type 0} → Control S A → OnTheWay S → Type 0
 IsStill k fits = WhileRunning SameMap k fits
-
-pub or_still : {S T A B : Type 0} (j : Control S A) (k : Control T B) (fits : OnTheWay S) (fits' : OnTheWay T) → IsStill j fits → IsStill k fits' → IsStill (or_control j k) (OrFits fits fits')
-or_still j k fits fits' h i = or_running SameMap j k fits fits' h i
-
-pub calls_still : {P C B A : Type 0} (k : Control C B) (q : Planned P C B A) → ((p : P) (r0 r : Memo) (tr : Trail) (es : List Event) → q.knows p r0 r tr es → SameMap r0 r) → ((p : P) → IsStill k (q.part p).fits) → IsStill (calls_control k q.steered) (CallsFits k q)
-calls_still k q known keeps = calls_running SameMap same_more k q known keeps
 
 -- nothing was done yet
 pub same_now : (r0 r : Memo) → r ≡ r0 → SameMap r0 r
@@ -91,9 +85,8 @@ runs_word : (g : ATag) (i : ℕ) → RunsDown (word_or_free g i)
 runs_word g i = runs_either (nat_lt i g.refs) (tear.Word g i) (tear.Free g) tt tt
 
 runs_lowered : (b : ℕ) (g : ATag) (i t : ℕ) (a : Result Bool UpFault) → RunsDown (point_of (lowered_next b g i t a))
-runs_lowered b g i t (Ok true) = tt
 runs_lowered b g i t (Ok false) = runs_word g (i + 1)
-runs_lowered b g i t (Err f) = tt
+runs_lowered b g i t _ = tt
 
 runs_freed : (z : Bool) (g : ATag) → RunsDown (point_of (if z then Answer (Ok tt) else Go g.link tear.Return))
 runs_freed true g = tt

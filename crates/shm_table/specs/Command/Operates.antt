@@ -1,5 +1,5 @@
 -- a command of a line as an operation: it begins as the one that the line tells does, and leaves what that leaves
-use Rattle.std.proofs.Common.{List, []}
+use Rattle.std.proofs.Common.{List}
 use Rattle.shm_graph.specs.{declared.memo.Memo.Memo, Asks.Trail, Events.Event}
 use Rattle.plans.specs.{declared.or.Or.TheVariants.{First, Second}, Tasks.CallsMay}
 use Rattle.shm_script.specs.declared.log.Answer.{Answer}

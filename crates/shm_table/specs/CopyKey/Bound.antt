@@ -1,5 +1,5 @@
 -- how many word steps a copy takes: by the keys that were read in both tables, and the blocks that were torn down or left on the way
-use Rattle.std.proofs.Common.{◌≡◌, ℕ, ◌+◌, ◌*◌, ◌⊎◌, List, [], length, Bool}
+use Rattle.std.proofs.Common.{◌≡◌, ℕ, ◌+◌, ◌*◌, ◌⊎◌, List, length, Bool}
 use Rattle.std.specs.List.{All, Contains}
 use Rattle.shm_graph.specs.{declared.{ask.Me.Me, memo.Memo.Memo}, Asks.{Trail, IsWithin}, Bounds.tear_steps}
 use Rattle.shm_graph.specs.Events.{Event}

@@ -1,5 +1,5 @@
 -- how many word steps the removal of a key takes: by the keys that were read, and the blocks that were torn down or left on the way
-use Rattle.std.proofs.Common.{ℕ, ◌+◌, List, [], length}
+use Rattle.std.proofs.Common.{ℕ, ◌+◌, List, length}
 use Rattle.std.specs.List.{All, Contains}
 use Rattle.shm_graph.specs.{declared.{ask.Me.Me, memo.Memo.Memo}, Asks.{Trail, IsWithin}, Events.Event}
 use Rattle.shm_count.specs.Tear.Events.{Visit, frees}

@@ -1,5 +1,5 @@
 -- what a search for a key says of maps: of the own partition, and in a held state of that of the author
-use Rattle.std.proofs.Common.{◌≡◌, ℕ, ◌%◌, false, List, [], ◌∷◌, ◌++◌, Some}
+use Rattle.std.proofs.Common.{◌≡◌, ℕ, ◌%◌, false, List, ◌∷◌, ◌++◌, Some}
 use Rattle.std.specs.List.{Contains}
 use Rattle.shm_graph.specs.declared.{memo.Memo.Memo, spot.Spot.TheVariants.{Home, Body}, table.{Entry.Entry, Part.Part}}
 use Rattle.shm_graph.specs.Held.{is_loose}

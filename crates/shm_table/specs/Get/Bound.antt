@@ -1,5 +1,5 @@
 -- how many word steps taking a latch and looking for a key take, and reading what a key has: by the number of the entries whose key was read
-use Rattle.std.proofs.Common.{◌≡◌, ℕ, ◌+◌, List, [], ◌++◌, length}
+use Rattle.std.proofs.Common.{◌≡◌, ℕ, ◌+◌, List, ◌++◌, length}
 use Rattle.shm_graph.specs.{declared.ask.Me.Me, Asks.{Trail, IsWithin}}
 use Rattle.shm_script.specs.declared.log.Answer.{Answer}
 use Rattle.shm_script.specs.declared.log.Answer.TheVariants as answer

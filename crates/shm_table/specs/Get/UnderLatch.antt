@@ -1,5 +1,5 @@
 -- what reading under a latch leaves of a memo, and what is left once the latch is given back
-use Rattle.std.proofs.Common.{◌≡◌, ℕ, []}
+use Rattle.std.proofs.Common.{◌≡◌, ℕ}
 use Rattle.std.specs.List.{Contains}
 use Rattle.shm_graph.specs.{declared.memo.{Look.Look, Memo.Memo, Stored.Stored}, Core.core}
 

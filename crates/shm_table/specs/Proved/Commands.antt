@@ -15,24 +15,19 @@ use Rattle.shm_table.specs.declared.answer.PutFault.TheVariants as fault
 
 -- why it got no root, and no entry
 pub cause_fetch : (me : Me) (m r : Memo) (f : PutFault) → PutCause me m r f → CommandCause me m r f
-cause_fetch me m r (fault.EraSpent e) h = h
 cause_fetch me m r fault.RootsFull h = (0, λ j l n. h j l)
-cause_fetch me m r (fault.Full s b) h = h
-cause_fetch me m r (fault.CountFull b n) h = h
+cause_fetch me m r _ h = h
 
 -- why the key hasn't got it, where root k was empty before
 pub cause_put : (me : Me) (k : ℕ) (m x r : Memo) (f : PutFault) → k < 16 → root_word me.who m k ≡ 0 → ((j : ℕ) → k ≢ j → root_word me.who x j ≡ root_word me.who m j) → PutCause me x r f → CommandCause me m r f
-cause_put me k m x r (fault.EraSpent e) low empty others h = h
 cause_put me k m x r fault.RootsFull low empty others h = (k, λ j l n z. h j l (others j n ∙ z))
 cause_put me k m x r (fault.Full s b) low empty others h = (k, low, empty)
-cause_put me k m x r (fault.CountFull b n) low empty others h = h
+cause_put me k m x r _ low empty others h = h
 
 -- it stays why, as the own era doesn't sink
 pub cause_then : (me : Me) (m x r : Memo) (f : PutFault) → own_word x.own (spot.Era me.who me.who) ≤ own_word r.own (spot.Era me.who me.who) → CommandCause me m x f → CommandCause me m r f
 cause_then me m x r (fault.EraSpent e) era h = spent_later me.who e x r era h
-cause_then me m x r fault.RootsFull era h = h
-cause_then me m x r (fault.Full s b) era h = h
-cause_then me m x r (fault.CountFull b n) era h = h
+cause_then me m x r _ era h = h
 
 -- what a tear-down left before is left still where one more was stopped
 pub left_too : (me : Me) (m r : Memo) (us vs : List Visit) (era : ℕ) → All (λ (x : Visit). Contains m.dying x.block) us → Stopped me m r era vs → All (λ (x : Visit). Contains r.dying x.block) (us ++ vs)

@@ -5,7 +5,7 @@ use Rattle.shm_graph.specs.Views.{own_word}
 use Rattle.shm_count.specs.Roots.{root_word}
 use Rattle.shm_table.specs.{declared.answer.PutFault.PutFault, OpenTable.HomeSo, PutRoot.{IsUnlisted, PutRootRefused}}
 use Rattle.shm_table.specs.Proved.{PutRoot.Undoing.{home_later, still_more, still_same}, Staying.Laws.root_kept}
-use Rattle.shm_table.specs.Undoing.{CommandUndone, BlockUndone, home, c}
+use Rattle.shm_table.specs.Undoing.{CommandUndone, BlockUndone, home}
 
 -- ---- on the way
 

@@ -1,10 +1,10 @@
-use Rattle.std.proofs.Common.{false, ◌∙◌}
+use Rattle.std.proofs.Common.{◌∙◌}
 use Rattle.lojarnek.specs.Standing.{acts_of}
 use Rattle.lojarnek.proofs.{Follows.{follow_came, follow_died, follow_kept}, Setting.{ended_came, named_then}}
 use Rattle.lojarnek.proofs.follow.follow.Goals as goal
 
 pub returns-in_default : goal.returns-in_default
-returns-in_default c = ended_came _ _ _ _ c.args.roots.now.named false c.in_default.ensures
+returns-in_default c = ended_came _ _ _ _ c.args.roots.now.named c.in_default.ensures
 
 pub follow_held-requires-clause-pool : goal.follow_held-requires-clause-pool
 follow_held-requires-clause-pool c = c.in-Done.ensures.0.of ∙ c.requires.pool
@@ -32,8 +32,10 @@ give-requires-clause-held c = (c.args.author, c.in-Done-follow_held.ensures.1)
 
 pub returns-in_default-give : goal.returns-in_default-give
 returns-in_default-give c =
+    rw c.is_ok-done.ensures.value (
     follow_kept c.args.author c.args.block c.args.word (acts_of c.args.token.now c.args.life.now.left) (acts_of c.take.new.token c.take.new.life.left) (acts_of c.follow_held.new.token c.follow_held.new.life.left)
-    (acts_of c.give.new.token c.give.new.life.left) c.follow_held.new.roots.named c.in-Done.ensures c.in-Done-follow_held.answer c.is_ok-done.result c.in-Done-follow_held.ensures c.in_default-give.ensures
+    (acts_of c.give.new.token c.give.new.life.left) c.follow_held.new.roots.named c.in-Done.ensures c.in-Done-follow_held.answer c.in-Done-follow_held.ensures c.in_default-give.ensures
+    )
 
 pub returns : goal.returns
 returns c =

@@ -76,7 +76,7 @@ pub returns-clause-spent : goal.returns-clause-spent
 returns-clause-spent c e =
     let r : Memo = memo_of c.call.new.self c.args.who in
     let one : length r.call ≡ 1 = ap (λ (tr : Trail). length tr) (returns-clause-gives c e).trail in
-    ap (λ (n : ℕ). c.call.new.life.left + n) (sym one) ∙ (returns-clause-ran c).spent e refl
+    ap (λ (n : ℕ). c.call.new.life.left + n) (sym one) ∙ (returns-clause-ran c).spent ((returns-clause-ran c).some e) refl
 
 pub returns-clause-events : goal.returns-clause-events
 returns-clause-events c e =

@@ -121,7 +121,7 @@ pub returns-in-Some-clause-spent : goal.returns-in-Some-clause-spent
 returns-in-Some-clause-spent c =
     let at = (goal.at.returns-in-Some-clause-spent c).In-Some in
     let one : length (memo_of c.call.new.self c.args.who).call ≡ 1 = ap (λ (tr : Trail). length tr) (gives at).trail in
-    ap (λ (n : ℕ). c.call.new.life.left + n) (sym one) ∙ (ran at).spent refl refl
+    ap (λ (n : ℕ). c.call.new.life.left + n) (sym one) ∙ (ran at).spent ((ran at).some refl) refl
 
 pub returns-in-None-clause-answers : goal.returns-in-None-clause-answers
 returns-in-None-clause-answers c some =

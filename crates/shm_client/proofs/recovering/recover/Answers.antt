@@ -1,4 +1,4 @@
-use Rattle.std.proofs.Common.{◌≡◌, ◌<◌, refl, ap, ◌∙◌, true, false, List, [], length, Result}
+use Rattle.std.proofs.Common.{◌≡◌, ◌<◌, refl, sym, ap, ◌∙◌, subst, true, false, List, [], length, Result}
 use Rattle.std.specs.{Prelude.{Option, Some, None, Ok, Err, IfOk, IfSome}, Option.is_some}
 use Rattle.shm_graph.specs.declared.{ask.Me.Me, memo.{Kind.TheVariants.Recoverer, Memo.Memo, Status.TheVariants.Gone}}
 use Rattle.shm_graph.specs.{Agents.entered, Asks.Trail, Events.Event}
@@ -18,67 +18,76 @@ use Rattle.shm_recover.specs.Recover.{Control.{recover_parts, recovering, recove
 use Rattle.shm_recover.proofs.Steady.{recover_steady}
 use Rattle.shm_client.proofs.Cut.{cut_map, either_way, long}
 use Rattle.shm_client.proofs.Fallen.{fallen_first, fallen_fits, fallen_gave, fallen_ran, fallen_told, may_begin}
-use Rattle.shm_client.proofs.recovering.recover.Goals.{After-new-machine, After-call}
+use Rattle.shm_client.specs.Following.{IsFollower}
+use Rattle.shm_client.proofs.recovering.recover.Goals.{After-new-2, After-follow}
 use Rattle.shm_client.proofs.recovering.recover.Goals as goal
 
 laws : PlanLaws recover_parts recover_plan
 laws = recover_laws mend_laws roots_laws back_laws finish_laws scan_laws give_laws
 
 -- the machine makes the calls of the plan
-abbrev plan : (c : After-new-machine) → RecoverState
+abbrev plan : (c : After-new-2) → RecoverState
 plan c = recovering (member c.args.pool.now.start.geometry c.args.who)
 
-state : (c : After-new-machine) → c.new-machine.result ≡ calls_of recover_steered (plan c)
-state c =
+made : (c : After-new-2) → c.new-2.result ≡ plan c
+made c =
     let g = c.new.ensures.geometry ∙ c.geometry-geometry.ensures.is in
     let me : c.new.result ≡ member c.args.pool.now.start.geometry c.args.who = (λ i. record { geometry = g i; who = c.new.ensures.who i }) in
-    c.new-machine.ensures ∙ ap (λ (x : RecoverState). calls_of recover_steered x) (c.new-2.ensures.state ∙ ap (λ (x : Me). recovering x) me)
+    c.new-2.ensures.state ∙ ap (λ (x : Me). recovering x) me
+
+state : (c : After-new-2) → calls_of recover_steered c.new-2.result ≡ calls_of recover_steered (plan c)
+state c = ap (λ (x : RecoverState). calls_of recover_steered x) (made c)
 
 -- which fits the memo of the recoverer
-fit : (c : After-new-machine) → let r : Memo = entered Recoverer (memo_of c.args.pool.now c.args.who) in CallsFits recover_parts recover_plan (calls_of recover_steered (plan c)) r r []
+fit : (c : After-new-2) → let r : Memo = entered Recoverer (memo_of c.args.pool.now c.args.who) in CallsFits recover_parts recover_plan (calls_of recover_steered (plan c)) r r []
 fit c =
     let r : Memo = entered Recoverer (memo_of c.args.pool.now c.args.who) in
     calls_begin recover_parts recover_plan laws (plan c) r refl refl
     (recover_begin (member c.args.pool.now.start.geometry c.args.who) r (record { geometry = c.requires.geometry; who = c.requires.who; recoverer = recovers-entered Recoverer (memo_of c.args.pool.now c.args.who) }))
 
-pub call-requires-clause-agent : goal.call-requires-clause-agent
-call-requires-clause-agent c = may_begin c.args.pool.now c.args.who c.geometry-geometry.ensures.run c.requires.who c.requires.fell
+pub follow-requires-clause-me : goal.follow-requires-clause-me
+follow-requires-clause-me c =
+    let at = (goal.at.follow-requires-clause-me c).After-new-2 in
+    subst (λ (x : RecoverState). IsFollower recover_parts recover_plan x c.args.who c.args.pool.now) (sym (made at)) (refl, c.requires.who, refl)
 
-pub call-requires-clause-fits : goal.call-requires-clause-fits
-call-requires-clause-fits c =
-    let at = (goal.at.call-requires-clause-fits c).After-new-machine in
-    fallen_fits c.args.pool.now c.args.who c.geometry-geometry.ensures.run c.requires.who c.requires.fell (calls_control recover_parts recover_steered) (CallsFits recover_parts recover_plan) (CallsGives recover_parts recover_plan) (calls_of recover_steered (plan at)) refl (fit at) c.new-machine.result (state at)
+pub follow-requires-clause-agent : goal.follow-requires-clause-agent
+follow-requires-clause-agent c = may_begin c.args.pool.now c.args.who c.geometry-geometry.ensures.run c.requires.who c.requires.fell
+
+pub follow-requires-clause-fits : goal.follow-requires-clause-fits
+follow-requires-clause-fits c =
+    let at = (goal.at.follow-requires-clause-fits c).After-new-2 in
+    fallen_fits c.args.pool.now c.args.who c.geometry-geometry.ensures.run c.requires.who c.requires.fell (calls_control recover_parts recover_steered) (CallsFits recover_parts recover_plan) (CallsGives recover_parts recover_plan) (calls_of recover_steered (plan at)) refl (fit at) (calls_of recover_steered c.new-2.result) (state at)
 
 -- ---- what the call leaves
 
-module _ (c : After-call) where
-  abbrev at : After-new-machine
-  at = (goal.at.After-call c).After-new-machine
+module _ (c : After-follow) where
+  abbrev at : After-new-2
+  at = (goal.at.After-follow c).After-new-2
 
   abbrev then : Pool
-  then = c.call.new.self
+  then = c.follow.new.pool
 
-  say : Called (calls_control recover_parts recover_steered) (CallsFits recover_parts recover_plan) (CallsGives recover_parts recover_plan) c.args.who c.args.pool.now c.new-machine.result then c.args.life.now.left c.call.new.life.left c.call.result
-  say = record { gave = c.call.ensures.gives; ran = c.call.ensures.ran; took = c.call.ensures.took; events = c.call.ensures.events }
+  say : Called (calls_control recover_parts recover_steered) (CallsFits recover_parts recover_plan) (CallsGives recover_parts recover_plan) c.args.who c.args.pool.now (calls_of recover_steered c.new-2.result) then c.args.life.now.left c.follow.new.life.left c.follow.result
+  say = record { gave = c.follow.ensures.gives; ran = c.follow.ensures.ran; took = c.follow.ensures.took; events = c.follow.ensures.events }
 
-  ran : Ran c.args.who true (is_some c.call.result) c.args.pool.now then c.args.life.now.left c.call.new.life.left
+  ran : Ran c.args.who true (is_some c.follow.result) c.args.pool.now then c.args.life.now.left c.follow.new.life.left
   ran =
-      fallen_ran c.args.pool.now c.args.who c.geometry-geometry.ensures.run c.requires.who c.requires.fell (calls_control recover_parts recover_steered) (CallsFits recover_parts recover_plan) (CallsGives recover_parts recover_plan) (calls_of recover_steered (plan at)) refl (fit at) c.new-machine.result (state at)
-      then c.args.life.now.left c.call.new.life.left c.call.result say
+      fallen_ran c.args.pool.now c.args.who c.geometry-geometry.ensures.run c.requires.who c.requires.fell (calls_control recover_parts recover_steered) (CallsFits recover_parts recover_plan) (CallsGives recover_parts recover_plan) (calls_of recover_steered (plan at)) refl (fit at) (calls_of recover_steered c.new-2.result) (state at)
+      then c.args.life.now.left c.follow.new.life.left c.follow.result say
 
-  gave : IfSome c.call.result (λ a. RecoverGives (member c.args.pool.now.start.geometry c.args.who) (entered Recoverer (memo_of c.args.pool.now c.args.who)) (memo_of then c.args.who) (memo_of then c.args.who).call a)
+  gave : IfSome c.follow.result (λ a. RecoverGives (member c.args.pool.now.start.geometry c.args.who) (entered Recoverer (memo_of c.args.pool.now c.args.who)) (memo_of then c.args.who) (memo_of then c.args.who).call a)
   gave =
-      fallen_gave c.args.pool.now c.args.who c.geometry-geometry.ensures.run c.requires.who c.requires.fell (calls_control recover_parts recover_steered) (CallsFits recover_parts recover_plan) (CallsGives recover_parts recover_plan) (calls_of recover_steered (plan at)) refl (fit at) c.new-machine.result (state at)
-      then c.args.life.now.left c.call.new.life.left c.call.result say
+      fallen_gave c.args.pool.now c.args.who c.geometry-geometry.ensures.run c.requires.who c.requires.fell (calls_control recover_parts recover_steered) (CallsFits recover_parts recover_plan) (CallsGives recover_parts recover_plan) (calls_of recover_steered (plan at)) refl (fit at) (calls_of recover_steered c.new-2.result) (state at)
+      then c.args.life.now.left c.follow.new.life.left c.follow.result say
 
   -- with its events
   abbrev Left : Result (Unit {0}) EraSpent → Type 0
   Left a = (es : List Event) × Did c.args.who c.args.pool.now then es × RecoverLeaves (plan at) (entered Recoverer (memo_of c.args.pool.now c.args.who)) (memo_of then c.args.who) (memo_of then c.args.who).call es a
 
-  left : IfSome c.call.result Left
+  left : IfSome c.follow.result Left
   left =
-      fallen_told c.args.pool.now c.args.who c.geometry-geometry.ensures.run c.requires.who c.requires.fell (calls_control recover_parts recover_steered) (CallsFits recover_parts recover_plan) (CallsGives recover_parts recover_plan) (calls_of recover_steered (plan at)) refl (fit at) c.new-machine.result (state at)
-      then c.args.life.now.left c.call.new.life.left c.call.result say (calls_does recover_parts recover_plan) (calls_tells recover_parts recover_plan laws) Left (λ a g d. (_, d, g.leaves))
+      fallen_told c.args.pool.now c.args.who c.geometry-geometry.ensures.run c.requires.who c.requires.fell (calls_control recover_parts recover_steered) (CallsFits recover_parts recover_plan) (CallsGives recover_parts recover_plan) (calls_of recover_steered (plan at)) refl (fit at) (calls_of recover_steered c.new-2.result) (state at)
+      then c.args.life.now.left c.follow.new.life.left c.follow.result say (calls_does recover_parts recover_plan) (calls_tells recover_parts recover_plan laws) Left (λ a g d. (_, d, g.leaves))
 
 -- what follows from what is left
 left_of : (A : Type 0) (P Q : A → Type 0) (o : Option A) → ((a : A) → P a → Q a) → IfSome o P → IfSome o Q
@@ -94,30 +103,30 @@ map_by m r0 r tr es (Ok u) h = h.map
 map_by m r0 r tr es (Err e) h = h.map
 
 pub returns-clause-gives : goal.returns-clause-gives
-returns-clause-gives c = gave (goal.at.returns-clause-gives c).After-call
+returns-clause-gives c = gave (goal.at.returns-clause-gives c).After-follow
 
 pub returns-clause-ran : goal.returns-clause-ran
-returns-clause-ran c = ran (goal.at.returns-clause-ran c).After-call
+returns-clause-ran c = ran (goal.at.returns-clause-ran c).After-follow
 
 pub returns-clause-gone : goal.returns-clause-gone
 returns-clause-gone c =
-    let at = (goal.at.returns-clause-gone c).After-call in
-    left_of (Result (Unit {0}) EraSpent) (Left at) (λ a. IfOk a (λ u. (memo_of c.call.new.self c.args.who).status ≡ Gone)) c.call.result (λ a h. gone_by (plan (goal.at.After-call at).After-new-machine) _ _ _ _ a h.2) (left at)
+    let at = (goal.at.returns-clause-gone c).After-follow in
+    left_of (Result (Unit {0}) EraSpent) (Left at) (λ a. IfOk a (λ u. (memo_of c.follow.new.pool c.args.who).status ≡ Gone)) c.follow.result (λ a h. gone_by (plan (goal.at.After-follow at).After-new-2) _ _ _ _ a h.2) (left at)
 
 -- where it was cut off the map is as it was
-cut : (c : After-call) → is_some c.call.result ≡ false → map_in (memo_of c.call.new.self c.args.who).part ≡ map_in (memo_of c.args.pool.now c.args.who).part
+cut : (c : After-follow) → is_some c.follow.result ≡ false → map_in (memo_of c.follow.new.pool c.args.who).part ≡ map_in (memo_of c.args.pool.now c.args.who).part
 cut c none =
-    let at = (goal.at.After-call c).After-new-machine in
-    let left = c.call.ensures.cut none in
-    let first = fallen_first c.args.pool.now c.args.who c.geometry-geometry.ensures.run c.requires.who c.requires.fell (calls_control recover_parts recover_steered) (CallsFits recover_parts recover_plan) (CallsGives recover_parts recover_plan) (calls_of recover_steered (plan at)) refl (fit at) c.new-machine.result (state at) in
-    let many : c.args.who < length c.call.new.self.accounts = long c.args.who c.args.pool.now c.call.new.self c.call.ensures.ran.start c.call.ensures.ran.run c.requires.who in
-    cut_map (calls_control recover_parts recover_steered) (CallsFits recover_parts recover_plan) recover_steady c.call.new.m (entered Recoverer (memo_of c.args.pool.now c.args.who)) c.call.new.self c.args.who many left.0 (left.1 (entered Recoverer (memo_of c.args.pool.now c.args.who)) first)
+    let at = (goal.at.After-follow c).After-new-2 in
+    let left = c.follow.ensures.cut none in
+    let first = fallen_first c.args.pool.now c.args.who c.geometry-geometry.ensures.run c.requires.who c.requires.fell (calls_control recover_parts recover_steered) (CallsFits recover_parts recover_plan) (CallsGives recover_parts recover_plan) (calls_of recover_steered (plan at)) refl (fit at) (calls_of recover_steered c.new-2.result) (state at) in
+    let many : c.args.who < length c.follow.new.pool.accounts = long c.args.who c.args.pool.now c.follow.new.pool c.follow.ensures.ran.start c.follow.ensures.ran.run c.requires.who in
+    cut_map (calls_control recover_parts recover_steered) (CallsFits recover_parts recover_plan) recover_steady left.0 (entered Recoverer (memo_of c.args.pool.now c.args.who)) c.follow.new.pool c.args.who many left.1 (left.2 (entered Recoverer (memo_of c.args.pool.now c.args.who)) first)
 
 pub returns-clause-map : goal.returns-clause-map
 returns-clause-map c =
-    let at = (goal.at.returns-clause-map c).After-call in
-    let P : Type 0 = map_in (memo_of c.call.new.self c.args.who).part ≡ map_in (memo_of c.args.pool.now c.args.who).part in
-    either_way P c.call.result (left_of (Result (Unit {0}) EraSpent) (Left at) (λ a. P) c.call.result (λ a h. map_by (plan (goal.at.After-call at).After-new-machine) _ _ _ _ a h.2) (left at)) (cut at)
+    let at = (goal.at.returns-clause-map c).After-follow in
+    let P : Type 0 = map_in (memo_of c.follow.new.pool c.args.who).part ≡ map_in (memo_of c.args.pool.now c.args.who).part in
+    either_way P c.follow.result (left_of (Result (Unit {0}) EraSpent) (Left at) (λ a. P) c.follow.result (λ a h. map_by (plan (goal.at.After-follow at).After-new-2) _ _ _ _ a h.2) (left at)) (cut at)
 
 pub returns-clause-events : goal.returns-clause-events
-returns-clause-events c = left (goal.at.returns-clause-events c).After-call
+returns-clause-events c = left (goal.at.returns-clause-events c).After-follow

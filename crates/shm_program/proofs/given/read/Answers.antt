@@ -1,8 +1,7 @@
-use Rattle.std.proofs.Common.{◌≡◌, ◌∙◌, rules, ap, inl, inr, map, codes, true, Some}
+use Rattle.std.proofs.Common.{◌≡◌, ◌∙◌, rules, ap, inl, inr, map, true, Some}
 use Rattle.std.specs.String.{string_bytes}
-use Rattle.clap.specs.Words.{app_of, found_of, is_simple_and_free, kind_of}
+use Rattle.clap.specs.Words.{app_of, is_simple_and_free, kind_of}
 use Rattle.clap.specs.declared.error.kind.ErrorKind.TheVariants.{OutOfMemory}
-use Rattle.clap.proofs.WalkLemmas.{first_value-rows}
 use Rattle.shm_program.specs.{Givens.command_of, Words.{read_by, rows_in}}
 use Rattle.shm_program.proofs.Commands.{command_free, read_when, refused_when, simple_too}
 use Rattle.shm_program.proofs.given.read.Goals as goal
@@ -16,15 +15,7 @@ returns-in-Ok c =
     let rows : Some (rows_in m) ≡ read_by a words = read_when a words (rows_in m) (c.in-Ok.ensures.kinds free) (c.in-Ok.ensures.matches (simple_too a free)).0 in (
       rows_in m,
       rows ∙ ap (λ b. read_by b words) c.in_ok-command.ensures,
-      record {
-        image = c.get_str-image.ensures ∙ first_value-rows (found_of m) (codes "image");
-        print = c.get_str-print.ensures ∙ first_value-rows (found_of m) (codes "print");
-        medics = c.get_str-medics.ensures ∙ first_value-rows (found_of m) (codes "medics");
-        start = c.get_str-start.ensures ∙ first_value-rows (found_of m) (codes "start");
-        size = c.get_str-size.ensures ∙ first_value-rows (found_of m) (codes "size");
-        turns = c.get_str-turns.ensures ∙ first_value-rows (found_of m) (codes "turns");
-        limit = c.get_str-limit.ensures ∙ first_value-rows (found_of m) (codes "limit");
-      },
+      c.given_of.ensures,
     )
 
 pub returns : goal.returns

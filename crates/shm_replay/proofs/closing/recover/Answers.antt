@@ -127,7 +127,7 @@ returns-clause-told c =
     let fresh : (calls_control recover_parts recover_steered).fresh c.new-2.result ≡ true = ap (λ (x : RecoverCalls). (calls_control recover_parts recover_steered).fresh x) (state made) in
     let took = c.call.ensures.took (r.some refl) in
     let many : length took.trail ≡ length (memo_of c.call.new.self who).call = sym (ap length (took.call ∙ ap (λ (b : Bool). call_before b (memo_of (readied p who) who).call ++ took.trail) fresh)) in
-    let spent = r.spent refl refl in
+    let spent = r.spent (r.some refl) refl in
     let less = r.less refl in
     told_first (calls_control recover_parts recover_steered) who p c.new-2.result c.call.new.self c.geometry.ensures.run r.run r.start
     (subst (λ (n : ℕ). who < n) (sym c.geometry.ensures.run.held.accounts) c.requires.who)

@@ -1,8 +1,8 @@
-use Rattle.std.proofs.Common.{◌≡◌, ◌≢◌, ℕ, zero, suc, false, refl, sym, ap, ◌∙◌, subst, inl, inr, rules}
+use Rattle.std.proofs.Common.{◌≡◌, ℕ, zero, ◌+◌, ◌<◌, false, refl, sym, ap, ◌∙◌, subst, inl, inr, rules}
 use Rattle.std.proofs.lemmas.Bool.{cases_eq}
 use Rattle.shm_graph.specs.declared.ask.Me.{Me}
-use Rattle.shm_replay.specs.{Seats.IsSeat, Turns.{in_a_row, is_busy}}
-use Rattle.shm_replay.proofs.{Giving.rounds_more, Lone.{lone_round, same_busy}, Seating.seat_busy}
+use Rattle.shm_replay.specs.{Seats.IsSeat, Turns.is_busy}
+use Rattle.shm_replay.proofs.{Lone.rounds_on, Seating.seat_busy}
 use Rattle.shm_replay.proofs.order.give_rest.Goals as goal
 
 pub loop-agents-init : goal.loop-agents-init
@@ -16,10 +16,18 @@ loop-agents-init g c =
       start = refl;
     }
 
-pub give_turn-requires : goal.give_turn-requires
-give_turn-requires g c =
+pub give_turns-requires-clause-seat : goal.give_turns-requires-clause-seat
+give_turns-requires-clause-seat g c =
     let h = c.loop-agents.invariant in
-    record { seat = subst (λ (n : ℕ). IsSeat c.args.trace.now c.loop-agents.pool n c.loop-agents.agents) (sym (ap (λ (m : Me). m.who) h.me)) h.seat }
+    subst (λ (n : ℕ). IsSeat c.args.trace.now c.loop-agents.pool n c.loop-agents.agents) (sym (ap (λ (m : Me). m.who) h.me)) h.seat
+
+pub give_turns-requires-clause-who : goal.give_turns-requires-clause-who
+give_turns-requires-clause-who g c = subst (λ (n : ℕ). n < c.args.trace.now.clients) (sym (ap (λ (m : Me). m.who) c.loop-agents.invariant.me)) c.requires.who
+
+pub give_turns-requires-clause-lone : goal.give_turns-requires-clause-lone
+give_turns-requires-clause-lone g c d o =
+    let h = c.loop-agents.invariant in
+    h.idle d (λ f. o (f ∙ sym (ap (λ (m : Me). m.who) h.me)))
 
 pub loop-agents-preserved : goal.loop-agents-preserved
 loop-agents-preserved g c =
@@ -27,18 +35,17 @@ loop-agents-preserved g c =
     let h = l.invariant in
     let t = c.args.trace.now in
     let p = c.args.pool.now in
-    let q = c.give_turn.new.pool in
+    let q = c.give_turns.new.pool in
     let who : ℕ = c.args.agents.now.me.who in
     let e : l.agents.me.who ≡ who = ap (λ (m : Me). m.who) h.me in
-    let got = c.give_turn.ensures in
+    let got = c.give_turns.ensures in
     let (n, is) = h.turns in
-    let row : q ≡ in_a_row t l.pool who 1 = subst (λ (k : ℕ). q ≡ in_a_row t l.pool k 1) e got.given in
-    let idle : (d : ℕ) → d ≢ who → is_busy t q d ≡ false = λ d o. same_busy t l.pool q d got.start (got.others d (λ f. o (f ∙ e))) ∙ h.idle d o in
+    let (k, more) = got.given in
     record {
       me = got.me ∙ h.me;
-      seat = subst (λ (k : ℕ). IsSeat t q k c.give_turn.new.agents) e got.seat;
-      turns = (suc n, rounds_more t p l.pool q n is (lone_round t l.pool q who c.requires.who row h.idle idle));
-      idle = idle;
+      seat = subst (λ (i : ℕ). IsSeat t q i c.give_turns.new.agents) e got.seat;
+      turns = (n + k, rounds_on t p l.pool q n k is more);
+      idle = λ d o. got.lone d (λ f. o (f ∙ e));
       others = λ d o. got.others d (λ f. o (f ∙ e)) ∙ h.others d o;
       start = got.start ∙ h.start;
     }

@@ -2,7 +2,7 @@ use Rattle.std.proofs.Common.{◌≡◌, ℕ}
 use Rattle.std.specs.Prelude.{List}
 use Rattle.shm_graph.specs.{declared.{ask.Me.Me, memo.Memo.Memo}, Events.Event}
 use Rattle.shm_count.specs.Tear.Events.{Visit}
-use Rattle.shm_alloc.specs.declared.alloc.AllocFault.{AllocFault, TheVariants.{EraSpent, RootsFull, Full}}
+use Rattle.shm_alloc.specs.declared.alloc.AllocFault.{AllocFault, TheVariants.EraSpent}
 use Rattle.shm_table.specs.{declared.answer.PutFault.TheVariants.CountFull, Answers.made_fault, OpenTable.OpenLeft}
 use Rattle.shm_table.specs.OpenTable.OpenLeft.{Undropped, Unmade, Unnamed}
 use Rattle.shm_table.proofs.opening.open_table_tells.Goals as goal

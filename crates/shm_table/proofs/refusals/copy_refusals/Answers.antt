@@ -18,9 +18,7 @@ by_fault m r0 r tr es (answer.CountFull b x) is n h = (fault.CountFull b x, refl
 by_fault m r0 r tr es answer.Missing is n h = absurd (n refl)
 by_fault m r0 r tr es (answer.Empty x) is n h = absurd h
 by_fault m r0 r tr es (answer.QueueFull x y) is n h = absurd h
-by_fault m r0 r tr es answer.Ok is n h = absurd (false≢true is)
-by_fault m r0 r tr es (answer.Stored b) is n h = absurd (false≢true is)
-by_fault m r0 r tr es (answer.Value x b) is n h = absurd (false≢true is)
+by_fault m r0 r tr es _ is n h = absurd (false≢true is)
 
 -- and their cause
 caused : (m : CopyState) (r0 r : Memo) (tr : Trail) (es : List Event) (f : PutFault) → CopyLeaves m r0 r tr es (fault_answer f) → CommandCause m.me r0 r f
@@ -30,15 +28,12 @@ caused m r0 r tr es _ h = h.cause
 -- with any other answer the own map has the other key
 has : (m : CopyState) (r0 r : Memo) (tr : Trail) (es : List Event) (a : Answer) → a ≢ answer.Missing → CopyLeaves m r0 r tr es a → m.author ≡ m.me.who → map_in r0.part m.other ≢ None
 has m r0 r tr es (answer.Value n b) other h own = some_not (map_in r0.part m.other) (n, b) (h.source.has own)
-has m r0 r tr es (answer.EraSpent e) other h own = let y = h.has own in some_not (map_in r0.part m.other) (y.0, y.1) y.2
-has m r0 r tr es answer.RootsFull other h own = let y = h.has own in some_not (map_in r0.part m.other) (y.0, y.1) y.2
-has m r0 r tr es (answer.Full s b) other h own = let y = h.has own in some_not (map_in r0.part m.other) (y.0, y.1) y.2
-has m r0 r tr es (answer.CountFull b n) other h own = let y = h.has own in some_not (map_in r0.part m.other) (y.0, y.1) y.2
 has m r0 r tr es answer.Missing other h own = absurd (other refl)
 has m r0 r tr es (answer.Empty x) other h own = absurd h
 has m r0 r tr es (answer.QueueFull x y) other h own = absurd h
 has m r0 r tr es answer.Ok other h own = absurd h
 has m r0 r tr es (answer.Stored b) other h own = absurd h
+has m r0 r tr es _ other h own = let y = h.has own in some_not (map_in r0.part m.other) (y.0, y.1) y.2
 
 pub returns-clause-answers : goal.returns-clause-answers
 returns-clause-answers c m r0 r tr es a is n h = by_fault m r0 r tr es a is n h

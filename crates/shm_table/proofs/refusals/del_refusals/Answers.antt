@@ -15,12 +15,7 @@ has m r0 r tr es answer.Ok other h = let y = h.1.was in some_not (map_in r0.part
 has m r0 r tr es (answer.EraSpent e) other h = let y = h.1.was in some_not (map_in r0.part m.key) (y.0, y.1) y.2
 has m r0 r tr es (answer.CountFull b x) other h = let y = h.1.was in some_not (map_in r0.part m.key) (y.0, y.1) y.2
 has m r0 r tr es answer.Missing other h = absurd (other refl)
-has m r0 r tr es answer.RootsFull other h = absurd h.1
-has m r0 r tr es (answer.Full s b) other h = absurd h.1
-has m r0 r tr es (answer.QueueFull x y) other h = absurd h.1
-has m r0 r tr es (answer.Empty x) other h = absurd h.1
-has m r0 r tr es (answer.Stored b) other h = absurd h.1
-has m r0 r tr es (answer.Value x b) other h = absurd h.1
+has m r0 r tr es _ other h = absurd h.1
 
 -- of the step by which the word that led to the entry loses it
 spent : (m : DelState) (r0 : Memo) (entry next e : ℕ) → StepCause m.me (link_aim entry next) r0 (EraSpent e) → (e ≡ own_word r0.own (Era m.me.who m.me.who)) × (2 ^ 47 - 4 < e)
@@ -35,13 +30,10 @@ none : (m : DelState) (r0 r : Memo) (tr : Trail) (es : List Event) (a : Answer) 
 none m r0 r tr es answer.Missing is h = h.1.none
 none m r0 r tr es (answer.EraSpent e) is h = h.1.none
 none m r0 r tr es (answer.CountFull b x) is h = h.1.none
-none m r0 r tr es answer.RootsFull is h = absurd h.1
-none m r0 r tr es (answer.Full s b) is h = absurd h.1
-none m r0 r tr es (answer.QueueFull x y) is h = absurd h.1
-none m r0 r tr es (answer.Empty x) is h = absurd h.1
 none m r0 r tr es answer.Ok is h = absurd (false≢true is)
 none m r0 r tr es (answer.Stored b) is h = absurd (false≢true is)
 none m r0 r tr es (answer.Value x b) is h = absurd (false≢true is)
+none m r0 r tr es _ is h = absurd h.1
 
 pub returns-clause-answers : goal.returns-clause-answers
 returns-clause-answers c m r0 r tr es = (λ h. h.1, λ s b h. h.1, λ x y h. h.1, λ x h. h.1)

@@ -10,27 +10,15 @@ use Rattle.shm_table.proofs.refusals.get_refusals.Goals as goal
 -- its answers
 missing : (m : GetState) (r0 r : Memo) (tr : Trail) (es : List Event) (a : Answer) → is_refusal a ≡ true → GetLeaves m r0 r tr es a → a ≡ answer.Missing
 missing m r0 r tr es answer.Missing is h = refl
-missing m r0 r tr es (answer.EraSpent e) is h = absurd h
-missing m r0 r tr es answer.RootsFull is h = absurd h
-missing m r0 r tr es (answer.Full s b) is h = absurd h
-missing m r0 r tr es (answer.CountFull b x) is h = absurd h
-missing m r0 r tr es (answer.QueueFull x y) is h = absurd h
-missing m r0 r tr es (answer.Empty x) is h = absurd h
 missing m r0 r tr es answer.Ok is h = absurd (false≢true is)
 missing m r0 r tr es (answer.Stored b) is h = absurd (false≢true is)
 missing m r0 r tr es (answer.Value x b) is h = absurd (false≢true is)
+missing m r0 r tr es _ is h = absurd h
 
 has : (m : GetState) (r0 r : Memo) (tr : Trail) (es : List Event) (a : Answer) → a ≢ answer.Missing → GetLeaves m r0 r tr es a → m.author ≡ m.me.who → map_in r0.part m.key ≢ None
 has m r0 r tr es (answer.Value x b) other h own = some_not (map_in r0.part m.key) (x, b) (h.has own)
 has m r0 r tr es answer.Missing other h own = absurd (other refl)
-has m r0 r tr es (answer.EraSpent e) other h own = absurd h
-has m r0 r tr es answer.RootsFull other h own = absurd h
-has m r0 r tr es (answer.Full s b) other h own = absurd h
-has m r0 r tr es (answer.CountFull b x) other h own = absurd h
-has m r0 r tr es (answer.QueueFull x y) other h own = absurd h
-has m r0 r tr es (answer.Empty x) other h own = absurd h
-has m r0 r tr es answer.Ok other h own = absurd h
-has m r0 r tr es (answer.Stored b) other h own = absurd h
+has m r0 r tr es _ other h own = absurd h
 
 pub returns-clause-answers : goal.returns-clause-answers
 returns-clause-answers c m r0 r tr es a is h = missing m r0 r tr es a is h

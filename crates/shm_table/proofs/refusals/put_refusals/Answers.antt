@@ -13,12 +13,10 @@ by_fault m r0 r tr es (answer.EraSpent e) is h = (fault.EraSpent e, refl)
 by_fault m r0 r tr es answer.RootsFull is h = (fault.RootsFull, refl)
 by_fault m r0 r tr es (answer.Full s b) is h = (fault.Full s b, refl)
 by_fault m r0 r tr es (answer.CountFull b x) is h = (fault.CountFull b x, refl)
-by_fault m r0 r tr es answer.Missing is h = absurd h
-by_fault m r0 r tr es (answer.Empty x) is h = absurd h
-by_fault m r0 r tr es (answer.QueueFull x y) is h = absurd h
 by_fault m r0 r tr es answer.Ok is h = absurd (false≢true is)
 by_fault m r0 r tr es (answer.Stored b) is h = absurd (false≢true is)
 by_fault m r0 r tr es (answer.Value x b) is h = absurd (false≢true is)
+by_fault m r0 r tr es _ is h = absurd h
 
 -- and their cause
 caused : (m : PutState) (r0 r : Memo) (tr : Trail) (es : List Event) (f : PutFault) → PutLeaves m r0 r tr es (fault_answer f) → CommandCause m.me r0 r f

@@ -18,9 +18,7 @@ by_fault m r0 r tr es (answer.CountFull b x) is n h = (fault.CountFull b x, refl
 by_fault m r0 r tr es answer.Missing is n h = absurd h
 by_fault m r0 r tr es (answer.Empty x) is n h = absurd (n x refl)
 by_fault m r0 r tr es (answer.QueueFull x y) is n h = absurd h
-by_fault m r0 r tr es answer.Ok is n h = absurd (false≢true is)
-by_fault m r0 r tr es (answer.Stored b) is n h = absurd (false≢true is)
-by_fault m r0 r tr es (answer.Value x b) is n h = absurd (false≢true is)
+by_fault m r0 r tr es _ is n h = absurd (false≢true is)
 
 -- and their cause
 caused : (m : RecvState) (r0 r : Memo) (tr : Trail) (es : List Event) (f : PutFault) → RecvLeaves m r0 r tr es (fault_answer f) → CommandCause m.me r0 r f
@@ -33,15 +31,12 @@ above m r0 (n, b, v, q, at) = (at.above.0, q, at.above.1, subst (λ x. x < at.ab
 
 waits : (m : RecvState) (r0 r : Memo) (tr : Trail) (es : List Event) (a : Answer) → ((x : ℕ) → a ≢ answer.Empty x) → RecvLeaves m r0 r tr es a → IsWaited m.me m.from r0
 waits m r0 r tr es (answer.Value n b) other h = (h.place, b, n, h.q, h.source)
-waits m r0 r tr es (answer.EraSpent e) other h = h.waits
-waits m r0 r tr es answer.RootsFull other h = h.waits
-waits m r0 r tr es (answer.Full s b) other h = h.waits
-waits m r0 r tr es (answer.CountFull b n) other h = h.waits
 waits m r0 r tr es (answer.Empty x) other h = absurd (other x refl)
 waits m r0 r tr es answer.Missing other h = absurd h
 waits m r0 r tr es (answer.QueueFull x y) other h = absurd h
 waits m r0 r tr es answer.Ok other h = absurd h
 waits m r0 r tr es (answer.Stored b) other h = absurd h
+waits m r0 r tr es _ other h = h.waits
 
 pub returns-clause-answers : goal.returns-clause-answers
 returns-clause-answers c m r0 r tr es a is n h = by_fault m r0 r tr es a is n h

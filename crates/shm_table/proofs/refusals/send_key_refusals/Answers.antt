@@ -13,23 +13,17 @@ has m r0 r tr es (answer.QueueFull x y) other (b, h) = some_not (map_in r0.part 
 has m r0 r tr es (answer.EraSpent e) other (b, h) = some_not (map_in r0.part m.key) (h.has.0, b) h.has.1
 has m r0 r tr es (answer.CountFull d x) other (b, h) = some_not (map_in r0.part m.key) (h.has.0, b) h.has.1
 has m r0 r tr es answer.Missing other h = absurd (other refl)
-has m r0 r tr es answer.RootsFull other h = absurd h
-has m r0 r tr es (answer.Full s b) other h = absurd h
-has m r0 r tr es (answer.Empty x) other h = absurd h
-has m r0 r tr es (answer.Stored b) other h = absurd h
-has m r0 r tr es (answer.Value x b) other h = absurd h
+has m r0 r tr es _ other h = absurd h
 
 none : (m : SendKeyState) (r0 r : Memo) (tr : Trail) (es : List Event) (a : Answer) → is_refusal a ≡ true → SendKeyLeaves m r0 r tr es a → es ≡ []
 none m r0 r tr es answer.Missing is h = h.none
 none m r0 r tr es (answer.QueueFull x y) is (b, h) = h.none
 none m r0 r tr es (answer.EraSpent e) is (b, h) = h.none
 none m r0 r tr es (answer.CountFull d x) is (b, h) = h.none
-none m r0 r tr es answer.RootsFull is h = absurd h
-none m r0 r tr es (answer.Full s b) is h = absurd h
-none m r0 r tr es (answer.Empty x) is h = absurd h
 none m r0 r tr es answer.Ok is h = absurd (false≢true is)
 none m r0 r tr es (answer.Stored b) is h = absurd (false≢true is)
 none m r0 r tr es (answer.Value x b) is h = absurd (false≢true is)
+none m r0 r tr es _ is h = absurd h
 
 pub returns-clause-answers : goal.returns-clause-answers
 returns-clause-answers c m r0 r tr es = (λ h. h, λ s b h. h, λ x h. h)

@@ -1,8 +1,7 @@
 -- the laws of a command of a line, by those of the commands
-use Rattle.std.proofs.Common.{◌≡◌, ℕ, sym, ap, ◌∙◌, subst}
-use Rattle.std.specs.{Prelude.{Option, Some, None}, Option.option_map}
-use Rattle.shm_graph.specs.declared.{ask.{Me.Me, Turn.{Turn, TheVariants.{Done, More, Died}}}, memo.Memo.Memo}
-use Rattle.shm_graph.specs.{Asks.Trail, Laws.{Laws, turn_of}, Proved.Mapped.mapped_laws, Tells.Tells}
+use Rattle.std.proofs.Common.{ℕ, subst}
+use Rattle.shm_graph.specs.{declared.{ask.Me.Me, memo.Memo.Memo}, Asks.Trail, Laws.Laws, Proved.Mapped.mapped_laws}
+use Rattle.shm_graph.specs.Tells.{Tells}
 use Rattle.plans.specs.{declared.or.Or.TheVariants.{First, Second}, CallsControl.calls_does}
 use Rattle.plans.specs.{CallsFit.{CallsFits, CallsGives}, Proved.CallsKeep.{calls_laws, calls_tells}}
 use Rattle.plans.specs.{Proved.Either.{or_laws, or_tells}, Either.{OrFits, OrGives, or_control, or_does}}
@@ -66,48 +65,24 @@ module _ (puts : PlanLaws put_parts put_plan) (copies : PlanLaws copy_parts copy
 
 pub puts_give : (me : Me) (key n : ℕ) (r0 r : Memo) (tr : Trail) (b : Answer) → CommandGives (command_of me (line.Put key n)) r0 r tr b → PutGives me key n r0 r tr b
 puts_give me key n r0 r tr b (First (First x), i, h) = subst (PutGives me key n r0 r tr) i h
-puts_give me key n r0 r tr b (First (Second x), i, h) = absurd h
-puts_give me key n r0 r tr b (Second x, i, h) = absurd h
+puts_give me key n r0 r tr b (_, i, h) = absurd h
 
 pub copies_give : (me : Me) (key a other : ℕ) (r0 r : Memo) (tr : Trail) (b : Answer) → CommandGives (command_of me (line.Copy key a other)) r0 r tr b → CopyGives me key a other r0 r tr b
 copies_give me key a other r0 r tr b (First (Second x), i, h) = subst (CopyGives me key a other r0 r tr) i h
-copies_give me key a other r0 r tr b (First (First x), i, h) = absurd h
-copies_give me key a other r0 r tr b (Second x, i, h) = absurd h
+copies_give me key a other r0 r tr b (_, i, h) = absurd h
 
 pub dels_give : (me : Me) (key : ℕ) (r0 r : Memo) (tr : Trail) (b : Answer) → CommandGives (command_of me (line.Del key)) r0 r tr b → DelGives me key r0 r tr b
 dels_give me key r0 r tr b (Second (First (First x)), i, h) = subst (DelGives me key r0 r tr) i h
-dels_give me key r0 r tr b (Second (First (Second x)), i, h) = absurd h
-dels_give me key r0 r tr b (Second (Second x), i, h) = absurd h
-dels_give me key r0 r tr b (First x, i, h) = absurd h
+dels_give me key r0 r tr b (_, i, h) = absurd h
 
 pub gets_give : (me : Me) (a key : ℕ) (r0 r : Memo) (tr : Trail) (b : Answer) → CommandGives (command_of me (line.Get a key)) r0 r tr b → GetGives me a key r0 r tr b
 gets_give me a key r0 r tr b (Second (First (Second x)), i, h) = subst (GetGives me a key r0 r tr) i h
-gets_give me a key r0 r tr b (Second (First (First x)), i, h) = absurd h
-gets_give me a key r0 r tr b (Second (Second x), i, h) = absurd h
-gets_give me a key r0 r tr b (First x, i, h) = absurd h
+gets_give me a key r0 r tr b (_, i, h) = absurd h
 
 pub sends_give : (me : Me) (to key : ℕ) (r0 r : Memo) (tr : Trail) (b : Answer) → CommandGives (command_of me (line.Send to key)) r0 r tr b → SendKeyGives me to key r0 r tr b
 sends_give me to key r0 r tr b (Second (Second (First x)), i, h) = subst (SendKeyGives me to key r0 r tr) i h
-sends_give me to key r0 r tr b (Second (Second (Second x)), i, h) = absurd h
-sends_give me to key r0 r tr b (Second (First x), i, h) = absurd h
-sends_give me to key r0 r tr b (First x, i, h) = absurd h
+sends_give me to key r0 r tr b (_, i, h) = absurd h
 
 pub recvs_give : (me : Me) (s key : ℕ) (r0 r : Memo) (tr : Trail) (b : Answer) → CommandGives (command_of me (line.Recv s key)) r0 r tr b → RecvGives me s key r0 r tr b
 recvs_give me s key r0 r tr b (Second (Second (Second x)), i, h) = subst (RecvGives me s key r0 r tr) i h
-recvs_give me s key r0 r tr b (Second (Second (First x)), i, h) = absurd h
-recvs_give me s key r0 r tr b (Second (First x), i, h) = absurd h
-recvs_give me s key r0 r tr b (First x, i, h) = absurd h
-
--- ---- a turn of the one of them, told as a turn of the command
-
-pub told_done : {A B : Type 0} (f : A → B) (o : Option A) (t : Turn A) (a : A) (u : B) (r : Turn B) → t ≡ turn_of o → t ≡ Done a → u ≡ f a → r ≡ Done u → r ≡ turn_of (option_map f o)
-told_done f None t a u r h d e i = cc
-told_done f (Some x) t a u r h d e i = let j : x ≡ a = cc in i ∙ ap (λ y. Done y) (e ∙ ap f (sym j))
-
-pub told_more : {A B : Type 0} (f : A → B) (o : Option A) (t : Turn A) (r : Turn B) → t ≡ turn_of o → t ≡ More → r ≡ More → r ≡ turn_of (option_map f o)
-told_more f None t r h d i = i
-told_more f (Some x) t r h d i = cc
-
-pub told_died : {A B : Type 0} (f : A → B) (o : Option A) (t : Turn A) (r : Turn B) → t ≡ turn_of o → t ≡ Died → r ≡ Died → r ≡ turn_of (option_map f o)
-told_died f None t r h d i = cc
-told_died f (Some x) t r h d i = cc
+recvs_give me s key r0 r tr b (_, i, h) = absurd h

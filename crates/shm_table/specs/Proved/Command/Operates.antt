@@ -24,11 +24,7 @@ use Rattle.shm_table.specs.TableTasks.{CopyMay, DelMay, GetMay, LineMay, PutMay,
 -- the command of a line may begin where the memo shows what the line needs
 pub command_may : (me : Me) (l : Line) (r : Memo) → LineMay me l r → CommandMay (command_of me l) r
 command_may me (line.Put key n) r h = (refl, (refl, h))
-command_may me (line.Copy key a other) r h = (refl, (refl, h))
-command_may me (line.Del key) r h = (refl, (refl, h))
-command_may me (line.Get a key) r h = (refl, (refl, h))
-command_may me (line.Send to key) r h = (refl, (refl, h))
-command_may me (line.Recv from key) r h = (refl, (refl, h))
+command_may me _ r h = (refl, (refl, h))
 
 -- its identity is between two calls
 rests : (m : CommandCall) (r0 r : Memo) (tr : Trail) (es : List Event) (b : Answer) → IsIdle (command_control.me m).who r0 → CommandLeaves m r0 r tr es b → IsIdle (command_control.me m).who r
@@ -89,16 +85,7 @@ module _ (puts : PlanLaws put_parts put_plan) (copies : PlanLaws copy_parts copy
   leads (Second (First (Second m))) r0 r tr (Second (First (Second a))) ready n g = subst (λ (es : List Event). GetLeaves m.plan r0 r tr es a) (sym (gets_happen m tr)) (gets_operate.leads m r0 r tr a ready n g)
   leads (Second (Second (First m))) r0 r tr (Second (Second (First a))) ready n g = subst (λ (es : List Event). SendKeyLeaves m.plan r0 r tr es a) (sym (sends_happen m tr)) (sends_operate.leads m r0 r tr a ready n g)
   leads (Second (Second (Second m))) r0 r tr (Second (Second (Second a))) ready n g = subst (λ (es : List Event). RecvLeaves m.plan r0 r tr es a) (sym (recvs_happen m tr)) (recvs_operate.leads m r0 r tr a ready n g)
-  leads (First (First m)) r0 r tr (First (Second a)) ready n g = absurd g
-  leads (First (Second m)) r0 r tr (First (First a)) ready n g = absurd g
-  leads (First m) r0 r tr (Second a) ready n g = absurd g
-  leads (Second (First (First m))) r0 r tr (Second (First (Second a))) ready n g = absurd g
-  leads (Second (First (Second m))) r0 r tr (Second (First (First a))) ready n g = absurd g
-  leads (Second (First m)) r0 r tr (Second (Second a)) ready n g = absurd g
-  leads (Second (Second (First m))) r0 r tr (Second (Second (Second a))) ready n g = absurd g
-  leads (Second (Second (Second m))) r0 r tr (Second (Second (First a))) ready n g = absurd g
-  leads (Second (Second m)) r0 r tr (Second (First a)) ready n g = absurd g
-  leads (Second m) r0 r tr (First a) ready n g = absurd g
+  leads _ r0 r tr _ ready n g = absurd g
 
   pub command_operation : OperationLaws command_control CommandFits CommandGives CommandMay command_does CommandLeaves (λ m b. Unit {0})
   command_operation =

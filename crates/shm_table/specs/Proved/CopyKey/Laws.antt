@@ -34,17 +34,15 @@ use Rattle.shm_table.specs.declared.fetch.Fetched.TheVariants as fetched
 -- ---- the plan
 
 stays : (m : CopyState) (b : CopyAnswer) → PlanStays copy_parts copy_plan m b
-stays m (First fetched.Missing) = record { same_me = refl; same_line = refl; same_start = refl; started = λ e. absurd (cc) }
-stays m (First (fetched.Refused f)) = record { same_me = refl; same_line = refl; same_start = refl; started = λ e. absurd (cc) }
 stays m (First (fetched.Rooted k b n)) = record { same_me = refl; same_line = refl; same_start = refl; started = λ e. refl }
 stays m (Second (First done)) = record { same_me = refl; same_line = refl; same_start = refl; started = λ e. refl }
 stays m (Second (Second (Ok z))) = record { same_me = refl; same_line = refl; same_start = refl; started = λ e. absurd (cc) }
 stays m (Second (Second (Err e))) = record { same_me = refl; same_line = refl; same_start = refl; started = λ e. absurd (cc) }
+stays m (First _) = record { same_me = refl; same_line = refl; same_start = refl; started = λ e. absurd (cc) }
 
 calls : (m : CopyState) (y : CopyPoint) → IsCall copy_parts copy_plan (record m { point = y })
 calls m Fetch = record { me = refl; asks = refl }
-calls m Put = record { me = refl; asks = refl }
-calls m Drop = record { me = refl; asks = refl }
+calls m _ = record { me = refl; asks = refl }
 
 -- ---- before each call
 
@@ -96,9 +94,7 @@ opens m Drop r0 r tr es (h, still) =
 -- what a refusal leaves
 not_copied : (m : CopyState) (r0 r : Memo) (tr : Trail) (es : List Event) (f : PutFault) → NotCopied m.me m.key m.author m.other r0 r tr es f → CopyLeaves m r0 r tr es (fault_answer f)
 not_copied m r0 r tr es (fault.EraSpent e) h = h
-not_copied m r0 r tr es fault.RootsFull h = h
-not_copied m r0 r tr es (fault.Full s b) h = h
-not_copied m r0 r tr es (fault.CountFull b n) h = h
+not_copied m r0 r tr es _ h = h
 
 -- the reading stays a part of what was asked
 abbrev source_more : (me : Me) (a other n v : ℕ) (r0 : Memo) (tr t : Trail) → IsSource me a other n v r0 tr → IsSource me a other n v r0 (tr ++ t)
@@ -328,11 +324,7 @@ leads : (m : CopyState) (y : CopyPoint) (r0 rs r : Memo) (tr t : Trail) (es ds :
 leads m Fetch r0 rs r tr t es ds (First a) held agent h w = got m r0 rs r tr t es ds held agent a h w
 leads m Put r0 rs r tr t es ds (Second (First a)) held agent h w = put m r0 rs r tr t es ds held agent a h w
 leads m Drop r0 rs r tr t es ds (Second (Second a)) held agent (h, still) w = dropped m r0 rs r tr t es ds held agent m.refused a h w
-leads m Fetch r0 rs r tr t es ds (Second b) held agent h w = absurd w
-leads m Put r0 rs r tr t es ds (First b) held agent h w = absurd w
-leads m Put r0 rs r tr t es ds (Second (Second b)) held agent h w = absurd w
-leads m Drop r0 rs r tr t es ds (First b) held agent h w = absurd w
-leads m Drop r0 rs r tr t es ds (Second (First b)) held agent h w = absurd w
+leads m _ r0 rs r tr t es ds _ held agent h w = absurd w
 
 -- what is known before the first call
 pub copy_begin : (me : Me) (key a other : ℕ) (r : Memo) → MayCopy me key a r → CopyKnows (copying me key a other) Fetch r r [] []

@@ -316,15 +316,13 @@ del_laws =
   where
     stays : (m : DelState) (y : DelPoint) (a : DelCallAnswer) → PlanStays del_parts del_plan (record m { point = y }) a
     stays m y (First (Absent home first)) = record { same_me = refl; same_line = refl; same_start = refl; started = λ e. refl }
-    stays m y (First (At entry before word)) = record { same_me = refl; same_line = refl; same_start = refl; started = λ e. refl }
     stays m y (Second (First (Ok done))) = record { same_me = refl; same_line = refl; same_start = refl; started = λ e. refl }
-    stays m y (Second (First (Err f))) = record { same_me = refl; same_line = refl; same_start = refl; started = λ e. refl }
     stays m y (Second (Second done)) = record { same_me = refl; same_line = refl; same_start = refl; started = λ e. absurd (cc) }
+    stays m y _ = record { same_me = refl; same_line = refl; same_start = refl; started = λ e. refl }
 
     calls : (m : DelState) (y : DelPoint) → IsCall del_parts del_plan (record m { point = y })
     calls m Search = record { me = refl; asks = refl }
-    calls m Cut = record { me = refl; asks = refl }
-    calls m Back = record { me = refl; asks = refl }
+    calls m _ = record { me = refl; asks = refl }
 
     opens : (m : DelState) (y : DelPoint) (r0 r : Memo) (tr : Trail) (es : List Event) → DelKnows (record m { point = y }) y r0 r tr es → del_part.needs (del_call_at m y) r
     opens m Search r0 r tr es (may, said, same, none, quiet) =
@@ -347,8 +345,4 @@ del_laws =
     leads m Cut r0 rs r tr t es ds (Second (First (Ok done))) h g held agent = cut_done m.me m.key m.entry m.before m.word r0 rs r tr t es ds h held g
     leads m Cut r0 rs r tr t es ds (Second (First (Err f))) h g held agent = cut_refused m.me m.key m.entry m.before m.word r0 rs r tr t es ds h held f g
     leads m Back r0 rs r tr t es ds (Second (Second done)) h g held agent = given m.me m.key r0 rs r tr t es ds g m.answer h
-    leads m Search r0 rs r tr t es ds (Second a) h g held agent = absurd g
-    leads m Cut r0 rs r tr t es ds (First b) h g held agent = absurd g
-    leads m Cut r0 rs r tr t es ds (Second (Second done)) h g held agent = absurd g
-    leads m Back r0 rs r tr t es ds (First b) h g held agent = absurd g
-    leads m Back r0 rs r tr t es ds (Second (First a)) h g held agent = absurd g
+    leads m _ r0 rs r tr t es ds _ h g held agent = absurd g

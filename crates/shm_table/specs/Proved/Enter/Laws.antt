@@ -228,15 +228,7 @@ enter_laws =
     leads m Link r0 rs r tr t es ds (Second (First (Err f))) h g held agent = not_linked m r0 rs r tr t es ds held agent f h g
     leads m Change r0 rs r tr t es ds (Second (Second (Ok z))) h g held agent = changed m r0 rs r tr t es ds held agent z h g
     leads m Change r0 rs r tr t es ds (Second (Second (Err f))) h g held agent = not_changed m r0 rs r tr t es ds held agent f h g
-    leads m Make r0 rs r tr t es ds (Second a) h g held agent = absurd g
-    leads m Value r0 rs r tr t es ds (First a) h g held agent = absurd g
-    leads m Value r0 rs r tr t es ds (Second (Second a)) h g held agent = absurd g
-    leads m Next r0 rs r tr t es ds (First a) h g held agent = absurd g
-    leads m Next r0 rs r tr t es ds (Second (Second a)) h g held agent = absurd g
-    leads m Link r0 rs r tr t es ds (First a) h g held agent = absurd g
-    leads m Link r0 rs r tr t es ds (Second (Second a)) h g held agent = absurd g
-    leads m Change r0 rs r tr t es ds (First a) h g held agent = absurd g
-    leads m Change r0 rs r tr t es ds (Second (First a)) h g held agent = absurd g
+    leads m _ r0 rs r tr t es ds _ h g held agent = absurd g
 
     -- ---- the same plan goes on
 
@@ -246,19 +238,14 @@ enter_laws =
 
     stays : (m : EnterState) (y : EnterPoint) (a : EnterAnswer) → PlanStays enter_parts enter_plan (record m { point = y }) a
     stays m y (First (Ok x)) = record { same_me = refl; same_line = refl; same_start = refl; started = λ e. refl }
-    stays m y (First (Err f)) = record { same_me = refl; same_line = refl; same_start = refl; started = λ e. absurd (cc) }
     stays m Make (Second (First (Ok u))) = record { same_me = refl; same_line = refl; same_start = refl; started = λ e. absurd (cc) }
     stays m Value (Second (First (Ok u))) = record { same_me = refl; same_line = refl; same_start = refl; started = λ e. not_make (eqb m.first 0) }
     stays m Next (Second (First (Ok u))) = record { same_me = refl; same_line = refl; same_start = refl; started = λ e. refl }
     stays m Link (Second (First (Ok u))) = record { same_me = refl; same_line = refl; same_start = refl; started = λ e. absurd (cc) }
     stays m Change (Second (First (Ok u))) = record { same_me = refl; same_line = refl; same_start = refl; started = λ e. absurd (cc) }
-    stays m y (Second (First (Err f))) = record { same_me = refl; same_line = refl; same_start = refl; started = λ e. absurd (cc) }
     stays m y (Second (Second (Ok z))) = record { same_me = refl; same_line = refl; same_start = refl; started = λ e. absurd (cc) }
-    stays m y (Second (Second (Err f))) = record { same_me = refl; same_line = refl; same_start = refl; started = λ e. absurd (cc) }
+    stays m y _ = record { same_me = refl; same_line = refl; same_start = refl; started = λ e. absurd (cc) }
 
     calls : (m : EnterState) (y : EnterPoint) → IsCall enter_parts enter_plan (record m { point = y })
     calls m Make = record { me = refl; asks = refl }
-    calls m Value = record { me = refl; asks = refl }
-    calls m Next = record { me = refl; asks = refl }
-    calls m Link = record { me = refl; asks = refl }
-    calls m Change = record { me = refl; asks = refl }
+    calls m _ = record { me = refl; asks = refl }

@@ -221,8 +221,7 @@ may_give me a r0 r may keeps latch = record { geometry = may.locate.geometry; wh
 
 gives : (m : FetchState) (o : Fetched) (r0 r : Memo) (tr : Trail) (es : List Event) → GiveKnows m o r0 r tr es → MayUnlatch m.me m.author r
 gives m Missing r0 r tr es h = may_unlatch m.me m.author r0 r h.reading
-gives m (Refused f) r0 r tr es h = may_give m.me m.author r0 r h.may h.keeps h.latch
-gives m (Rooted k b n) r0 r tr es h = may_give m.me m.author r0 r h.may h.keeps h.latch
+gives m _ r0 r tr es h = may_give m.me m.author r0 r h.may h.keeps h.latch
 
 -- what is known before the first call
 pub fetch_begin : (me : Me) (a key : ℕ) (r : Memo) → MayFetch me a r → FetchKnows (fetching me a key) Search r r [] []
@@ -247,21 +246,13 @@ fetch_laws =
   where
     stays : (m : FetchState) (y : FetchPoint) (b : FetchAnswer) → PlanStays fetch_parts fetch_plan (record m { point = y }) b
     stays m y (First (At entry before word)) = record { same_me = refl; same_line = refl; same_start = refl; started = λ e. refl }
-    stays m y (First (Absent home first)) = record { same_me = refl; same_line = refl; same_start = refl; started = λ e. refl }
     stays m Search (Second (First n)) = record { same_me = refl; same_line = refl; same_start = refl; started = λ e. refl }
-    stays m Value (Second (First n)) = record { same_me = refl; same_line = refl; same_start = refl; started = λ e. refl }
-    stays m Number (Second (First n)) = record { same_me = refl; same_line = refl; same_start = refl; started = λ e. refl }
-    stays m Share (Second (First n)) = record { same_me = refl; same_line = refl; same_start = refl; started = λ e. refl }
-    stays m Give (Second (First n)) = record { same_me = refl; same_line = refl; same_start = refl; started = λ e. refl }
-    stays m y (Second (Second (First a))) = record { same_me = refl; same_line = refl; same_start = refl; started = λ e. refl }
     stays m y (Second (Second (Second done))) = record { same_me = refl; same_line = refl; same_start = refl; started = λ e. absurd (cc) }
+    stays m _ _ = record { same_me = refl; same_line = refl; same_start = refl; started = λ e. refl }
 
     calls : (m : FetchState) (y : FetchPoint) → IsCall fetch_parts fetch_plan (record m { point = y })
     calls m Search = record { me = refl; asks = refl }
-    calls m Value = record { me = refl; asks = refl }
-    calls m Number = record { me = refl; asks = refl }
-    calls m Share = record { me = refl; asks = refl }
-    calls m Give = record { me = refl; asks = refl }
+    calls m _ = record { me = refl; asks = refl }
 
     opens : (m : FetchState) (y : FetchPoint) (r0 r : Memo) (tr : Trail) (es : List Event) → FetchKnows (record m { point = y }) y r0 r tr es → (fetch_part (record m { point = y }) y).needs (fetch_call m y) r
     opens m Search r0 r tr es h = record { made = refl; first = refl; start = refl; knows = locate_begin m.me m.author m.key r (subst (MayLocate m.me m.author) (sym h.1) h.0.locate) }
@@ -280,14 +271,4 @@ fetch_laws =
     leads m Number r0 rs r tr t es ds (Second (First n)) held agent h g = number_found m r0 rs r tr t es ds held agent n h g.0.found g.0.none g.1
     leads m Share r0 rs r tr t es ds (Second (Second (First b))) held agent h g = shared m r0 rs r tr t es ds held agent h b g
     leads m Give r0 rs r tr t es ds (Second (Second (Second done))) held agent h g = given m r0 rs r tr t es ds held agent m.outcome h g
-    leads m Search r0 rs r tr t es ds (Second b) held agent h g = absurd g
-    leads m Value r0 rs r tr t es ds (First b) held agent h g = absurd g
-    leads m Value r0 rs r tr t es ds (Second (Second b)) held agent h g = absurd g
-    leads m Number r0 rs r tr t es ds (First b) held agent h g = absurd g
-    leads m Number r0 rs r tr t es ds (Second (Second b)) held agent h g = absurd g
-    leads m Share r0 rs r tr t es ds (First b) held agent h g = absurd g
-    leads m Share r0 rs r tr t es ds (Second (First b)) held agent h g = absurd g
-    leads m Share r0 rs r tr t es ds (Second (Second (Second b))) held agent h g = absurd g
-    leads m Give r0 rs r tr t es ds (First b) held agent h g = absurd g
-    leads m Give r0 rs r tr t es ds (Second (First b)) held agent h g = absurd g
-    leads m Give r0 rs r tr t es ds (Second (Second (First b))) held agent h g = absurd g
+    leads m _ r0 rs r tr t es ds _ held agent h g = absurd g

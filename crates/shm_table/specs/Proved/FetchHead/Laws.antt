@@ -205,19 +205,13 @@ module _ (m : FetchHeadState) (r0 rs r : Memo) (tr t : Trail) (es ds : List Even
 
 stays : (m : FetchHeadState) (y : FetchHeadPoint) (b : FetchHeadAnswer) → PlanStays fetch_head_parts fetch_head_plan (record m { point = y }) b
 stays m Head (First n) = record { same_me = refl; same_line = refl; same_start = refl; started = λ e. refl }
-stays m Tail (First n) = record { same_me = refl; same_line = refl; same_start = refl; started = λ e. refl }
-stays m Slot (First n) = record { same_me = refl; same_line = refl; same_start = refl; started = λ e. refl }
-stays m Number (First n) = record { same_me = refl; same_line = refl; same_start = refl; started = λ e. refl }
-stays m Share (First n) = record { same_me = refl; same_line = refl; same_start = refl; started = λ e. refl }
 stays m y (Second (Ok k)) = record { same_me = refl; same_line = refl; same_start = refl; started = λ e. absurd (cc) }
 stays m y (Second (Err f)) = record { same_me = refl; same_line = refl; same_start = refl; started = λ e. absurd (cc) }
+stays m _ (First n) = record { same_me = refl; same_line = refl; same_start = refl; started = λ e. refl }
 
 calls : (m : FetchHeadState) (y : FetchHeadPoint) → IsCall fetch_head_parts fetch_head_plan (record m { point = y })
 calls m Head = record { me = refl; asks = refl }
-calls m Tail = record { me = refl; asks = refl }
-calls m Slot = record { me = refl; asks = refl }
-calls m Number = record { me = refl; asks = refl }
-calls m Share = record { me = refl; asks = refl }
+calls m _ = record { me = refl; asks = refl }
 
 opens : (m : FetchHeadState) (y : FetchHeadPoint) (r0 r : Memo) (tr : Trail) (es : List Event) → FetchHeadKnows (record m { point = y }) y r0 r tr es → (fetch_head_part (record m { point = y }) y).needs (fetch_head_call m y) r
 opens m Head r0 r tr es h = head_load true m.me r h.0.take.who m.from m.me.who h.0.take.from h.0.take.who
@@ -237,11 +231,7 @@ leads m Tail r0 rs r tr t es ds (First n) held agent h (w, grows) = looked m r0 
 leads m Slot r0 rs r tr t es ds (First n) held agent h (w, grows) = found m r0 rs r tr t es ds held agent n h w grows
 leads m Number r0 rs r tr t es ds (First n) held agent h (w, grows) = numbered m r0 rs r tr t es ds held agent n h w grows
 leads m Share r0 rs r tr t es ds (Second b) held agent h (w, grows) = shared m r0 rs r tr t es ds held agent h b w
-leads m Head r0 rs r tr t es ds (Second b) held agent h g = absurd g.0
-leads m Tail r0 rs r tr t es ds (Second b) held agent h g = absurd g.0
-leads m Slot r0 rs r tr t es ds (Second b) held agent h g = absurd g.0
-leads m Number r0 rs r tr t es ds (Second b) held agent h g = absurd g.0
-leads m Share r0 rs r tr t es ds (First n) held agent h g = absurd g.0
+leads m _ r0 rs r tr t es ds _ held agent h g = absurd g.0
 
 -- what is known before the first call
 pub fetch_head_begin : (me : Me) (s : ℕ) (r : Memo) → MayFetchHead me s r → FetchHeadKnows (fetching_head me s) Head r r [] []

@@ -370,9 +370,7 @@ find_laws =
   where
     stays : (m : FindState) (y : FindPoint) (n : ℕ) → PlanStays word_control find_plan (record m { point = y }) n
     stays m point.Home n = record { same_me = refl; same_line = refl; same_start = refl; started = λ e. refl }
-    stays m point.Bucket n = record { same_me = refl; same_line = refl; same_start = refl; started = λ e. refl }
-    stays m point.Key n = record { same_me = refl; same_line = refl; same_start = refl; started = λ e. refl }
-    stays m point.Next n = record { same_me = refl; same_line = refl; same_start = refl; started = λ e. refl }
+    stays m _ n = record { same_me = refl; same_line = refl; same_start = refl; started = λ e. refl }
 
     leads : (m : FindState) (y : FindPoint) (r0 rs r : Memo) (tr t : Trail) (es ds : List Event) (n : ℕ) → FindKnows (record m { point = y }) y r0 rs tr es → Leaves m y rs r t ds n → IsHeld m.me r
         → Follows word_control find_plan (record m { point = y }) n r0 r (tr ++ t) (es ++ ds)

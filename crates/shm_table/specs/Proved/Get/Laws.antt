@@ -229,20 +229,13 @@ get_laws =
   where
     stays : (m : GetState) (y : GetPoint) (b : GetAnswer) → PlanStays get_parts get_plan (record m { point = y }) b
     stays m y (First (At entry before word)) = record { same_me = refl; same_line = refl; same_start = refl; started = λ e. refl }
-    stays m y (First (Absent home first)) = record { same_me = refl; same_line = refl; same_start = refl; started = λ e. refl }
     stays m Search (Second (First n)) = record { same_me = refl; same_line = refl; same_start = refl; started = λ e. refl }
-    stays m Value (Second (First n)) = record { same_me = refl; same_line = refl; same_start = refl; started = λ e. refl }
-    stays m Number (Second (First n)) = record { same_me = refl; same_line = refl; same_start = refl; started = λ e. refl }
-    stays m Missing (Second (First n)) = record { same_me = refl; same_line = refl; same_start = refl; started = λ e. refl }
-    stays m Known (Second (First n)) = record { same_me = refl; same_line = refl; same_start = refl; started = λ e. refl }
     stays m y (Second (Second done)) = record { same_me = refl; same_line = refl; same_start = refl; started = λ e. absurd (cc) }
+    stays m _ _ = record { same_me = refl; same_line = refl; same_start = refl; started = λ e. refl }
 
     calls : (m : GetState) (y : GetPoint) → IsCall get_parts get_plan (record m { point = y })
     calls m Search = record { me = refl; asks = refl }
-    calls m Value = record { me = refl; asks = refl }
-    calls m Number = record { me = refl; asks = refl }
-    calls m Missing = record { me = refl; asks = refl }
-    calls m Known = record { me = refl; asks = refl }
+    calls m _ = record { me = refl; asks = refl }
 
     opens : (m : GetState) (y : GetPoint) (r0 r : Memo) (tr : Trail) (es : List Event) → GetKnows (record m { point = y }) y r0 r tr es → (get_part (record m { point = y }) y).needs (get_call m y) r
     opens m Search r0 r tr es h = record { made = refl; first = refl; start = refl; knows = locate_begin m.me m.author m.key r (subst (MayLocate m.me m.author) (sym h.1) h.0) }
@@ -261,12 +254,4 @@ get_laws =
     leads m Number r0 rs r tr t es ds (Second (First n)) h g held = number_read m r0 rs r tr t es ds held n h g.0.found g.0.none g.1
     leads m Missing r0 rs r tr t es ds (Second (Second done)) h g held = missing m r0 rs r tr t es ds held h g
     leads m Known r0 rs r tr t es ds (Second (Second done)) h g held = known m r0 rs r tr t es ds held h g
-    leads m Search r0 rs r tr t es ds (Second b) h g held = absurd g
-    leads m Value r0 rs r tr t es ds (First b) h g held = absurd g
-    leads m Value r0 rs r tr t es ds (Second (Second b)) h g held = absurd g
-    leads m Number r0 rs r tr t es ds (First b) h g held = absurd g
-    leads m Number r0 rs r tr t es ds (Second (Second b)) h g held = absurd g
-    leads m Missing r0 rs r tr t es ds (First b) h g held = absurd g
-    leads m Missing r0 rs r tr t es ds (Second (First b)) h g held = absurd g
-    leads m Known r0 rs r tr t es ds (First b) h g held = absurd g
-    leads m Known r0 rs r tr t es ds (Second (First b)) h g held = absurd g
+    leads m _ r0 rs r tr t es ds _ h g held = absurd g

@@ -149,13 +149,11 @@ locate_laws =
 
     calls : (m : LocateState) (y : LocatePoint) → IsCall locate_parts locate_plan (record m { point = y })
     calls m Take = record { me = refl; asks = refl }
-    calls m Again = record { me = refl; asks = refl }
-    calls m Search = record { me = refl; asks = refl }
+    calls m _ = record { me = refl; asks = refl }
 
     opens : (m : LocateState) (y : LocatePoint) (r0 r : Memo) (tr : Trail) (es : List Event) → LocateKnows (record m { point = y }) y r0 r tr es → locate_part.needs (locate_call m y) r
-    opens m Take r0 r tr es h = record { made = refl; first = refl; start = refl; knows = hold_begin m.me m.author r (may_take m.me m.author r0 r tr es h) }
-    opens m Again r0 r tr es h = record { made = refl; first = refl; start = refl; knows = hold_begin m.me m.author r (may_take m.me m.author r0 r tr es h) }
     opens m Search r0 r tr es h = record { made = refl; first = refl; start = refl; knows = find_begin m.me m.author m.key r (may_find m.me m.author r0 r tr es h) }
+    opens m _ r0 r tr es h = record { made = refl; first = refl; start = refl; knows = hold_begin m.me m.author r (may_take m.me m.author r0 r tr es h) }
 
     -- after a try
     tried : (m : LocateState) (y : LocatePoint) (r0 rs r : Memo) (tr t : Trail) (es ds : List Event) (b : Result (Unit {0}) Busy) → IsTrying m.me m.author r0 rs tr es → HoldLeaves (holding m.me m.author) rs r t ds b
@@ -180,6 +178,4 @@ locate_laws =
           found = subst (λ (x : List Event). FindLeaves (finding m.me m.author m.key) rs r t (x ++ ds) b) (sym h.none) w;
           idle = searched_idle m.me.who m.author r0 rs r h.may.idle h.took only.0;
         }
-    leads m Take r0 rs r tr t es ds (Second b) h w = absurd w
-    leads m Again r0 rs r tr t es ds (Second b) h w = absurd w
-    leads m Search r0 rs r tr t es ds (First b) h w = absurd w
+    leads m _ r0 rs r tr t es ds _ h w = absurd w

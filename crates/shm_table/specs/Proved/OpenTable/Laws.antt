@@ -86,9 +86,7 @@ made_inside me q m r a (w, rs, h, same) l gives = block_inside me q m a w rs h l
 
 calls : (m : OpenState) (y : OpenPoint) → IsCall open_parts open_plan (record m { point = y })
 calls m Look = record { me = refl; asks = refl }
-calls m Make = record { me = refl; asks = refl }
-calls m Name = record { me = refl; asks = refl }
-calls m Drop = record { me = refl; asks = refl }
+calls m _ = record { me = refl; asks = refl }
 
 opens : (m : OpenState) (y : OpenPoint) (r0 r : Memo) (tr : Trail) (es : List Event) → OpenKnows (record m { point = y }) y r0 r tr es → (open_plan.part (record m { point = y })).needs (open_call_at m y) r
 opens m Look r0 r tr es h = home_needs m.me true r h.0.who
@@ -312,9 +310,8 @@ module _ (me : Me) (r0 rs r : Memo) (tr t : Trail) (es ds : List Event) (held : 
 
 name_laws : (m : OpenState) (y : OpenPoint) → PartLaws (is_look y) up_control (name_part m y)
 name_laws m Look = up_slot_laws (Home m.me.who) false true
-name_laws m Make = up_slot_laws (Home m.me.who) false false
 name_laws m Name = made_up_laws (Home m.me.who)
-name_laws m Drop = up_slot_laws (Home m.me.who) false false
+name_laws m _ = up_slot_laws (Home m.me.who) false false
 
 -- ---- all of it
 
@@ -333,13 +330,11 @@ open_laws =
     }
   where
     stays : (m : OpenState) (a : OpenAnswer) → PlanStays open_parts open_plan m a
-    stays m (First n) = record { same_me = refl; same_line = refl; same_start = refl; started = λ e. refl }
-    stays m (Second (First (Ok a))) = record { same_me = refl; same_line = refl; same_start = refl; started = λ e. refl }
     stays m (Second (First (Err f))) = record { same_me = refl; same_line = refl; same_start = refl; started = λ e. absurd (cc) }
-    stays m (Second (Second (First (Ok u)))) = record { same_me = refl; same_line = refl; same_start = refl; started = λ e. refl }
     stays m (Second (Second (First (Err f)))) = record { same_me = refl; same_line = refl; same_start = refl; started = λ e. absurd (cc) }
     stays m (Second (Second (Second (Ok z)))) = record { same_me = refl; same_line = refl; same_start = refl; started = λ e. absurd (cc) }
     stays m (Second (Second (Second (Err e)))) = record { same_me = refl; same_line = refl; same_start = refl; started = λ z. absurd (cc) }
+    stays m _ = record { same_me = refl; same_line = refl; same_start = refl; started = λ e. refl }
 
     -- each call leads on
     leads : (m : OpenState) (y : OpenPoint) (r0 rs r : Memo) (tr t : Trail) (es ds : List Event) (a : OpenAnswer) → OpenKnows (record m { point = y }) y r0 rs tr es → (open_plan.part (record m { point = y })).leaves (open_call_at m y) rs r t ds a → IsHeld m.me r → recovers r ≡ recovers rs
@@ -365,12 +360,4 @@ open_laws =
     leads m Name r0 rs r tr t es ds (Second (Second (First (Err (CountFull b n))))) h g held agent = absurd g.1
     leads m Drop r0 rs r tr t es ds (Second (Second (Second (Ok z)))) h g held agent = dropped m.me r0 rs r tr t es ds held agent m.root m.block z h g
     leads m Drop r0 rs r tr t es ds (Second (Second (Second (Err e)))) h g held agent = undropped m.me r0 rs r tr t es ds held agent m.root m.block e h g
-    leads m Look r0 rs r tr t es ds (Second a) h g held agent = absurd g
-    leads m Make r0 rs r tr t es ds (First n) h g held agent = absurd g
-    leads m Make r0 rs r tr t es ds (Second (Second a)) h g held agent = absurd g
-    leads m Name r0 rs r tr t es ds (First n) h g held agent = absurd g
-    leads m Name r0 rs r tr t es ds (Second (First a)) h g held agent = absurd g
-    leads m Name r0 rs r tr t es ds (Second (Second (Second a))) h g held agent = absurd g
-    leads m Drop r0 rs r tr t es ds (First n) h g held agent = absurd g
-    leads m Drop r0 rs r tr t es ds (Second (First a)) h g held agent = absurd g
-    leads m Drop r0 rs r tr t es ds (Second (Second (First a))) h g held agent = absurd g
+    leads m _ r0 rs r tr t es ds _ h g held agent = absurd g

@@ -43,16 +43,14 @@ use Rattle.shm_table.specs.declared.answer.PutFault.TheVariants as fault
 -- ---- the plan
 
 stays : (m : PutState) (b : PutAnswer) → PlanStays put_parts put_plan m b
-stays m (First (Ok made)) = record { same_me = refl; same_line = refl; same_start = refl; started = λ e. refl }
 stays m (First (Err f)) = record { same_me = refl; same_line = refl; same_start = refl; started = λ e. absurd (cc) }
-stays m (Second (First done)) = record { same_me = refl; same_line = refl; same_start = refl; started = λ e. refl }
 stays m (Second (Second (Ok z))) = record { same_me = refl; same_line = refl; same_start = refl; started = λ e. absurd (cc) }
 stays m (Second (Second (Err e))) = record { same_me = refl; same_line = refl; same_start = refl; started = λ e. absurd (cc) }
+stays m _ = record { same_me = refl; same_line = refl; same_start = refl; started = λ e. refl }
 
 calls : (m : PutState) (y : PutPoint) → IsCall put_parts put_plan (record m { point = y })
 calls m Make = record { me = refl; asks = refl }
-calls m Put = record { me = refl; asks = refl }
-calls m Drop = record { me = refl; asks = refl }
+calls m _ = record { me = refl; asks = refl }
 
 plain_small : (n i : ℕ) → n < 2 ^ 64 → slice_index (value_request n).plain i < 2 ^ 64
 plain_small n zero l = l
@@ -96,18 +94,15 @@ inside_made me q m r a (w, rs, h, same) l gives = block_inside me q m a w rs h l
 
 -- why nothing was made
 cause_made : (me : Me) (m r : Memo) (f : AllocFault) → PutCause me m r (made_fault f) → CommandCause me m r (made_fault f)
-cause_made me m r (alloc_fault.EraSpent e) h = h
 cause_made me m r alloc_fault.RootsFull h = (0, λ j l n. h j l)
-cause_made me m r (alloc_fault.Full s b) h = h
+cause_made me m r _ h = h
 
 -- ---- answers
 
 -- what a refusal leaves
 not_stored : (m : PutState) (r0 r : Memo) (tr : Trail) (es : List Event) (f : PutFault) → NotStored m.me m.key r0 r tr es f → PutLeaves m r0 r tr es (fault_answer f)
 not_stored m r0 r tr es (fault.EraSpent e) h = h
-not_stored m r0 r tr es fault.RootsFull h = h
-not_stored m r0 r tr es (fault.Full s b) h = h
-not_stored m r0 r tr es (fault.CountFull b n) h = h
+not_stored m r0 r tr es _ h = h
 
 -- ---- what each call leaves
 
@@ -436,8 +431,4 @@ module _ (puts : PlanLaws put_root_parts put_root_plan) where
           (making m r0 r t ds a held (agent ∙ ap recovers same) may number (subst (λ (x : Memo). put_part.leaves (put_call_at m Make) x r t ds (First a)) same w)))
       leads m Put r0 rs r tr t es ds (Second (First a)) held agent h w = putting m r0 rs r tr t es ds a h w
       leads m Drop r0 rs r tr t es ds (Second (Second a)) held agent (h, still) w = dropping_root m m.refused r0 rs r tr t es ds a h w
-      leads m Make r0 rs r tr t es ds (Second b) held agent h w = absurd w
-      leads m Put r0 rs r tr t es ds (First b) held agent h w = absurd w
-      leads m Put r0 rs r tr t es ds (Second (Second b)) held agent h w = absurd w
-      leads m Drop r0 rs r tr t es ds (First b) held agent h w = absurd w
-      leads m Drop r0 rs r tr t es ds (Second (First b)) held agent h w = absurd w
+      leads m _ r0 rs r tr t es ds _ held agent h w = absurd w

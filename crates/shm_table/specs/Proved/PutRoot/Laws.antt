@@ -7,8 +7,8 @@ use Rattle.plans.specs.{Either.{or_control, or_part}, Proved.Either.or_part_laws
 use Rattle.plans.specs.{Plans.{PlanLaws, PlanStays, IsCall, Follows}, Words.word_control}
 use Rattle.shm_ref.specs.DropRoot.{Control.{drop_parts, dropping}, DropLeaves, drop_plan}
 use Rattle.shm_ref.specs.{Proved.DropRoot.Laws.drop_laws, DropRoots.Control.drop_root}
-use Rattle.shm_table.specs.declared.enter.Entered.TheVariants.{Linked, Unlinked, Unmade}
-use Rattle.shm_table.specs.declared.{find.Found.TheVariants.{Absent, At}, put_root.PutRootPoint.PutRootPoint}
+use Rattle.shm_table.specs.declared.{enter.Entered.TheVariants.Linked, find.Found.TheVariants.At}
+use Rattle.shm_table.specs.declared.put_root.PutRootPoint.{PutRootPoint}
 use Rattle.shm_table.specs.declared.put_root.PutRootPoint.TheVariants.{Open, Locate, Replace, Enter, Unlatch, Drop}
 use Rattle.shm_table.specs.{declared.put_root.PutRootState.PutRootState, Enter.{Control.enter_parts, enter_plan}}
 use Rattle.shm_table.specs.Locate.{Control.{locate_parts, locate_control}, locate_plan}
@@ -24,25 +24,17 @@ use Rattle.shm_table.specs.Unlatch.Control.{unlatch_control}
 -- ---- the plan
 
 stays : (m : PutRootState) (b : PutRootAnswer) → PlanStays put_root_parts put_root_plan m b
-stays m (First (First (Ok done))) = record { same_me = refl; same_line = refl; same_start = refl; started = λ e. refl }
 stays m (First (First (Err f))) = record { same_me = refl; same_line = refl; same_start = refl; started = λ e. absurd (cc) }
 stays m (First (Second (At entry before word))) = record { same_me = refl; same_line = refl; same_start = refl; started = λ e. refl }
-stays m (First (Second (Absent home first))) = record { same_me = refl; same_line = refl; same_start = refl; started = λ e. refl }
 stays m (Second (First (First done))) = record { same_me = refl; same_line = refl; same_start = refl; started = λ e. refl }
 stays m (Second (First (Second (Linked k)))) = record { same_me = refl; same_line = refl; same_start = refl; started = λ e. refl }
-stays m (Second (First (Second (Unlinked k f)))) = record { same_me = refl; same_line = refl; same_start = refl; started = λ e. refl }
-stays m (Second (First (Second (Unmade f)))) = record { same_me = refl; same_line = refl; same_start = refl; started = λ e. refl }
-stays m (Second (Second (First done))) = record { same_me = refl; same_line = refl; same_start = refl; started = λ e. refl }
 stays m (Second (Second (Second (Ok z)))) = record { same_me = refl; same_line = refl; same_start = refl; started = λ e. absurd (cc) }
 stays m (Second (Second (Second (Err e)))) = record { same_me = refl; same_line = refl; same_start = refl; started = λ e. absurd (cc) }
+stays m _ = record { same_me = refl; same_line = refl; same_start = refl; started = λ e. refl }
 
 calls : (m : PutRootState) (y : PutRootPoint) → IsCall put_root_parts put_root_plan (record m { point = y })
 calls m Open = record { me = refl; asks = refl }
-calls m Locate = record { me = refl; asks = refl }
-calls m Replace = record { me = refl; asks = refl }
-calls m Enter = record { me = refl; asks = refl }
-calls m Unlatch = record { me = refl; asks = refl }
-calls m Drop = record { me = refl; asks = refl }
+calls m _ = record { me = refl; asks = refl }
 
 -- ---- before each call
 
@@ -92,22 +84,7 @@ leads m Unlatch r0 rs r tr t es ds (Second (Second (First done))) held agent h w
 leads m Drop r0 rs r tr t es ds (Second (Second (Second a))) held agent (k, is, h) w =
     subst (λ (o : Option ℕ). DropLeaves (dropping m.me (root_or o)) rs r t ds a → IsSettled (record m { root = o; point = Drop }) None (settled_steps m.me.geometry.wide m.me.geometry.segments + 2) r0 rs tr es
     → Follows put_root_parts put_root_plan (record m { root = o; point = Drop }) (Second (Second (Second a))) r0 r (tr ++ t) (es ++ ds)) (sym is) (λ v j. dropped_so m r0 rs r tr t es ds held agent k m.refused a j v) w h
-leads m Open r0 rs r tr t es ds (First (Second b)) held agent h w = absurd w
-leads m Open r0 rs r tr t es ds (Second b) held agent h w = absurd w
-leads m Locate r0 rs r tr t es ds (First (First b)) held agent h w = absurd w
-leads m Locate r0 rs r tr t es ds (Second b) held agent h w = absurd w
-leads m Replace r0 rs r tr t es ds (First b) held agent h w = absurd w
-leads m Replace r0 rs r tr t es ds (Second (First (Second b))) held agent h w = absurd w
-leads m Replace r0 rs r tr t es ds (Second (Second b)) held agent h w = absurd w
-leads m Enter r0 rs r tr t es ds (First b) held agent h w = absurd w
-leads m Enter r0 rs r tr t es ds (Second (First (First b))) held agent h w = absurd w
-leads m Enter r0 rs r tr t es ds (Second (Second b)) held agent h w = absurd w
-leads m Unlatch r0 rs r tr t es ds (First b) held agent h w = absurd w
-leads m Unlatch r0 rs r tr t es ds (Second (First b)) held agent h w = absurd w
-leads m Unlatch r0 rs r tr t es ds (Second (Second (Second b))) held agent h w = absurd w
-leads m Drop r0 rs r tr t es ds (First b) held agent h w = absurd w
-leads m Drop r0 rs r tr t es ds (Second (First b)) held agent h w = absurd w
-leads m Drop r0 rs r tr t es ds (Second (Second (First b))) held agent h w = absurd w
+leads m _ r0 rs r tr t es ds _ held agent h w = absurd w
 
 -- ---- the plan's laws, by those of the machines that it calls
 

@@ -7,7 +7,7 @@ use Rattle.shm_count.specs.{declared.answer.EraSpent.EraSpent as Spent, Tear.Eve
 use Rattle.shm_script.specs.declared.log.Answer.{Answer}
 use Rattle.shm_script.specs.declared.log.Answer.TheVariants as answer
 use Rattle.shm_table.specs.declared.answer.PutFault.{PutFault, TheVariants.{EraSpent, RootsFull, Full, CountFull}}
-use Rattle.shm_table.specs.declared.fetch_head.FetchedHead.{FetchedHead, TheVariants.{Empty, Refused, Rooted}}
+use Rattle.shm_table.specs.declared.fetch_head.FetchedHead.{FetchedHead, TheVariants.Empty}
 use Rattle.shm_table.specs.FetchHead.{Control.fetching_head, FetchHeadLeaves, fetch_head_steps}
 use Rattle.shm_table.specs.{PutRoot.Bound.IsPutShort, RecvKey.Control.receiving_key}
 use Rattle.shm_table.specs.{RecvKey.{NotReceivedIn, RecvLeaves, recv_steps}, TakeHead.Control.taking_head}
@@ -16,8 +16,7 @@ use Rattle.shm_table.specs.TakeHead.{TakeHeadLeaves, take_head_steps}
 -- whatever was fetched
 pub fetch_head_short : (me : Me) (s : ℕ) (r0 r : Memo) (tr : Trail) (es : List Event) (a : FetchedHead) → FetchHeadLeaves (fetching_head me s) r0 r tr es a → IsWithin (fetch_head_steps me.geometry.wide) tr
 fetch_head_short me s r0 r tr es (Empty n) h = let b = h.bound in omega arith
-fetch_head_short me s r0 r tr es (Refused f) h = h.bound
-fetch_head_short me s r0 r tr es (Rooted k b v n) h = h.bound
+fetch_head_short me s r0 r tr es _ h = h.bound
 
 pub take_head_short : (me : Me) (s n b : ℕ) (r0 r : Memo) (tr : Trail) (es : List Event) (a : Result (Unit {0}) Spent) → TakeHeadLeaves (taking_head me s n b) r0 r tr es a → IsWithin (take_head_steps me.geometry.wide) tr
 take_head_short me s n b r0 r tr es (Ok done) h = h.bound

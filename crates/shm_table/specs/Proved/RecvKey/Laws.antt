@@ -84,9 +84,7 @@ opens m Drop r0 r tr es (p, item, still) =
 -- what a refusal leaves
 not_received : (m : RecvState) (r0 r : Memo) (tr : Trail) (es : List Event) (f : PutFault) → NotReceivedIn m.me m.from m.key r0 r tr es f → RecvLeaves m r0 r tr es (fault_answer f)
 not_received m r0 r tr es (fault.EraSpent e) h = h
-not_received m r0 r tr es fault.RootsFull h = h
-not_received m r0 r tr es (fault.Full s b) h = h
-not_received m r0 r tr es (fault.CountFull b n) h = h
+not_received m r0 r tr es _ h = h
 
 -- ---- what follows each call
 
@@ -415,20 +413,17 @@ module _ (fetches : PlanLaws fetch_head_parts fetch_head_plan) (takes : PlanLaws
       }
     where
       stays : (m : RecvState) (b : RecvAnswer) → PlanStays recv_parts recv_plan m b
-      stays m (First (First (fetched.Empty n))) = record { same_me = refl; same_line = refl; same_start = refl; started = λ e. absurd (cc) }
-      stays m (First (First (fetched.Refused f))) = record { same_me = refl; same_line = refl; same_start = refl; started = λ e. absurd (cc) }
       stays m (First (First (fetched.Rooted k b v n))) = record { same_me = refl; same_line = refl; same_start = refl; started = λ e. refl }
       stays m (First (Second a)) = record { same_me = refl; same_line = refl; same_start = refl; started = λ e. refl }
       stays m (Second (First (Ok z))) = record { same_me = refl; same_line = refl; same_start = refl; started = λ e. refl }
       stays m (Second (First (Err f))) = record { same_me = refl; same_line = refl; same_start = refl; started = λ e. refl }
       stays m (Second (Second (Ok z))) = record { same_me = refl; same_line = refl; same_start = refl; started = λ e. absurd (cc) }
       stays m (Second (Second (Err e))) = record { same_me = refl; same_line = refl; same_start = refl; started = λ e. absurd (cc) }
+      stays m (First (First _)) = record { same_me = refl; same_line = refl; same_start = refl; started = λ e. absurd (cc) }
 
       calls : (m : RecvState) (y : RecvPoint) → IsCall recv_parts recv_plan (record m { point = y })
       calls m Fetch = record { me = refl; asks = refl }
-      calls m Put = record { me = refl; asks = refl }
-      calls m Take = record { me = refl; asks = refl }
-      calls m Drop = record { me = refl; asks = refl }
+      calls m _ = record { me = refl; asks = refl }
 
       leads : (m : RecvState) (y : RecvPoint) (r0 rs r : Memo) (tr t : Trail) (es ds : List Event) (b : RecvAnswer) → IsHeld m.me r → RecvKnows (record m { point = y }) y r0 rs tr es → recv_part.leaves (recv_call_at m y) rs r t ds b
           → Follows recv_parts recv_plan (record m { point = y }) b r0 r (tr ++ t) (es ++ ds)
@@ -437,11 +432,4 @@ module _ (fetches : PlanLaws fetch_head_parts fetch_head_plan) (takes : PlanLaws
       leads m Put r0 rs r tr t es ds (Second (First (Ok z))) held h w = put_in m r0 rs r tr t es ds held z h w
       leads m Put r0 rs r tr t es ds (Second (First (Err f))) held h w = put_refused m r0 rs r tr t es ds held f h w
       leads m Drop r0 rs r tr t es ds (Second (Second a)) held (p, item, still) w = dropped m r0 rs r tr t es ds held m.refused a (p, item) w
-      leads m Fetch r0 rs r tr t es ds (First (Second b)) held h w = absurd w
-      leads m Fetch r0 rs r tr t es ds (Second b) held h w = absurd w
-      leads m Take r0 rs r tr t es ds (First (First b)) held h w = absurd w
-      leads m Take r0 rs r tr t es ds (Second b) held h w = absurd w
-      leads m Put r0 rs r tr t es ds (First b) held h w = absurd w
-      leads m Put r0 rs r tr t es ds (Second (Second b)) held h w = absurd w
-      leads m Drop r0 rs r tr t es ds (First b) held h w = absurd w
-      leads m Drop r0 rs r tr t es ds (Second (First b)) held h w = absurd w
+      leads m _ r0 rs r tr t es ds _ held h w = absurd w

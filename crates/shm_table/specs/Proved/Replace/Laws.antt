@@ -258,14 +258,11 @@ replace_laws =
     stays : (m : ReplaceState) (y : ReplacePoint) (a : ReplaceAnswer) → PlanStays replace_parts replace_plan (record m { point = y }) a
     stays m y (First n) = record { same_me = refl; same_line = refl; same_start = refl; started = λ e. refl }
     stays m y (Second (First (Ok true))) = record { same_me = refl; same_line = refl; same_start = refl; started = λ e. refl }
-    stays m y (Second (First (Ok false))) = record { same_me = refl; same_line = refl; same_start = refl; started = λ e. absurd (cc) }
-    stays m y (Second (First (Err f))) = record { same_me = refl; same_line = refl; same_start = refl; started = λ e. absurd (cc) }
-    stays m y (Second (Second a)) = record { same_me = refl; same_line = refl; same_start = refl; started = λ e. absurd (cc) }
+    stays m y (Second _) = record { same_me = refl; same_line = refl; same_start = refl; started = λ e. absurd (cc) }
 
     calls : (m : ReplaceState) (y : ReplacePoint) → IsCall replace_parts replace_plan (record m { point = y })
     calls m Look = record { me = refl; asks = refl }
-    calls m Change = record { me = refl; asks = refl }
-    calls m Tear = record { me = refl; asks = refl }
+    calls m _ = record { me = refl; asks = refl }
 
     opens : (m : ReplaceState) (y : ReplacePoint) (r0 r : Memo) (tr : Trail) (es : List Event) → ReplaceKnows (record m { point = y }) y r0 r tr es → (replace_plan.part (record m { point = y })).needs (replace_call_at m y) r
     opens m Look r0 r tr es (begun, same, none, quiet) =
@@ -302,8 +299,4 @@ replace_laws =
     leads m Change r0 rs r tr t es ds (Second (First (Ok false))) (seen, quiet, bound) g held agent = (lowered m.me m.entry m.to m.before r0 rs r tr t es ds held agent seen quiet bound g.did.0 g.did.1 g.bound, λ z. absurd (true≢false z))
     leads m Change r0 rs r tr t es ds (Second (First (Err f))) (seen, quiet, bound) g held agent = refused m.me m.entry m.to m.before r0 rs r tr t es ds held agent seen quiet bound f g.did g.bound
     leads m Tear r0 rs r tr t es ds (Second (Second a)) h g held agent = (torn m.me m.entry m.to m.before r0 rs r tr t es ds held agent a h g, λ z. absurd (true≢false z))
-    leads m Look r0 rs r tr t es ds (Second a) h g held agent = absurd g
-    leads m Change r0 rs r tr t es ds (First n) h g held agent = absurd g
-    leads m Change r0 rs r tr t es ds (Second (Second a)) h g held agent = absurd g
-    leads m Tear r0 rs r tr t es ds (First n) h g held agent = absurd g
-    leads m Tear r0 rs r tr t es ds (Second (First a)) h g held agent = absurd g
+    leads m _ r0 rs r tr t es ds _ h g held agent = absurd g

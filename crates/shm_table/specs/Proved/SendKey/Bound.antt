@@ -18,11 +18,7 @@ send_key_short me i key r0 r tr es answer.Ok (b, n, h) = (h.keys, h.search, h.bo
 send_key_short me i key r0 r tr es (answer.QueueFull d n) (b, h) = (h.keys, h.search, h.bound)
 send_key_short me i key r0 r tr es (answer.EraSpent e) (b, h) = (h.keys, h.search, h.bound)
 send_key_short me i key r0 r tr es (answer.CountFull d n) (b, h) = (h.keys, h.search, h.bound)
-send_key_short me i key r0 r tr es (answer.Stored b) h = absurd h
-send_key_short me i key r0 r tr es (answer.Value n b) h = absurd h
-send_key_short me i key r0 r tr es (answer.Full s b) h = absurd h
-send_key_short me i key r0 r tr es (answer.Empty n) h = absurd h
-send_key_short me i key r0 r tr es answer.RootsFull h = absurd h
+send_key_short me i key r0 r tr es _ h = absurd h
 
 -- that is within what a command on a table may take
 pub send_key_within : (me : Me) (key g : ℕ) (tr : Trail) → IsSendShort me key (own_steps me.geometry.wide) tr → IsSendShort me key (λ k. command_steps me.geometry.wide g k 0) tr

@@ -64,11 +64,7 @@ gives m answer.Ok r0 r tr es (b, n, h) = may_give m.me m.to r0 r h.may h.keeps.i
 gives m (answer.QueueFull d n) r0 r tr es (b, h) = may_give m.me m.to r0 r h.may h.keeps.idle h.latch
 gives m (answer.EraSpent e) r0 r tr es (b, h) = may_give m.me m.to r0 r h.may h.keeps.idle h.latch
 gives m (answer.CountFull d n) r0 r tr es (b, h) = may_give m.me m.to r0 r h.may h.keeps.idle h.latch
-gives m (answer.Stored b) r0 r tr es h = absurd h
-gives m (answer.Value n b) r0 r tr es h = absurd h
-gives m (answer.Full s b) r0 r tr es h = absurd h
-gives m (answer.Empty n) r0 r tr es h = absurd h
-gives m answer.RootsFull r0 r tr es h = absurd h
+gives m _ r0 r tr es h = absurd h
 
 -- ---- what follows each call
 
@@ -221,11 +217,7 @@ module _ (m : SendKeyState) (r0 rs r : Memo) (tr t : Trail) (es ds : List Event)
   given (answer.QueueFull d n) (b, h) w = (b, still_unsent b (QueueFull d n) h w)
   given (answer.EraSpent e) (b, h) w = (b, still_unsent b (EraSpent e) h w)
   given (answer.CountFull d n) (b, h) w = (b, still_unsent b (CountFull d n) h w)
-  given (answer.Stored b) h w = absurd h
-  given (answer.Value n b) h w = absurd h
-  given (answer.Full s b) h w = absurd h
-  given (answer.Empty n) h w = absurd h
-  given answer.RootsFull h w = absurd h
+  given _ h w = absurd h
 
 -- ---- the plan
 
@@ -252,16 +244,12 @@ send_key_laws =
   where
     stays : (m : SendKeyState) (y : SendKeyPoint) (b : SendKeyAnswer) → PlanStays send_key_parts send_key_plan (record m { point = y }) b
     stays m y (First (At entry before word)) = record { same_me = refl; same_line = refl; same_start = refl; started = λ e. refl }
-    stays m y (First (Absent home first)) = record { same_me = refl; same_line = refl; same_start = refl; started = λ e. refl }
-    stays m y (Second (First n)) = record { same_me = refl; same_line = refl; same_start = refl; started = λ e. refl }
-    stays m y (Second (Second (First a))) = record { same_me = refl; same_line = refl; same_start = refl; started = λ e. refl }
     stays m y (Second (Second (Second done))) = record { same_me = refl; same_line = refl; same_start = refl; started = λ e. absurd (cc) }
+    stays m y _ = record { same_me = refl; same_line = refl; same_start = refl; started = λ e. refl }
 
     calls : (m : SendKeyState) (y : SendKeyPoint) → IsCall send_key_parts send_key_plan (record m { point = y })
     calls m Search = record { me = refl; asks = refl }
-    calls m Value = record { me = refl; asks = refl }
-    calls m Send = record { me = refl; asks = refl }
-    calls m Give = record { me = refl; asks = refl }
+    calls m _ = record { me = refl; asks = refl }
 
     opens : (m : SendKeyState) (y : SendKeyPoint) (r0 r : Memo) (tr : Trail) (es : List Event) → SendKeyKnows (record m { point = y }) y r0 r tr es → (send_key_part (record m { point = y }) y).needs (send_key_call m y) r
     opens m Search r0 r tr es h = record { made = refl; first = refl; start = refl; knows = locate_begin m.me m.me.who m.key r (subst (MayLocate m.me m.me.who) (sym h.1) h.0.locate) }
@@ -280,12 +268,4 @@ send_key_laws =
     leads m Send r0 rs r tr t es ds (Second (Second (First (Err (EraSpent e))))) held agent h g = (m.block, refused m r0 rs r tr t es ds held agent h (EraSpent e) g)
     leads m Send r0 rs r tr t es ds (Second (Second (First (Err (CountFull d n))))) held agent h g = (m.block, refused m r0 rs r tr t es ds held agent h (CountFull d n) g)
     leads m Give r0 rs r tr t es ds (Second (Second (Second done))) held agent h g = given m r0 rs r tr t es ds held agent m.outcome h g
-    leads m Search r0 rs r tr t es ds (Second b) held agent h g = absurd g
-    leads m Value r0 rs r tr t es ds (First b) held agent h g = absurd g
-    leads m Value r0 rs r tr t es ds (Second (Second b)) held agent h g = absurd g
-    leads m Send r0 rs r tr t es ds (First b) held agent h g = absurd g
-    leads m Send r0 rs r tr t es ds (Second (First b)) held agent h g = absurd g
-    leads m Send r0 rs r tr t es ds (Second (Second (Second b))) held agent h g = absurd g
-    leads m Give r0 rs r tr t es ds (First b) held agent h g = absurd g
-    leads m Give r0 rs r tr t es ds (Second (First b)) held agent h g = absurd g
-    leads m Give r0 rs r tr t es ds (Second (Second (First b))) held agent h g = absurd g
+    leads m _ r0 rs r tr t es ds _ held agent h g = absurd g

@@ -22,11 +22,10 @@ use Rattle.shm_alloc.specs.{declared.{alloc.AllocFault.AllocFault, request.Reque
 use Rattle.shm_alloc.specs.declared.alloc.AllocFault.TheVariants as alloc
 use Rattle.shm_ref.specs.{declared.drop_root.DropState.DropState, DropRoot.DropLeaves, Hold.wants}
 use Rattle.shm_ref.specs.{Proved.Leaving.left_root, Lefts.{Left, is_root_of}}
-use Rattle.shm_table.specs.declared.answer.PutFault.{PutFault}
-use Rattle.shm_table.specs.declared.answer.PutFault.TheVariants.{EraSpent as Spent, RootsFull, Full, CountFull}
+use Rattle.shm_table.specs.declared.answer.PutFault.{PutFault, TheVariants.{EraSpent as Spent, RootsFull, Full}}
 use Rattle.shm_table.specs.{Answers.{made_fault, raised_fault}, Find.OnlyReads}
 use Rattle.shm_table.specs.Staying.{Cleared, Ended, IsSpent, Keeps, Latched, PutCause, SameMap, is_set}
-use Rattle.shm_table.specs.Staying.Laws.{KeepsRest, gives, c, keeps_block}
+use Rattle.shm_table.specs.Staying.Laws.{KeepsRest, c, keeps_block}
 
 -- ---- own words that are kept
 
@@ -345,21 +344,17 @@ spent_later c e x r l (a, b) = (a, omega arith)
 
 pub cause_later : (me : Me) (m x r : Memo) (f : PutFault) → own_word x.own (Era me.who me.who) ≤ own_word r.own (Era me.who me.who) → PutCause me m x f → PutCause me m r f
 cause_later me m x r (Spent e) l h = spent_later me.who e x r l h
-cause_later me m x r RootsFull l h = h
-cause_later me m x r (Full s b) l h = h
-cause_later me m x r (CountFull b n) l h = h
+cause_later me m x r _ l h = h
 
 -- where the roots before it were the same
 pub cause_before : (me : Me) (m x r : Memo) (f : PutFault) → ((j : ℕ) → root_word me.who x j ≡ root_word me.who m j) → PutCause me x r f → PutCause me m r f
-cause_before me m x r (Spent e) same h = h
 cause_before me m x r RootsFull same h = λ j l z. h j l (same j ∙ z)
 cause_before me m x r (Full s b) same h = (h.0, h.1, sym (same h.0) ∙ h.2)
-cause_before me m x r (CountFull b n) same h = h
+cause_before me m x r _ same h = h
 
 pub made_cause : (me : Me) (q : Request) (m r : Memo) (f : AllocFault) → AnswerHolds me q m r (Err f) → PutCause me m r (made_fault f)
 made_cause me q m r (alloc.EraSpent e) h = let y = h.gives.1.0 in let z = h.gives.1.1 in let u = ap (λ (ss : List Stored). own_word ss (Era me.who me.who)) h.gives.0.own in (omega arith, omega arith)
-made_cause me q m r alloc.RootsFull h = h.gives.1.1
-made_cause me q m r (alloc.Full s b) h = h.gives.1.1
+made_cause me q m r _ h = h.gives.1.1
 
 pub raised_cause : (me : Me) (x : Aim) (m0 m r : Memo) (f : UpFault) → Untouched me.who m r → StepCause me x m f → PutCause me m0 r (raised_fault f)
 raised_cause me (Up b) m0 m r (up.EraSpent e) h (y, z) = let u = h.rows me.who in (omega arith, omega arith)

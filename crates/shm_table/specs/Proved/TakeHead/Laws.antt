@@ -215,8 +215,7 @@ leads : (m : TakeHeadState) (y : TakeHeadPoint) (r0 rs r : Memo) (tr t : Trail) 
     → (take_head_part m y).leaves (take_head_call m y) rs r t ds b → Follows take_head_parts take_head_plan (record m { point = y }) b r0 r (tr ++ t) (es ++ ds)
 leads m Lower r0 rs r tr t es ds (Second a) held h g = lowered m r0 rs r tr t es ds held a h g
 leads m Store r0 rs r tr t es ds (First n) held h w = stored m r0 rs r tr t es ds held n h w
-leads m Lower r0 rs r tr t es ds (First n) held h g = absurd g
-leads m Store r0 rs r tr t es ds (Second a) held h g = absurd g
+leads m _ r0 rs r tr t es ds _ held h g = absurd g
 
 -- what is known before the first call
 pub take_head_begin : (me : Me) (s n b : ℕ) (r : Memo) → MayTakeHead me s n b r → TakeHeadKnows (taking_head me s n b) Lower r r [] []

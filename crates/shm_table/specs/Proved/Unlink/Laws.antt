@@ -291,18 +291,12 @@ unlink_laws =
     stays : (m : UnlinkState) (y : UnlinkPoint) (a : UnlinkAnswer) → PlanStays unlink_parts unlink_plan (record m { point = y }) a
     stays m y (First n) = record { same_me = refl; same_line = refl; same_start = refl; started = λ e. not_look (n % address_limit) }
     stays m y (Second (First (Ok true))) = record { same_me = refl; same_line = refl; same_start = refl; started = λ e. refl }
-    stays m y (Second (First (Ok false))) = record { same_me = refl; same_line = refl; same_start = refl; started = λ e. absurd (cc) }
-    stays m y (Second (First (Err s))) = record { same_me = refl; same_line = refl; same_start = refl; started = λ e. absurd (cc) }
     stays m y (Second (Second (First (Ok true)))) = record { same_me = refl; same_line = refl; same_start = refl; started = λ e. refl }
-    stays m y (Second (Second (First (Ok false)))) = record { same_me = refl; same_line = refl; same_start = refl; started = λ e. absurd (cc) }
-    stays m y (Second (Second (First (Err f)))) = record { same_me = refl; same_line = refl; same_start = refl; started = λ e. absurd (cc) }
-    stays m y (Second (Second (Second a))) = record { same_me = refl; same_line = refl; same_start = refl; started = λ e. absurd (cc) }
+    stays m y (Second _) = record { same_me = refl; same_line = refl; same_start = refl; started = λ e. absurd (cc) }
 
     calls : (m : UnlinkState) (y : UnlinkPoint) → IsCall unlink_parts unlink_plan (record m { point = y })
     calls m Look = record { me = refl; asks = refl }
-    calls m Lower = record { me = refl; asks = refl }
-    calls m Change = record { me = refl; asks = refl }
-    calls m Tear = record { me = refl; asks = refl }
+    calls m _ = record { me = refl; asks = refl }
 
     opens : (m : UnlinkState) (y : UnlinkPoint) (r0 r : Memo) (tr : Trail) (es : List Event) → UnlinkKnows (record m { point = y }) y r0 r tr es → (unlink_plan.part (record m { point = y })).needs (unlink_call_at m y) r
     opens m Look r0 r tr es (begun, same, none, quiet) =
@@ -343,12 +337,4 @@ unlink_laws =
         lowered m.me m.entry m.before m.word m.next r0 rs r tr t es ds held agent seen quiet bound g.did.0 (more_told m.me m.entry m.before m.word m.next r0 rs r tr t es ds held agent seen quiet bound more g.did.1) g.bound
     leads m Change r0 rs r tr t es ds (Second (Second (First (Err f)))) (more, seen, quiet, bound) g held agent = more_refused m.me m.entry m.before m.word m.next r0 rs r tr t es ds held agent seen quiet bound more f g.did g.bound
     leads m Tear r0 rs r tr t es ds (Second (Second (Second a))) h g held agent = torn m.me m.entry m.before m.word m.next r0 rs r tr t es ds held agent a h g
-    leads m Look r0 rs r tr t es ds (Second a) h g held agent = absurd g
-    leads m Lower r0 rs r tr t es ds (First n) h g held agent = absurd g
-    leads m Lower r0 rs r tr t es ds (Second (Second a)) h g held agent = absurd g
-    leads m Change r0 rs r tr t es ds (First n) h g held agent = absurd g
-    leads m Change r0 rs r tr t es ds (Second (First a)) h g held agent = absurd g
-    leads m Change r0 rs r tr t es ds (Second (Second (Second a))) h g held agent = absurd g
-    leads m Tear r0 rs r tr t es ds (First n) h g held agent = absurd g
-    leads m Tear r0 rs r tr t es ds (Second (First a)) h g held agent = absurd g
-    leads m Tear r0 rs r tr t es ds (Second (Second (First a))) h g held agent = absurd g
+    leads m _ r0 rs r tr t es ds _ h g held agent = absurd g

@@ -2,12 +2,12 @@ use Rattle.shm_tree.proofs.Resting.{rests_after, rests_link}
 use Rattle.shm_tree.proofs.Sharings.{fresh_read, weighs_far, weighs_flat, weighs_near}
 use Rattle.shm_tree.proofs.Building.{Looked, alive_any, alive_kept, alive_over, at_hand_still, born_built, builds_after, builds_died, builds_first, builds_from, builds_link, built_after, built_more, cheap_after, link_cheap, linked_some, looked, looked_then, ok_any, ok_kept, rooms_some, rooms_still}
 use Rattle.shm_tree.proofs.Rotations.{joined_far, joined_flat, joined_near, joined_stands, seen_back, tall_some}
-use Rattle.shm_tree.proofs.balance.balanced.Goals.{In_ok-far}
+use Rattle.shm_tree.proofs.{balance.balanced.Goals.In_ok-far, Lasts.last_any, Spendings.spent_call}
 use Rattle.shm_tree.proofs.balance.balanced.Goals as goal
 use Rattle.shm_tree.specs.{Sharing.{IsOver, IsFresh, WeighsFar, WeighsJoined}, declared.node.Side.Side}
 use Rattle.shm_tree.specs.{Standing.TreeStands, Trees.{Tree, height}}
 use Rattle.shm_tree.specs.Building.{rooms, IsBuilt, IsCheap, StandsOf, from_far, joined_by}
-use Rattle.shm_tree.specs.{Keeping.{IsLinked, node_by}, Bounds.{link_steps, rotated_steps}}
+use Rattle.shm_tree.specs.{Keeping.{IsLinked, node_by}, Bounds.{balanced_steps, link_steps, rotated_steps}}
 use Rattle.std.proofs.Common.{◌≡◌, ◌∙◌, lit≤, refl, sym, ap, subst, arith}
 use Rattle.shm_count.specs.declared.answer.Made.{Made}
 
@@ -23,14 +23,14 @@ height-requires-2 c =
 pub returns-in_err-near-clause-builds : goal.returns-in_err-near-clause-builds
 returns-in_err-near-clause-builds c =
     let e = c.in_err-near.ensures in
-    builds_from c.from_residual.result c.from_residual.ensures.1 (builds_first e.looks)
+    builds_from c.from_residual.result c.from_residual.ensures.1 (builds_first e.looks (λ d. last_any (balanced_steps c.args.pool.now.start.geometry) (e.late d)))
 
 pub returns-in_err-far-clause-builds : goal.returns-in_err-far-clause-builds
 returns-in_err-far-clause-builds c =
-    let run = c.requires.working.run in
     let u = c.in_ok-near.ensures in
     let e = c.in_err-far.ensures in
-    builds_from c.from_residual-in_err-far.result c.from_residual-in_err-far.ensures.1 (builds_died run u.looks.went u.looks.latch e.looks)
+    let s = u.steps in
+    builds_from c.from_residual-in_err-far.result c.from_residual-in_err-far.ensures.1 (builds_died {a = 2} {b = 0} (omega arith) c.requires.working u.looks.went u.looks.latch (spent_call 2 u.looks.went (omega (arith, s))) e.looks e.late)
 
 -- what was read
 read : (c : In_ok-far) → Looked c.args.pool.now c.height-2.new.pool c.args.life.now.left c.height-2.new.life.left

@@ -1,11 +1,11 @@
 use Rattle.shm_tree.proofs.{Resting.rests_after, Sharings.{fresh_read, weighs_double}}
 use Rattle.shm_tree.proofs.Building.{Looked, at_hand_still, builds_after, builds_died, builds_first, builds_from, built_after, looked, looked_then, ok_kept, rooms_still, tree_still, went_on}
 use Rattle.shm_tree.proofs.Rotations.{child_at, content_is, node_of, node_other, parts}
-use Rattle.shm_tree.proofs.balance.double.Goals.{In_ok-outer}
+use Rattle.shm_tree.proofs.{balance.double.Goals.In_ok-outer, Lasts.last_more, Spendings.spent_call}
 use Rattle.shm_tree.proofs.balance.double.Goals as goal
 use Rattle.shm_tree.specs.{Sharing.{WeighsCrowned, WeighsTurnedTwice}, declared.node.Content.Content}
 use Rattle.shm_tree.specs.{Building.{rooms, StandsCrowned, StandsTurnedTwice}, Keeping.{node_by, other_side}}
-use Rattle.shm_tree.specs.{Standing.TreeStands, Trees.Tree, Bounds.crowned_steps}
+use Rattle.shm_tree.specs.{Standing.TreeStands, Trees.Tree, Bounds.{crowned_steps, turned_steps}}
 use Rattle.std.proofs.Common.{◌≡◌, ◌∙◌, lit≤, sym, ap, subst, arith}
 use Rattle.shm_count.specs.declared.answer.Made.{Made}
 
@@ -97,14 +97,14 @@ returns-clause-stands c =
 pub returns-in_err-top-clause-builds : goal.returns-in_err-top-clause-builds
 returns-in_err-top-clause-builds c =
     let e = c.in_err-top.ensures in
-    builds_from c.from_residual.result c.from_residual.ensures.1 (builds_first e.looks)
+    builds_from c.from_residual.result c.from_residual.ensures.1 (builds_first e.looks (λ d. last_more (turned_steps c.args.pool.now.start.geometry) (omega arith) (e.late d)))
 
 pub returns-in_err-parts-clause-builds : goal.returns-in_err-parts-clause-builds
 returns-in_err-parts-clause-builds c =
-    let run = c.requires.working.run in
     let t = c.in_ok-top.ensures in
     let e = c.in_err-parts.ensures in
-    builds_from c.from_residual-in_err-parts.result c.from_residual-in_err-parts.ensures.1 (builds_died run t.looks.went t.looks.latch e.looks)
+    let s = t.steps in
+    builds_from c.from_residual-in_err-parts.result c.from_residual-in_err-parts.ensures.1 (builds_died {a = 4} {b = 6} (omega arith) c.requires.working t.looks.went t.looks.latch (spent_call 4 t.looks.went (omega (arith, s))) e.looks e.late)
 
 pub returns-in_err-outer-clause-builds : goal.returns-in_err-outer-clause-builds
 returns-in_err-outer-clause-builds c =
@@ -112,7 +112,10 @@ returns-in_err-outer-clause-builds c =
     let t = c.in_ok-top.ensures in
     let u = c.in_ok-parts.ensures in
     let e = c.in_err-outer.ensures in
-    builds_from c.from_residual-in_err-outer.result c.from_residual-in_err-outer.ensures.1 (builds_died run (went_on run t.looks.went u.looks.went) (u.looks.latch ∙ t.looks.latch) e.looks)
+    let went = went_on run t.looks.went u.looks.went in
+    let s = t.steps in
+    let w = u.steps in
+    builds_from c.from_residual-in_err-outer.result c.from_residual-in_err-outer.ensures.1 (builds_died {a = 10} {b = 4} (omega arith) c.requires.working went (u.looks.latch ∙ t.looks.latch) (spent_call 10 went (omega (arith, s, w))) e.looks e.late)
 
 pub returns-clause-fresh : goal.returns-clause-fresh
 returns-clause-fresh c =

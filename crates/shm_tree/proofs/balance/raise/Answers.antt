@@ -1,12 +1,12 @@
 use Rattle.std.proofs.Common.{◌∙◌, lit≤, arith}
 use Rattle.shm_count.specs.declared.answer.Made.{Made}
-use Rattle.shm_tree.specs.{declared.node.Side.Side, Bounds.renewed_steps}
+use Rattle.shm_tree.specs.{declared.node.Side.Side, Bounds.{raise_steps, renewed_steps}}
 use Rattle.shm_tree.specs.{Building.{IsRebuilt, StandsOf, block_of, joined_by}, Keeping.{child_of, other_side}}
 use Rattle.shm_tree.specs.{Raising.{IsCheapAt, IsOverAt, StandsAgain, WeighsAgain}, Sharing.{IsOver, WeighsJoined}}
 use Rattle.shm_tree.proofs.Building.{alive_kept, alive_over, at_hand_still, builds_after, builds_first, builds_from, looked, ok_kept, rooms_still}
 use Rattle.shm_tree.proofs.{Resting.rests_after, Sharings.fresh_read}
 use Rattle.shm_tree.proofs.Raising.{again_up, cheap_up, over_up, rebuilt_after, some_held, weighs_up}
-use Rattle.shm_tree.proofs.Rotations.{child_tree, node_of}
+use Rattle.shm_tree.proofs.{Rotations.{child_tree, node_of}, Lasts.last_more}
 use Rattle.shm_tree.proofs.balance.raise.Goals as goal
 
 pub content_of-requires : goal.content_of-requires
@@ -30,7 +30,7 @@ renewed-requires c =
 pub returns-in_err-own-clause-builds : goal.returns-in_err-own-clause-builds
 returns-in_err-own-clause-builds c =
     let e = c.in_err-own.ensures in
-    builds_from c.from_residual.result c.from_residual.ensures.1 (builds_first e.looks)
+    builds_from c.from_residual.result c.from_residual.ensures.1 (builds_first e.looks (λ d. last_more (raise_steps c.args.pool.now.start.geometry) (omega arith) (e.late d)))
 
 pub returns : goal.returns
 returns c =

@@ -99,7 +99,7 @@ returns-in_err-drop_root-clause-builds c =
     let l = c.in_ok-lower.ensures in
     let e = c.in_err-drop_root.ensures in
     let cut = cut_then c.requires.working.run l.changes.went.run l.changes.went.start (built_cut (low (goal.at.returns-in_err-drop_root-clause-builds c).In_ok-lower)) (built_cut (high at)) in
-    builds_from c.from_residual-in_err-drop_root.result c.from_residual-in_err-drop_root.ensures.1 (builds_stuck _ c.requires.working (both at) cut e.went e.working e.latch e.still e.refused_steps e.cause e.died)
+    builds_from c.from_residual-in_err-drop_root.result c.from_residual-in_err-drop_root.ensures.1 (builds_stuck _ c.requires.working (both at) cut e.went e.working e.latch e.still e.refused_steps e.cause e.died e.late)
 
 pub returns-clause-fresh : goal.returns-clause-fresh
 returns-clause-fresh c =

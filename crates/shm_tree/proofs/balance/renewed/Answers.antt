@@ -1,9 +1,9 @@
 use Rattle.shm_tree.proofs.Resting.{rests_dropped, rests_still, rests_then}
 use Rattle.shm_tree.proofs.Sharings.{over_after, renewed_top, renewed_weighs, weighs_after}
 use Rattle.shm_tree.proofs.Building.{alive_over, alive_refused, at_hand_still, builds_after, builds_drop, builds_first, builds_from, builds_stuck, built_after, built_cut, cheap_after, cheap_then, looked, rebuilt_alone, rebuilt_over, rooms_still, tree_still, went_on, held_at_hand, rebuilt_stands}
-use Rattle.shm_tree.proofs.{Answering.alive_map, balance.renewed.Goals.In_ok-made}
+use Rattle.shm_tree.proofs.{Answering.alive_map, balance.renewed.Goals.In_ok-made, Lasts.last_any}
 use Rattle.shm_tree.proofs.balance.renewed.Goals as goal
-use Rattle.shm_tree.specs.Bounds.{balanced_steps}
+use Rattle.shm_tree.specs.Bounds.{balanced_steps, renewed_steps}
 use Rattle.shm_tree.specs.Building.{Builds, IsAtHand, IsCheap, IsHeld, StandsOf, joined_by, IsRebuilt, block_of}
 use Rattle.shm_tree.specs.{Keeping.{HasTree, IsStill, child_of, other_side}, Standing.TreeStands}
 use Rattle.shm_tree.specs.declared.node.{Pair.Pair, Side.Side}
@@ -28,7 +28,7 @@ balanced-requires c =
 pub returns-in_err-far-clause-builds : goal.returns-in_err-far-clause-builds
 returns-in_err-far-clause-builds c =
     let e = c.in_err-far.ensures in
-    builds_from c.from_residual.result c.from_residual.ensures.1 (builds_first e.looks)
+    builds_from c.from_residual.result c.from_residual.ensures.1 (builds_first e.looks (λ d. last_any (renewed_steps c.args.pool.now.start.geometry) (e.late d)))
 
 pub returns-in_err-made-clause-builds : goal.returns-in_err-made-clause-builds
 returns-in_err-made-clause-builds c =
@@ -106,7 +106,7 @@ returns-in_err-drop_root-in-Some-clause-builds c =
     let e = c.in_err-drop_root-in-Some.ensures in
     let run = c.requires.working.run in
     let built = built_after run u.looks.went.run u.looks.went.start u.looks.still m.built in
-    builds_from c.from_residual-in_err-drop_root-in-Some.result c.from_residual-in_err-drop_root-in-Some.ensures.1 (builds_stuck _ c.requires.working (before (goal.at.returns-in_err-drop_root-in-Some-clause-builds c).In_ok-made) (built_cut built) e.went e.working e.latch e.still e.refused_steps e.cause e.died)
+    builds_from c.from_residual-in_err-drop_root-in-Some.result c.from_residual-in_err-drop_root-in-Some.ensures.1 (builds_stuck _ c.requires.working (before (goal.at.returns-in_err-drop_root-in-Some-clause-builds c).In_ok-made) (built_cut built) e.went e.working e.latch e.still e.refused_steps e.cause e.died e.late)
 
 pub returns-in_err-far-clause-cheap : goal.returns-in_err-far-clause-cheap
 returns-in_err-far-clause-cheap c = let d = c.in_err-far.ensures.looks.died in alive_over (IsCheap (record { near = block_of c.args.tree; far = child_of c.args.pool.now c.args.node (other_side c.args.side) }) c.args.pool.now c.child.new.pool) c.from_residual.result c.from_residual.ensures.1 d.0

@@ -1,12 +1,12 @@
 use Rattle.shm_tree.proofs.{Resting.rests_after, Sharings.{fresh_read, weighs_once, weighs_twice}}
 use Rattle.shm_tree.proofs.Building.{Looked, at_hand_still, builds_after, builds_died, builds_first, builds_from, built_after, built_more, looked, looked_then, ok_kept, rooms_still, tree_still, went_on}
 use Rattle.shm_tree.proofs.Rotations.{child_kept, child_tree, node_of, rotated_once, rotated_twice, tall_some}
-use Rattle.shm_tree.proofs.balance.rotated.Goals.{In_ok-far}
+use Rattle.shm_tree.proofs.{balance.rotated.Goals.In_ok-far, Lasts.last_more, Spendings.spent_call}
 use Rattle.shm_tree.proofs.balance.rotated.Goals as goal
 use Rattle.shm_tree.specs.{Sharing.{WeighsFar, WeighsTurned, WeighsTurnedTwice}, declared.node.Side.Side}
 use Rattle.shm_tree.specs.Building.{IsAtHand, rooms, StandsOf, StandsTurned, StandsTurnedTwice, from_far}
 use Rattle.shm_tree.specs.{Keeping.{HasTree, child_of, other_side}, Standing.TreeStands, Trees.{Tree, height}}
-use Rattle.shm_tree.specs.{Working.IsReached, Bounds.turned_steps}
+use Rattle.shm_tree.specs.{Working.IsReached, Bounds.{rotated_steps, turned_steps}}
 use Rattle.std.proofs.Common.{◌≡◌, ℕ, ◌≢◌, ◌∙◌, lit≤, sym, subst, arith}
 use Rattle.shm_count.specs.declared.answer.Made.{Made}
 
@@ -33,14 +33,14 @@ height-requires-2 c =
 pub returns-in_err-grand-clause-builds : goal.returns-in_err-grand-clause-builds
 returns-in_err-grand-clause-builds c =
     let e = c.in_err-grand.ensures in
-    builds_from c.from_residual.result c.from_residual.ensures.1 (builds_first e.looks)
+    builds_from c.from_residual.result c.from_residual.ensures.1 (builds_first e.looks (λ d. last_more (rotated_steps c.args.pool.now.start.geometry) (omega arith) (e.late d)))
 
 pub returns-in_err-near-clause-builds : goal.returns-in_err-near-clause-builds
 returns-in_err-near-clause-builds c =
-    let run = c.requires.working.run in
     let t = c.in_ok-grand.ensures in
     let e = c.in_err-near.ensures in
-    builds_from c.from_residual-in_err-near.result c.from_residual-in_err-near.ensures.1 (builds_died run t.looks.went t.looks.latch e.looks)
+    let s = t.steps in
+    builds_from c.from_residual-in_err-near.result c.from_residual-in_err-near.ensures.1 (builds_died {a = 6} {b = 0} (omega arith) c.requires.working t.looks.went t.looks.latch (spent_call 6 t.looks.went (omega (arith, s))) e.looks e.late)
 
 pub returns-in_err-far-clause-builds : goal.returns-in_err-far-clause-builds
 returns-in_err-far-clause-builds c =
@@ -48,7 +48,10 @@ returns-in_err-far-clause-builds c =
     let t = c.in_ok-grand.ensures in
     let u = c.in_ok-near.ensures in
     let e = c.in_err-far.ensures in
-    builds_from c.from_residual-in_err-far.result c.from_residual-in_err-far.ensures.1 (builds_died run (went_on run t.looks.went u.looks.went) (u.looks.latch ∙ t.looks.latch) e.looks)
+    let went = went_on run t.looks.went u.looks.went in
+    let s = t.steps in
+    let w = u.steps in
+    builds_from c.from_residual-in_err-far.result c.from_residual-in_err-far.ensures.1 (builds_died {a = 8} {b = 0} (omega arith) c.requires.working went (u.looks.latch ∙ t.looks.latch) (spent_call 8 went (omega (arith, s, w))) e.looks e.late)
 
 -- ---- once the heights are told
 

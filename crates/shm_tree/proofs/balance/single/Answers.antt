@@ -1,10 +1,10 @@
 use Rattle.shm_tree.proofs.{Resting.rests_after, Sharings.{fresh_read, weighs_single}}
 use Rattle.shm_tree.proofs.Building.{at_hand_still, builds_after, builds_first, builds_from, built_after, looked, ok_kept, rooms_still}
-use Rattle.shm_tree.proofs.Rotations.{content_is, node_of, parts}
+use Rattle.shm_tree.proofs.{Rotations.{content_is, node_of, parts}, Lasts.last_more}
 use Rattle.shm_tree.proofs.balance.single.Goals as goal
 use Rattle.shm_tree.specs.{Sharing.{WeighsRaised, WeighsTurned}, declared.node.Content.Content}
 use Rattle.shm_tree.specs.{Building.{StandsRaised, StandsTurned}, Keeping.node_by, Standing.TreeStands}
-use Rattle.shm_tree.specs.Bounds.{raised_steps}
+use Rattle.shm_tree.specs.Bounds.{raised_steps, turned_steps}
 use Rattle.std.proofs.Common.{◌≡◌, ◌∙◌, lit≤, sym, subst, arith}
 use Rattle.shm_count.specs.declared.answer.Made.{Made}
 
@@ -52,7 +52,7 @@ returns-clause-stands c =
 pub returns-in_err-top-clause-builds : goal.returns-in_err-top-clause-builds
 returns-in_err-top-clause-builds c =
     let e = c.in_err-top.ensures in
-    builds_from c.from_residual.result c.from_residual.ensures.1 (builds_first e.looks)
+    builds_from c.from_residual.result c.from_residual.ensures.1 (builds_first e.looks (λ d. last_more (turned_steps c.args.pool.now.start.geometry) (omega arith) (e.late d)))
 
 pub returns-clause-fresh : goal.returns-clause-fresh
 returns-clause-fresh c =

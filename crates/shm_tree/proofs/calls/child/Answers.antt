@@ -10,7 +10,7 @@ use Rattle.shm_tree.specs.{Keeping.side_word, Falling.AreFalling}
 use Rattle.shm_tree.proofs.{Alive.went_alive, Answering.plan_answered, Counts.taken_by}
 use Rattle.shm_tree.proofs.Findings.{look_names, look_only, look_refused, look_still, look_works, read_reaches}
 use Rattle.shm_tree.proofs.{Anytime.always_falls, CutOffs.looks_dead}
-use Rattle.shm_tree.proofs.calls.child.Goals.{After-me, After-new-looking, After-run}
+use Rattle.shm_tree.proofs.{calls.child.Goals.{After-me, After-new-looking, After-run}, Lasts.last_ran}
 use Rattle.shm_tree.proofs.calls.child.Goals as goal
 
 -- references fall after it, whether it was answered or not
@@ -43,6 +43,7 @@ pub returns-in-None : goal.returns-in-None
 returns-in-None c =
     record {
       looks = looks_dead c.requires.working c.in-None.ensures.ran (falls (goal.at.returns-in-None c).After-run false c.in-None.ensures.ran);
+      late = λ d. last_ran c.requires.working c.in-None.ensures.ran;
       names = tt;
       reached = tt;
       steps = tt;
@@ -68,7 +69,8 @@ returns-in-Some-Ok c =
             reaches = read_reaches p q es on only;
             died = tt;
           };
+      late = tt;
       names = look_names p q es on b c.args.side tr v c.requires.node h;
       reached = h.reach;
-      steps = taken_by _ _ _ _ h.trail (c.in-Some-Ok.ensures.ran.spent refl refl);
+      steps = taken_by _ _ _ _ h.trail (c.in-Some-Ok.ensures.ran.spent (c.in-Some-Ok.ensures.ran.some refl) refl);
     }

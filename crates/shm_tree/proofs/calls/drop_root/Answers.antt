@@ -1,4 +1,4 @@
-use Rattle.shm_tree.specs.{declared.hints.Hints.TheVariants.Off, Keeping.IsStill}
+use Rattle.shm_tree.specs.{declared.hints.Hints.TheVariants.Off, Keeping.IsStill, Bounds.drop_steps, Spending.HasSpent}
 use Rattle.shm_tree.specs.{Working.{IsSameLatch, IsSpent, IsWorking, Reaches}, Falling.AreFalling}
 use Rattle.shm_tree.proofs.Alive.{went_alive, went_dead}
 use Rattle.shm_tree.proofs.Answering.{Answered, alive_died, cause_died, emptied_then, reaches_then, refused_died, within_before, plan_answered}
@@ -7,11 +7,12 @@ use Rattle.shm_tree.proofs.{Eras.{spent_stays, spent_went}, Links.{still_then, w
 use Rattle.shm_tree.proofs.{SureCalls.drop_most, Tearings.{done_torn, stopped_torn, torn_then}, Anytime.always_falls}
 use Rattle.shm_tree.proofs.{Harmless.drop_keeps, CutOffs.{begun_ran, died_ran, died_then, look_died}}
 use Rattle.shm_tree.proofs.calls.drop_root.Goals.{After-new-dropping, In-Some-Ok, In-Some-Err, After-run}
+use Rattle.shm_tree.proofs.Lasts.{last_any, last_more, last_ran, last_then, spent_late}
 use Rattle.shm_tree.proofs.calls.drop_root.Goals as goal
 use Rattle.std.proofs.Common.{◌≡◌, ◌≢◌, ℕ, ◌+◌, ◌≤◌, length, arith, refl, sym, ap, ◌∙◌, subst, inr, true, Bool, false}
 use Rattle.std.proofs.lemmas.Result.{err_from_is_err_and}
 use Rattle.std.specs.Prelude.{Ok, Err}
-use Rattle.shm_graph.specs.{declared.ask.Me.Me, Asks.IsWithin}
+use Rattle.shm_graph.specs.{declared.ask.Me.Me, Asks.IsWithin, Bounds.redo_steps}
 use Rattle.plans.specs.CallsControl.{calls_control, calls_of, calls_does}
 use Rattle.shm_plain.specs.{Calls.{Ran, TookSteps}, Pools.{Pool, memo_of}}
 use Rattle.shm_count.specs.{Roots.{member, root_word}, Tear.Events.frees}
@@ -50,6 +51,18 @@ latch c = let (es, on, h) = spent c in drop_latch c.args.pool.now c.run.new.self
 spent_era : (c : In-Some-Err) → IsSpent (memo_of c.run.new.self 0)
 spent_era c = let (es, on, h) = spent c in drop_spent c.args.pool.now c.run.new.self es on c.args.root c.in-Some-Err.spent h
 
+-- what the drop took that was refused
+stopped_spent : (c : In-Some-Err) → TookSteps (calls_control drop_parts drop_steered) 0 c.args.pool.now (calls_of drop_steered c.new-dropping.result) c.run.new.self → Ran 0 true true c.args.pool.now c.run.new.self c.args.life.now.left c.run.new.life.left → HasSpent (8 + redo_steps c.args.pool.now.start.geometry.wide) c.args.pool.now c.run.new.self c.args.life.now.left c.run.new.life.left
+stopped_spent c took ran =
+    let (es, on, h) = spent c in
+    record {
+      told = es;
+      did = on.did;
+      left = length h.0;
+      none = inr (spent_era c);
+      most = (let most = took_most (goal.at.In-Some-Err c).After-new-dropping _ c.run.new.self _ took ran h.1.bound in omega (arith, most));
+    }
+
 pub root_of-requires-clause-working : goal.root_of-requires-clause-working
 root_of-requires-clause-working c = working (goal.at.root_of-requires-clause-working c).In-Some-Err
 
@@ -68,6 +81,7 @@ returns-in-None c =
       spent = tt;
       cause = tt;
       died = died_ran _ c.in-None.ensures.ran;
+      late = λ d. last_any (drop_steps c.args.pool.now.start.geometry 0) (last_ran c.requires.working c.in-None.ensures.ran);
       begun = begun_ran _ c.in-None.ensures.ran;
     }
 
@@ -94,6 +108,7 @@ returns-in-Some-Ok c =
       spent = tt;
       cause = tt;
       died = tt;
+      late = tt;
       begun = tt;
     }
 
@@ -119,6 +134,7 @@ returns-in_err-tree-in-Some-Err c =
       spent = refused_died (Unit {0}) (IsSpent (memo_of q 0)) _ died.0;
       cause = cause_died Off p q _ died.0;
       died = died_then p m q _ _ (latch first) (look_died m q _ _ died);
+      late = λ e. last_more (drop_steps p.start.geometry 0) (omega arith) (last_then (λ g. 0) c.requires.working (went_alive true p m _ _ c.in-Some-Err.ensures.ran (c.in-Some-Err.ensures.at_work tt) (falls (goal.at.returns-in_err-tree-in-Some-Err c).After-run true c.in-Some-Err.ensures.ran)) (stopped_spent first c.in-Some-Err.ensures.took c.in-Some-Err.ensures.ran) (c.in_err-tree-in-Some-Err.ensures.late e));
       begun = λ e. inr (inr (spent_went m q (working first) c.in_err-tree-in-Some-Err.ensures.looks.went (spent_era first)));
     })
 
@@ -150,6 +166,7 @@ returns-then-tree-eq0 c =
       spent = tt;
       cause = tt;
       died = tt;
+      late = tt;
       begun = tt;
     }
 
@@ -181,5 +198,6 @@ returns-else-tree-eq0 c =
       spent = spent_stays m q (working first) asked.looks.working asked.looks.went (drop_spent p m es on k s h);
       cause = inr (inr (inr (k, within_before (λ r0 r tr xs. DropLeaves (dropping (member p.start.geometry 0) k) r0 r tr xs (Err s)) p m q es on h asked.looks.went.did)));
       died = spent_over s.era p q c.root_of.new.life.left;
+      late = spent_late s.era p q c.args.life.now.left;
       begun = λ e. absurd cc;
     }

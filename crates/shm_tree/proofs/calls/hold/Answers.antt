@@ -6,7 +6,7 @@ use Rattle.shm_count.specs.Roots.{member}
 use Rattle.shm_ref.specs.{declared.hold.HoldState.HoldState, Hold.{Control.{holding, hold_steered}, hold_plan}}
 use Rattle.shm_tree.proofs.{Alive.{went_alive, went_dead}, Answering.plan_answered, Counts.taken_by}
 use Rattle.shm_tree.proofs.{Latches.{held_latch, held_reaches, held_still, held_works, hold_free}, Anytime.always_falls}
-use Rattle.shm_tree.proofs.calls.hold.Goals.{After-run}
+use Rattle.shm_tree.proofs.{calls.hold.Goals.After-run, Lasts.last_ran}
 use Rattle.shm_tree.proofs.calls.hold.Goals as goal
 use Rattle.shm_tree.specs.Falling.{AreFalling}
 
@@ -32,6 +32,7 @@ returns-in-None c =
       reaches = tt;
       steps = tt;
       died = (refl, c.in-None.ensures.ran.died refl, c.in-None.ensures.ran.within refl);
+      late = λ d. last_ran c.requires.working c.in-None.ensures.ran;
     }
 
 pub returns-in-Some-Ok : goal.returns-in-Some-Ok
@@ -45,6 +46,7 @@ returns-in-Some-Ok c =
       latch = held_latch p q es on tt h;
       still = held_still p q es on tt h;
       reaches = held_reaches p q es on tt h;
-      steps = taken_by _ _ _ _ h.trail (c.in-Some-Ok.ensures.ran.spent refl refl);
+      steps = taken_by _ _ _ _ h.trail (c.in-Some-Ok.ensures.ran.spent (c.in-Some-Ok.ensures.ran.some refl) refl);
       died = tt;
+      late = tt;
     }

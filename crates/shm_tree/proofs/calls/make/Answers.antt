@@ -7,6 +7,7 @@ use Rattle.shm_count.specs.Roots.{member}
 use Rattle.shm_tree.proofs.Alive.{on_answer, went_alive}
 use Rattle.shm_tree.proofs.Makes.{full_over, make_cause, make_latch, make_made, make_reaches, make_room, make_within, make_works, refused_reaches, refused_still, spent_over}
 use Rattle.shm_tree.proofs.{Asking.asked_near, Harmless.alloc_falls, Unnamed.made_unnamed, CutOffs.changes_dead}
+use Rattle.shm_tree.proofs.Lasts.{full_late, spent_late}
 use Rattle.shm_tree.proofs.calls.make.Goals as goal
 
 pub unreachable-requires : goal.unreachable-requires
@@ -64,9 +65,10 @@ returns-in-Ok-Some-Ok c =
             latch = make_latch p q es on d h m asked (Ok a) y;
             reaches = make_reaches p q es on d h m asked a y refl low names others;
             refused = tt;
-            steps = make_within p q es on d h m asked _ _ (Ok a) y (ran.spent refl refl);
+            steps = make_within p q es on d h m asked _ _ (Ok a) y (ran.spent (ran.some refl) refl);
             cause = tt;
             died = tt;
+            late = tt;
           };
       made = make_made p q es on d h m asked a y refl low names others;
       unnamed = made_unnamed p q es on a (tt, tt) (make_made p q es on d h m asked a y refl low names others).born;
@@ -95,9 +97,10 @@ returns-in-Ok-Some-Err-Full c =
             latch = make_latch p q es on d h m asked (Err f) y;
             reaches = refused_reaches p q es on d h m asked f y;
             refused = refused_still p q es on d h m asked f y refl;
-            steps = make_within p q es on d h m asked _ _ (Err f) y (ran.spent refl refl);
+            steps = make_within p q es on d h m asked _ _ (Err f) y (ran.spent (ran.some refl) refl);
             cause = make_cause p q es on d h m asked c.args.hints f by y;
             died = full_over x.segments x.blocks p q c.allocate.new.life.left;
+            late = full_late x.segments x.blocks p q c.args.life.now.left;
           };
       made = tt;
       unnamed = tt;
@@ -126,9 +129,10 @@ returns-in-Ok-Some-Err-EraSpent c =
             latch = make_latch p q es on d h m asked (Err f) y;
             reaches = refused_reaches p q es on d h m asked f y;
             refused = refused_still p q es on d h m asked f y refl;
-            steps = make_within p q es on d h m asked _ _ (Err f) y (ran.spent refl refl);
+            steps = make_within p q es on d h m asked _ _ (Err f) y (ran.spent (ran.some refl) refl);
             cause = inl (make_cause p q es on d h m asked c.args.hints f by y);
             died = spent_over x.era p q c.allocate.new.life.left;
+            late = spent_late x.era p q c.args.life.now.left;
           };
       made = tt;
       unnamed = tt;

@@ -9,6 +9,7 @@ use Rattle.shm_client.proofs.{Reaching.reached_small, Running.plan_may}
 use Rattle.shm_tree.proofs.{Alive.went_alive, Answering.plan_answered, Counts.taken_by}
 use Rattle.shm_tree.proofs.Findings.{plain_is, plain_refused, plain_still, read_only, read_reaches, read_works}
 use Rattle.shm_tree.proofs.{Anytime.always_falls, CutOffs.looks_dead, calls.plain.Goals.{After-me, After-run}}
+use Rattle.shm_tree.proofs.Lasts.{last_ran}
 use Rattle.shm_tree.proofs.calls.plain.Goals as goal
 use Rattle.shm_tree.specs.Falling.{AreFalling}
 
@@ -38,6 +39,7 @@ pub returns-in-None : goal.returns-in-None
 returns-in-None c =
     record {
       looks = looks_dead c.requires.working c.in-None.ensures.ran (falls (goal.at.returns-in-None c).After-run false c.in-None.ensures.ran);
+      late = λ d. last_ran c.requires.working c.in-None.ensures.ran;
       is = tt;
       steps = tt;
     }
@@ -62,6 +64,7 @@ returns-in-Some-Ok c =
             reaches = read_reaches p q es on only;
             died = tt;
           };
+      late = tt;
       is = plain_is p q es on b i tr v c.requires.node c.requires.index h;
-      steps = taken_by _ _ _ _ h.trail (c.in-Some-Ok.ensures.ran.spent refl refl);
+      steps = taken_by _ _ _ _ h.trail (c.in-Some-Ok.ensures.ran.spent (c.in-Some-Ok.ensures.ran.some refl) refl);
     }

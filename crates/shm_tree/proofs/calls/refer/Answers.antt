@@ -125,6 +125,7 @@ returns-in-Some-Ok c =
             steps = took_few (goal.at.returns-in-Some-Ok c).After-new-setting q _ x.ensures.took x.ensures.ran (set_within p q es on b s to i n d node c.requires.empty tt h);
             cause = tt;
             died = tt;
+            late = tt;
           };
       refers = set_refers p q es on b s to i n d node c.requires.empty tt h;
       unnamed = unnamed (goal.at.returns-in-Some-Ok c).After-run x.ensures.ran;
@@ -153,6 +154,7 @@ returns-in-Some-Err-EraSpent c =
             steps = took_few (goal.at.returns-in-Some-Err-EraSpent c).After-new-setting q _ x.ensures.took x.ensures.ran (spent_within p q es on b s to i n d node c.requires.empty x.era h);
             cause = inr (inl (set_cause p q es on b s to i n d node c.requires.empty f h));
             died = λ e. absurd cc;
+            late = λ e. absurd cc;
           };
       refers = tt;
       unnamed = tt;
@@ -181,6 +183,7 @@ returns-in-Some-Err-CountFull c =
             steps = took_few (goal.at.returns-in-Some-Err-CountFull c).After-new-setting q _ x.ensures.took x.ensures.ran (full_within p q es on b s to i n d node c.requires.empty x.block x.count h);
             cause = inl (set_cause p q es on b s to i n d node c.requires.empty f h);
             died = λ e. absurd cc;
+            late = λ e. absurd cc;
           };
       refers = tt;
       unnamed = tt;

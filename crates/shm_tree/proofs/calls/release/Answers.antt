@@ -6,7 +6,7 @@ use Rattle.shm_ref.specs.{Proved.LatchTasks.ReleaseMay, Release.{release_plan, r
 use Rattle.shm_client.proofs.Running.{plan_may}
 use Rattle.shm_tree.proofs.{Alive.{went_alive, went_dead}, Answering.plan_answered, Counts.taken_by}
 use Rattle.shm_tree.proofs.{Latches.{released_still, released_works}, Anytime.always_falls, CutOffs.cut_ran}
-use Rattle.shm_tree.proofs.calls.release.Goals.{After-run}
+use Rattle.shm_tree.proofs.{calls.release.Goals.After-run, Lasts.last_ran}
 use Rattle.shm_tree.proofs.calls.release.Goals as goal
 use Rattle.shm_tree.specs.Falling.{AreFalling}
 
@@ -28,6 +28,7 @@ returns-in-None c =
       still = tt;
       steps = tt;
       died = (refl, c.in-None.ensures.ran.died refl, cut_ran c.in-None.ensures.ran);
+      late = λ d. last_ran c.requires.working c.in-None.ensures.ran;
     }
 
 pub returns-in-Some : goal.returns-in-Some
@@ -40,6 +41,7 @@ returns-in-Some c =
       working = released_works p q es on h;
       latch = h.latch;
       still = released_still p q es on h;
-      steps = taken_by _ _ _ _ h.trail (c.in-Some.ensures.ran.spent refl refl);
+      steps = taken_by _ _ _ _ h.trail (c.in-Some.ensures.ran.spent (c.in-Some.ensures.ran.some refl) refl);
       died = tt;
+      late = tt;
     }

@@ -5,7 +5,7 @@ use Rattle.plans.specs.{Words.word_control, CallsControl.{calls_control, calls_d
 use Rattle.shm_ref.specs.RootOf.{naming, naming_plan, naming_steered}
 use Rattle.shm_tree.proofs.{Alive.went_alive, Answering.plan_answered, Counts.taken_by, CutShort.unanswered}
 use Rattle.shm_tree.proofs.Latches.{named_latch, named_reached, named_reaches, named_still, named_works}
-use Rattle.shm_tree.proofs.{Anytime.always_falls, CutOffs.looks_dead, calls.root_of.Goals.After-run}
+use Rattle.shm_tree.proofs.{Anytime.always_falls, CutOffs.looks_dead, calls.root_of.Goals.After-run, Lasts.last_ran}
 use Rattle.shm_tree.proofs.calls.root_of.Goals as goal
 use Rattle.shm_tree.specs.Falling.{AreFalling}
 
@@ -17,6 +17,7 @@ pub returns-in-None : goal.returns-in-None
 returns-in-None c =
     record {
       looks = looks_dead c.requires.working c.in-None.ensures.ran (falls (goal.at.returns-in-None c).After-run false c.in-None.ensures.ran);
+      late = λ d. last_ran c.requires.working c.in-None.ensures.ran;
       names = tt;
       reached = tt;
       steps = tt;
@@ -41,9 +42,10 @@ returns-in-Some c =
             reaches = named_reaches p q es on k b h;
             died = tt;
           };
+      late = tt;
       names = h.names;
       reached = named_reached p q es on k b h c.requires.root;
-      steps = taken_by _ _ _ _ h.trail (c.in-Some.ensures.ran.spent refl refl);
+      steps = taken_by _ _ _ _ h.trail (c.in-Some.ensures.ran.spent (c.in-Some.ensures.ran.some refl) refl);
       quiet = subst (Did 0 p q) h.none on.did;
       begun = tt;
     }

@@ -70,6 +70,7 @@ returns-in-Some-Ok c =
             steps = share_within p q b _ _ es (Ok k) c.requires.working (refl, c.requires.working.client, c.requires.reached c.requires.some) (took (goal.at.returns-in-Some-Ok c).After-run x.ensures.took) x.ensures.ran h;
             cause = tt;
             died = tt;
+            late = tt;
           };
       block = refl;
       shared = share_shared p q es on b k h;
@@ -95,6 +96,7 @@ returns-in-Some-Err-EraSpent c =
             steps = share_within p q b _ _ es (Err f) c.requires.working (refl, c.requires.working.client, c.requires.reached c.requires.some) (took (goal.at.returns-in-Some-Err-EraSpent c).After-run x.ensures.took) x.ensures.ran h;
             cause = inr (inr (inl (share_cause p q es on b f h)));
             died = λ e. absurd cc;
+            late = λ e. absurd cc;
           };
       block = tt;
       shared = tt;
@@ -120,6 +122,7 @@ returns-in-Some-Err-CountFull c =
             steps = share_within p q b _ _ es (Err f) c.requires.working (refl, c.requires.working.client, c.requires.reached c.requires.some) (took (goal.at.returns-in-Some-Err-CountFull c).After-run x.ensures.took) x.ensures.ran h;
             cause = inr (share_cause p q es on b f h);
             died = λ e. absurd cc;
+            late = λ e. absurd cc;
           };
       block = tt;
       shared = tt;

@@ -1,8 +1,8 @@
-use Rattle.std.proofs.Common.{◌≡◌, ℕ, ◌≤◌, ◌∙◌, subst, arith}
+use Rattle.std.proofs.Common.{◌≡◌, ℕ, ◌+◌, ◌*◌, ◌≤◌, ◌∙◌, subst, arith}
 use Rattle.shm_tree.specs.{Standing.{TreeStands, weight}, Ways.down}
 use Rattle.shm_tree.proofs.Answering.{node_still, reached_then}
 use Rattle.shm_tree.proofs.Building.{looked, looked_none, looked_then, looks_after, looks_done, looks_from}
-use Rattle.shm_tree.proofs.{Descents.{level_light, level_stands}, Ways.some_node}
+use Rattle.shm_tree.proofs.{Descents.{level_light, level_stands}, Ways.some_node, Lasts.{last_after, late_from}}
 use Rattle.shm_tree.proofs.find.above.Goals as goal
 
 pub loop-level-init : goal.loop-level-init
@@ -55,6 +55,7 @@ returns c =
     let all : c.loop-level._level ≡ c.args.depth = omega arith in
     record {
       looks = looks_done _ r.passed;
+      late = tt;
       steps = let s = r.steps in omega (arith, s, all);
       stands = λ t st. subst (λ (i : ℕ). TreeStands c.loop-level.pool c.loop-level.node (down c.args.wanted t i)) all (r.stands t st);
       reached = r.reached;
@@ -71,3 +72,18 @@ returns-in_err-node-clause-looks c =
     let run = c.requires.working.run in
     let r = looked_then run c.loop-level.invariant.passed (looked c.in_ok-here.ensures.looks) in
     looks_from c.from_residual-in_err-node.result c.from_residual-in_err-node.ensures.1 (looks_after run r.went r.latch c.in_err-node.ensures.looks)
+
+pub returns-in_err-here-clause-late : goal.returns-in_err-here-clause-late
+returns-in_err-here-clause-late c =
+    let i = c.loop-level.invariant in
+    let s = i.steps in
+    late_from c.from_residual.result c.from_residual.ensures.1 (λ e. last_after (5 * c.loop-level._level) (5 * c.args.depth) (omega arith) c.requires.working i.passed.went (omega (arith, s)) (c.in_err-here.ensures.late e))
+
+pub returns-in_err-node-clause-late : goal.returns-in_err-node-clause-late
+returns-in_err-node-clause-late c =
+    let i = c.loop-level.invariant in
+    let a = c.in_ok-here.ensures in
+    let r = looked_then c.requires.working.run i.passed (looked a.looks) in
+    let s = i.steps in
+    let u = a.steps in
+    late_from c.from_residual-in_err-node.result c.from_residual-in_err-node.ensures.1 (λ e. last_after (5 * c.loop-level._level + 2) (5 * c.args.depth) (omega arith) c.requires.working r.went (omega (arith, s, u)) (c.in_err-node.ensures.late e))

@@ -1,9 +1,10 @@
-use Rattle.std.proofs.{Common.{ℕ, ◌∙◌, inl, inr, sym, subst, arith}, lemmas.Bool.cases_eq}
-use Rattle.shm_tree.specs.{Standing.TreeStands, Trees.Tree, Ways.{IsOther, IsSome, down}}
+use Rattle.std.proofs.{Common.{ℕ, ◌+◌, ◌*◌, ◌∙◌, inl, inr, sym, subst, arith}, lemmas.Bool.cases_eq}
+use Rattle.shm_tree.specs.{Standing.TreeStands, Trees.{Tree, height}, Ways.{IsOther, IsSome, down}}
 use Rattle.shm_tree.proofs.Answering.{node_still, reached_then}
 use Rattle.shm_tree.proofs.Building.{looked, looked_none, looked_then, looks_after, looks_done, looks_from}
 use Rattle.shm_tree.proofs.Descents.{level_light, level_lower, level_stands, none_end, others_deep, way_low}
-use Rattle.shm_tree.proofs.{Ways.{key_end, key_other, stands_node}, Weights.weight_nodes}
+use Rattle.shm_tree.proofs.{Ways.{down_lower, key_end, key_other, stands_node}, Weights.weight_nodes}
+use Rattle.shm_tree.proofs.Lasts.{last_after, late_from}
 use Rattle.shm_tree.proofs.find.find.Goals as goal
 
 pub loop-node-init : goal.loop-node-init
@@ -100,6 +101,7 @@ returns c =
     let t = c.requires.tree.0 in
     record {
       looks = looks_done _ r.passed;
+      late = λ t st. tt;
       steps = let s = r.steps in omega (arith, s);
       place = λ u su. record { stands = r.stands u su; end = none_end p c.loop-node.node x (down x u d) (r.stands u su) (omega arith); on = r.on u su };
       low = way_low c.args.pool.now c.args.tree x d t.0 c.requires.working t.1 (others_deep x d t.0 (r.on t.0 t.1));
@@ -119,6 +121,7 @@ returns-then-here-from c =
     let read = looked_then run r.passed (looked a.looks) in
     record {
       looks = looks_done _ read;
+      late = λ t st. tt;
       steps = let s = r.steps in let u = a.steps in omega (arith, s, u);
       place =
           λ u su. record {
@@ -145,3 +148,26 @@ returns-in_err-node-clause-looks c =
     let run = c.requires.working.run in
     let r = looked_then run c.loop-node.invariant.passed (looked c.in_ok-here.ensures.looks) in
     looks_from c.from_residual-in_err-node.result c.from_residual-in_err-node.ensures.1 (looks_after run r.went r.latch c.in_err-node.ensures.looks)
+
+pub returns-in_err-here-clause-late : goal.returns-in_err-here-clause-late
+returns-in_err-here-clause-late c =
+    let i = c.loop-node.invariant in
+    let s = i.steps in
+    let x = c.args.wanted in
+    let d = c.loop-node.depth in
+    λ t st.
+    let low = down_lower x t d (others_deep x d t (i.on t st)) in
+    late_from c.from_residual.result c.from_residual.ensures.1 (λ e. last_after (5 * d) (5 * height t + 2) (omega (arith, low)) c.requires.working i.passed.went (omega (arith, s)) (c.in_err-here.ensures.late e))
+
+pub returns-in_err-node-clause-late : goal.returns-in_err-node-clause-late
+returns-in_err-node-clause-late c =
+    let i = c.loop-node.invariant in
+    let a = c.in_ok-here.ensures in
+    let r = looked_then c.requires.working.run i.passed (looked a.looks) in
+    let s = i.steps in
+    let u = a.steps in
+    let x = c.args.wanted in
+    let d = c.loop-node.depth in
+    λ t st.
+    let low = down_lower x t d (others_deep x d t (i.on t st)) in
+    late_from c.from_residual-in_err-node.result c.from_residual-in_err-node.ensures.1 (λ e. last_after (5 * d + 2) (5 * height t + 2) (omega (arith, low)) c.requires.working r.went (omega (arith, s, u)) (c.in_err-node.ensures.late e))

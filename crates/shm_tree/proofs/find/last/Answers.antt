@@ -1,8 +1,9 @@
-use Rattle.std.proofs.{Common.{◌≡◌, ℕ, suc, ◌+◌, ◌-◌, ◌∙◌, inl, inr, sym, subst, arith}, lemmas.Bool.cases_eq}
-use Rattle.shm_tree.specs.{Standing.TreeStands, Trees.Tree, Ways.{IsSome, down, toward}}
+use Rattle.std.proofs.{Common.{◌≡◌, ℕ, suc, ◌+◌, ◌*◌, ◌-◌, ◌∙◌, inl, inr, sym, subst, arith}, lemmas.Bool.cases_eq}
+use Rattle.shm_tree.specs.{Standing.TreeStands, Trees.{Tree, height}, Ways.{IsSome, down, toward}}
 use Rattle.shm_tree.proofs.{Answering.reached_then, Building.{looked, looked_then, looks_after, looks_done, looks_from}}
 use Rattle.shm_tree.proofs.{Descents.way_low, Levels.behind, Onward.{left_child, right_child, some_end}}
-use Rattle.shm_tree.proofs.Ways.{height_at_is, stands_node, stands_none, toward_lower}
+use Rattle.shm_tree.proofs.Ways.{down_lower, height_at_is, stands_node, stands_none, toward_lower}
+use Rattle.shm_tree.proofs.Lasts.{last_after, last_any, late_from}
 use Rattle.shm_tree.proofs.find.last.Goals as goal
 
 pub child-requires : goal.child-requires
@@ -104,6 +105,7 @@ returns c =
     let q = c.loop-next.pool in
     record {
       looks = looks_done _ r.passed;
+      late = λ t st se. tt;
       steps = r.steps;
       below = r.below;
       last = λ x t st se en. record { stands = r.stands x t st se en; deep = r.deep x t st se en; end = stands_none q c.loop-next.next _ (r.next x t st se en) (omega arith) };
@@ -117,3 +119,16 @@ pub returns-in_err-next-2-clause-looks : goal.returns-in_err-next-2-clause-looks
 returns-in_err-next-2-clause-looks c =
     let r = c.loop-next.invariant.passed in
     looks_from c.from_residual-in_err-next-2.result c.from_residual-in_err-next-2.ensures.1 (looks_after c.requires.working.run r.went r.latch c.in_err-next-2.ensures.looks)
+
+pub returns-in_err-next-clause-late : goal.returns-in_err-next-clause-late
+returns-in_err-next-clause-late c = λ t st se. late_from c.from_residual.result c.from_residual.ensures.1 (λ e. last_any (3 * height t) (c.in_err-next.ensures.late e))
+
+pub returns-in_err-next-2-clause-late : goal.returns-in_err-next-2-clause-late
+returns-in_err-next-2-clause-late c =
+    let r = c.loop-next.invariant in
+    let s = r.steps in
+    let j : ℕ = c.loop-next.lowest.depth - c.args.place.depth in
+    λ t st se.
+    let x = some_end t in
+    let low = down_lower x.0 t (suc j) (r.deep x.0 t st se x.1) in
+    late_from c.from_residual-in_err-next-2.result c.from_residual-in_err-next-2.ensures.1 (λ e. last_after (3 * (j + 1)) (3 * height t) (omega (arith, low)) c.requires.working r.passed.went (omega (arith, s)) (c.in_err-next-2.ensures.late e))

@@ -1,7 +1,7 @@
-use Rattle.std.proofs.Common.{◌∙◌, sym, arith, ◌≤◌}
+use Rattle.std.proofs.Common.{◌+◌, ◌*◌, ◌∙◌, sym, arith, ◌≤◌}
 use Rattle.shm_tree.proofs.{Building.{looked, looked_then, looks_after, looks_done, looks_from}, Descents.others_deep}
 use Rattle.shm_tree.proofs.Ways.{down_lower, down_found, end_none, end_some, stands_node}
-use Rattle.shm_tree.proofs.find.number_at.Goals.{In_ok-place}
+use Rattle.shm_tree.proofs.{find.number_at.Goals.In_ok-place, Lasts.{last_after, last_more, late_from}}
 use Rattle.shm_tree.proofs.find.number_at.Goals as goal
 use Rattle.shm_tree.specs.{Standing.TreeStands, Trees.{Tree, height}}
 
@@ -27,6 +27,7 @@ returns-then-place-eq0 c =
     let x = c.args.wanted in
     record {
       looks = looks_done _ (looked f.looks);
+      late = λ t st. tt;
       steps = λ t st. (let d = depth_high (goal.at.returns-then-place-eq0 c).In_ok-place t st in let s = f.steps in omega (arith, d, s));
       is = λ t st. (let w = f.place t st in end_none c.find.new.pool c.in_ok-place.place.node x _ w.stands (omega arith) ∙ sym (down_found x t c.in_ok-place.place.depth w.on));
     }
@@ -40,6 +41,7 @@ returns-in_ok-number c =
     let read = looked_then run (looked f.looks) (looked n.looks) in
     record {
       looks = looks_done _ read;
+      late = λ t st. tt;
       steps = λ t st. (let d = depth_high (goal.at.returns-in_ok-number c).In_ok-place t st in let s = f.steps in let u = n.steps in omega (arith, d, s, u));
       is = λ t st. (let w = f.place t st in end_some c.find.new.pool c.in_ok-place.place.node x c.in_ok-number.number _ w.stands w.end (omega arith) n.is ∙ sym (down_found x t c.in_ok-place.place.depth w.on));
     }
@@ -51,3 +53,15 @@ pub returns-in_err-number-clause-looks : goal.returns-in_err-number-clause-looks
 returns-in_err-number-clause-looks c =
     let f = c.in_ok-place.ensures.looks in
     looks_from c.from_residual-in_err-number.result c.from_residual-in_err-number.ensures.1 (looks_after c.requires.working.run f.went f.latch c.in_err-number.ensures.looks)
+
+pub returns-in_err-place-clause-late : goal.returns-in_err-place-clause-late
+returns-in_err-place-clause-late c = λ t st. late_from c.from_residual.result c.from_residual.ensures.1 (λ e. last_more (5 * height t + 4) (omega arith) (c.in_err-place.ensures.late t st e))
+
+pub returns-in_err-number-clause-late : goal.returns-in_err-number-clause-late
+returns-in_err-number-clause-late c =
+    let f = c.in_ok-place.ensures in
+    let s = f.steps in
+    let n = c.in_ok-place.place.depth in
+    λ t st.
+    let d = depth_high (goal.at.returns-in_err-number-clause-late c).In_ok-place t st in
+    late_from c.from_residual-in_err-number.result c.from_residual-in_err-number.ensures.1 (λ e. last_after (5 * n + 2) (5 * height t + 4) (omega (arith, d)) c.requires.working f.looks.went (omega (arith, s)) (c.in_err-number.ensures.late e))

@@ -7,7 +7,8 @@ use Rattle.shm_tree.proofs.{Costs.{away, cost, cost_down, cost_end, cost_level, 
 use Rattle.shm_tree.proofs.Raising.{held_kept}
 use Rattle.shm_tree.proofs.Inserting.{built_held, built_up, level_made, level_up, registered_at_hand, registered_kept}
 use Rattle.shm_tree.proofs.{Nodes.made_then, Ways.{down_lower, other_block, stands_one, tree_is}}
-use Rattle.shm_tree.proofs.Spendings.{climbed_low, climbed_more, climbed_none, first_most, level_most, spent_call, spent_then}
+use Rattle.shm_tree.proofs.Spendings.{climbed_low, climbed_more, climbed_none, first_most, level_most, spent_call, spent_then, front_most}
+use Rattle.shm_tree.proofs.Lasts.{last_more}
 use Rattle.shm_tree.proofs.insert.insert.Goals as goal
 use Rattle.shm_tree.specs.{Building.IsCut, declared.node.Side.Side, Inserting.outside, Raising.IsCheapAt}
 use Rattle.shm_tree.specs.{Sharing.CountsTop, Keeping.HasMade, Standing.{TreeStands, weight}}
@@ -214,7 +215,8 @@ returns c =
 pub returns-in_err-place-clause-builds : goal.returns-in_err-place-clause-builds
 returns-in_err-place-clause-builds c =
     let e = c.in_err-place.ensures in
-    λ t st. builds_from c.from_residual.result c.from_residual.ensures.1 (builds_first e.looks)
+    let g = c.args.pool.now.start.geometry in
+    λ t st. builds_from c.from_residual.result c.from_residual.ensures.1 (builds_first e.looks (λ d. last_more (insert_steps (height t) g) (front_most (5 * height t) 2 2 (lowest_steps g) (height t * (5 * height t + raise_steps g)) (omega arith)) (e.late t st d)))
 
 pub returns-in_err-made-clause-builds : goal.returns-in_err-made-clause-builds
 returns-in_err-made-clause-builds c =
@@ -232,10 +234,18 @@ returns-in_err-made-clause-builds c =
 
 pub returns-in_err-node-clause-builds : goal.returns-in_err-node-clause-builds
 returns-in_err-node-clause-builds c =
-    let run = c.requires.working.run in
     let r = c.levels.invariant in
     let e = c.in_err-node.ensures in
-    λ t st. builds_from c.from_residual-in_err-node.result c.from_residual-in_err-node.ensures.1 (builds_died run r.went r.latch e.looks)
+    let x = c.args.wanted in
+    let n = c.in_ok-place.place.depth in
+    let d = c.levels.depth - 1 in
+    let low = r.low in
+    let same : c.levels.depth ≡ suc d = omega arith in
+    let g = c.args.pool.now.start.geometry in
+    λ t st.
+    let up = down_lower x t n (others_deep x n t (r.on t st)) in
+    let levels = level_most (2 + lowest_steps g) (raise_steps g) (n - c.levels.depth) d n (height t) (omega (arith, low, same)) (omega (arith, low, same)) (omega (arith, up)) in
+    builds_from c.from_residual-in_err-node.result c.from_residual-in_err-node.ensures.1 (builds_died {a = climb_steps (n - c.levels.depth) n g} {b = 5 * d} (omega (arith, levels)) c.requires.working r.went r.latch r.spent e.looks e.late)
 
 pub returns-in_err-made-2-clause-builds : goal.returns-in_err-made-2-clause-builds
 returns-in_err-made-2-clause-builds c =
@@ -274,4 +284,4 @@ returns-in_err-made-2-clause-builds c =
     let levels = level_most (2 + lowest_steps geo) (raise_steps geo) (n - c.levels.depth) d n (height t) (omega (arith, low, same)) (omega (arith, low, same)) (omega (arith, up)) in
     builds_from c.from_residual-in_err-made-2.result c.from_residual-in_err-made-2.ensures.1
     (builds_cut Made j raise_steps {T = Made} {n = i + 0} {k = height t + 3} {a = climb_steps (n - c.levels.depth) n geo + 5 * d} _ (omega (arith, is, most, few)) (omega (arith, levels)) c.requires.working (went_on run r.went a.looks.went) (a.looks.latch ∙ r.latch) cut (spent_then (λ u. 5 * d) c.requires.working r.went a.looks.went r.spent (spent_call (5 * d) a.looks.went (omega (arith, s))))
-    (record { went = e.builds.went; working = e.builds.working; latch = e.builds.latch; refused = refused_with Made (IsCut 3 w v) (IsCheapAt x c.in_ok-node.node c.levels.made.block w v) (IsCut j w v) _ (λ k one. cut_made j k (level_made x y c.in_ok-node.node c.levels.made.block (down x t d) o here under k.made one)) e.builds.refused e.cheap; spent = e.builds.spent; cause = e.builds.cause; died = e.builds.died }))
+    (record { went = e.builds.went; working = e.builds.working; latch = e.builds.latch; refused = refused_with Made (IsCut 3 w v) (IsCheapAt x c.in_ok-node.node c.levels.made.block w v) (IsCut j w v) _ (λ k one. cut_made j k (level_made x y c.in_ok-node.node c.levels.made.block (down x t d) o here under k.made one)) e.builds.refused e.cheap; spent = e.builds.spent; cause = e.builds.cause; died = e.builds.died; late = e.builds.late }))

@@ -1,10 +1,11 @@
 use Rattle.shm_tree.proofs.{Resting.rests_link, Weights.{weigh_link, weight_nodes}}
 use Rattle.shm_tree.proofs.Building.{born_built, builds_after, builds_first, builds_from, builds_link, built_after, linked_some, looked, ok_kept, rooms_some, rooms_still}
-use Rattle.shm_tree.proofs.Inserting.{inserted_low}
+use Rattle.shm_tree.proofs.{Inserting.inserted_low, Lasts.last_more}
 use Rattle.shm_tree.proofs.insert.lowest.Goals as goal
 use Rattle.shm_tree.specs.{Sharing.IsFresh, declared.node.Side.TheVariants.Left, Building.IsBuilt}
 use Rattle.shm_tree.specs.{Inserting.{StandsLowest, WeighsLowest, left_of, right_of}, Keeping.{HasTree, IsLinked}}
-use Rattle.shm_tree.specs.{Standing.{TreeStands, weight}, Trees.{Tree, Node, inserted}, Bounds.link_steps}
+use Rattle.shm_tree.specs.{Standing.{TreeStands, weight}, Trees.{Tree, Node, inserted}}
+use Rattle.shm_tree.specs.Bounds.{link_steps, lowest_steps}
 use Rattle.std.proofs.Common.{◌≡◌, ◌∙◌, lit≤, sym, ap, subst, arith}
 use Rattle.shm_count.specs.declared.answer.Made.{Made}
 
@@ -29,7 +30,7 @@ link-requires c =
 pub returns-in_err-trees-clause-builds : goal.returns-in_err-trees-clause-builds
 returns-in_err-trees-clause-builds c =
     let e = c.in_err-trees.ensures in
-    builds_from c.from_residual.result c.from_residual.ensures.1 (builds_first e.looks)
+    builds_from c.from_residual.result c.from_residual.ensures.1 (builds_first e.looks (λ d. last_more (lowest_steps c.args.pool.now.start.geometry) (omega arith) (e.late d)))
 
 pub returns : goal.returns
 returns c =

@@ -13,6 +13,7 @@ returns-then-node-eq0 c =
     let n = looked_none p c.args.life.now.left c.requires.working in
     record {
       looks = looks_done _ n;
+      late = tt;
       steps = omega arith;
       near = λ t s. (no_trees p c.args.node t (omega arith) s).0;
       far = λ t s. (no_trees p c.args.node t (omega arith) s).1;
@@ -34,6 +35,7 @@ returns-else-node-eq0 c =
     let u = c.children.ensures in
     record {
       looks = u.looks;
+      late = u.late;
       steps = taken_most 6 c.args.life.now.left c.children.new.life.left c.children.result u.steps;
       near = ok_kept {T = Pair} {P = λ w. w.near ≡ child_of p c.args.node Left} {Q = λ w. (t : Tree) → TreeStands p c.args.node t → TreeStands p w.near (left_of t)} _ (λ w e t s. subst (λ k. TreeStands p k (left_of t)) (sym e) (node_trees p c.args.node t (omega arith) s).0) u.near;
       far = ok_kept {T = Pair} {P = λ w. w.far ≡ child_of p c.args.node Right} {Q = λ w. (t : Tree) → TreeStands p c.args.node t → TreeStands p w.far (right_of t)} _ (λ w e t s. subst (λ k. TreeStands p k (right_of t)) (sym e) (node_trees p c.args.node t (omega arith) s).1) u.far;

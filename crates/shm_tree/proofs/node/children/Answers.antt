@@ -1,7 +1,8 @@
-use Rattle.std.proofs.Common.{ap, ◌∙◌}
+use Rattle.std.proofs.Common.{ap, ◌∙◌, arith}
 use Rattle.shm_tree.specs.Keeping.{child_of, other_side}
 use Rattle.shm_tree.proofs.Answering.{child_still, node_still, reached_then}
 use Rattle.shm_tree.proofs.Building.{looked, looked_then, looks_after, looks_done, looks_from}
+use Rattle.shm_tree.proofs.Lasts.{last_after, last_any, late_from}
 use Rattle.shm_tree.proofs.node.children.Goals as goal
 
 pub child-requires-2-clause-latch : goal.child-requires-2-clause-latch
@@ -32,3 +33,11 @@ returns-clause-far c =
 
 pub returns-clause-near_reached : goal.returns-clause-near_reached
 returns-clause-near_reached c = reached_then c.child.new.pool c.child-2.new.pool c.in_ok-near.near c.in_ok-near.ensures.reached c.in_ok-far.ensures.looks.reaches
+
+pub returns-in_err-near-clause-late : goal.returns-in_err-near-clause-late
+returns-in_err-near-clause-late c = late_from c.from_residual.result c.from_residual.ensures.1 (λ e. last_any 6 (c.in_err-near.ensures.late e))
+
+pub returns-in_err-far-clause-late : goal.returns-in_err-far-clause-late
+returns-in_err-far-clause-late c =
+    let s = c.in_ok-near.ensures.steps in
+    late_from c.from_residual-in_err-far.result c.from_residual-in_err-far.ensures.1 (λ e. last_after 3 6 (omega arith) c.requires.working c.in_ok-near.ensures.looks.went (omega (arith, s)) (c.in_err-far.ensures.late e))

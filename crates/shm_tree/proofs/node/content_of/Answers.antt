@@ -1,6 +1,7 @@
-use Rattle.std.proofs.Common.{◌∙◌}
+use Rattle.std.proofs.Common.{◌∙◌, arith}
 use Rattle.shm_tree.proofs.Answering.{node_still, number_still, reached_then}
 use Rattle.shm_tree.proofs.Building.{looked, looked_then, looks_after, looks_done, looks_from}
+use Rattle.shm_tree.proofs.Lasts.{last_after, last_any, late_from}
 use Rattle.shm_tree.proofs.node.content_of.Goals as goal
 
 pub number-requires-clause-node : goal.number-requires-clause-node
@@ -22,3 +23,11 @@ returns-clause-looks c = looks_done _ (looked_then c.requires.working.run (looke
 
 pub returns-clause-number : goal.returns-clause-number
 returns-clause-number c = c.in_ok-number.ensures.is ∙ number_still c.args.pool.now c.key.new.pool c.args.node c.in_ok-key.ensures.looks.still c.requires.node
+
+pub returns-in_err-key-clause-late : goal.returns-in_err-key-clause-late
+returns-in_err-key-clause-late c = late_from c.from_residual.result c.from_residual.ensures.1 (λ e. last_any 4 (c.in_err-key.ensures.late e))
+
+pub returns-in_err-number-clause-late : goal.returns-in_err-number-clause-late
+returns-in_err-number-clause-late c =
+    let s = c.in_ok-key.ensures.steps in
+    late_from c.from_residual-in_err-number.result c.from_residual-in_err-number.ensures.1 (λ e. last_after 2 4 (omega arith) c.requires.working c.in_ok-key.ensures.looks.went (omega (arith, s)) (c.in_err-number.ensures.late e))

@@ -2,7 +2,7 @@ use Rattle.std.proofs.Common.{◌≡◌, ◌≢◌, ℕ, ◌+◌, max, ap, ◌�
 use Rattle.shm_plain.specs.Pools.{Pool}
 use Rattle.shm_count.specs.declared.answer.Made.{Made}
 use Rattle.shm_tree.specs.declared.node.{Content.Content, Side.{Side, TheVariants.{Left, Right}}}
-use Rattle.shm_tree.specs.Bounds.{make_steps, refer_steps}
+use Rattle.shm_tree.specs.Bounds.{link_steps, make_steps, refer_steps}
 use Rattle.shm_tree.specs.Keeping.{HasGrown, HasTree, IsBorn, IsMade, IsReferring, child_of, other_side}
 use Rattle.shm_tree.specs.{Standing.TreeStands, Trees.{Tree, height}}
 use Rattle.shm_tree.proofs.Answering.{reached_then, room_still, tree_still}
@@ -10,6 +10,7 @@ use Rattle.shm_tree.proofs.Building.{Looked, looked, looked_then, looks_after}
 use Rattle.shm_tree.proofs.Changing.{Changed, changed_looked, changed_then, changes_by, changes_cut, changes_done, changes_first, changes_from}
 use Rattle.shm_tree.proofs.Links.{born_grown, born_refers, born_still, heights_fit, linked_of, still_born, still_grown, still_then}
 use Rattle.shm_tree.proofs.{Unnamed.tree_other, node.link.Goals.{In_ok-near, In_ok-far, In_ok-made, In_ok-refer}}
+use Rattle.shm_tree.proofs.Lasts.{last_after, last_any}
 use Rattle.shm_tree.proofs.node.link.Goals as goal
 
 -- ---- before the node is made
@@ -127,12 +128,13 @@ refer-requires-2-clause-reached c = reached_then c.args.pool.now c.refer.new.poo
 -- ---- where it stopped
 
 pub returns-in_err-near-clause-changes : goal.returns-in_err-near-clause-changes
-returns-in_err-near-clause-changes c = changes_from c.from_residual.result c.from_residual.ensures.1 (changes_first c.in_err-near.ensures.looks)
+returns-in_err-near-clause-changes c = changes_from c.from_residual.result c.from_residual.ensures.1 (changes_first c.in_err-near.ensures.looks (λ e. last_any (link_steps c.args.pool.now.start.geometry) (c.in_err-near.ensures.late e)))
 
 pub returns-in_err-far-clause-changes : goal.returns-in_err-far-clause-changes
 returns-in_err-far-clause-changes c =
     let l = c.in_ok-near.ensures.looks in
-    changes_from c.from_residual-in_err-far.result c.from_residual-in_err-far.ensures.1 (changes_first (looks_after c.requires.working.run l.went l.latch c.in_err-far.ensures.looks))
+    let s = c.in_ok-near.ensures.steps in
+    changes_from c.from_residual-in_err-far.result c.from_residual-in_err-far.ensures.1 (changes_first (looks_after c.requires.working.run l.went l.latch c.in_err-far.ensures.looks) (λ e. last_after 2 (link_steps c.args.pool.now.start.geometry) (omega arith) c.requires.working l.went (omega (arith, s)) (c.in_err-far.ensures.late e)))
 
 pub returns-in_err-made-clause-changes : goal.returns-in_err-made-clause-changes
 returns-in_err-made-clause-changes c =

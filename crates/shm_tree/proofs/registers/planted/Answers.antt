@@ -1,14 +1,15 @@
 use Rattle.std.proofs.Common.{◌+◌, arith}
 use Rattle.std.specs.Prelude.{IfOk, Result}
 use Rattle.shm_count.specs.declared.answer.Made.{Made}
-use Rattle.shm_tree.specs.{declared.stop.Stop.Stop, Bounds.insert_steps, Building.{Builds, IsBuilt}, Costing.MakesFew}
-use Rattle.shm_tree.specs.{Living.KeepsLives, Standing.TreeStands, Trees.{Tree, height, inserted}}
+use Rattle.shm_tree.specs.{declared.stop.Stop.Stop, Bounds.insert_steps, Building.{Builds, IsBuilt}}
+use Rattle.shm_tree.specs.{Costing.{MakesFew, planted_steps}, Living.KeepsLives, Standing.TreeStands}
+use Rattle.shm_tree.specs.Trees.{Tree, height, inserted}
 use Rattle.shm_tree.proofs.Building.{looked, built_cut, ok_kept, rooms_still, went_on}
 use Rattle.shm_tree.proofs.Costing.{costs_still, few_between}
 use Rattle.shm_tree.proofs.Forests.{calls_died, calls_from, named_cut, planted_rooted, quiet}
 use Rattle.shm_tree.proofs.{Moving.{planted_tree, registered}, Refusals.handed_over}
-use Rattle.shm_tree.proofs.Releasing.{Entered, entered, entered_stands, held_on, released_calls, released_costs, released_off, released_ok, released_refused, released_spends}
-use Rattle.shm_tree.proofs.registers.planted.Goals.{In_ok-tree}
+use Rattle.shm_tree.proofs.Releasing.{Entered, entered, entered_stands, held_on, released_calls, released_costs, released_late, released_off, released_ok, released_refused, released_spends}
+use Rattle.shm_tree.proofs.{registers.planted.Goals.In_ok-tree, Lasts.{last_after, last_any, late_from}}
 use Rattle.shm_tree.proofs.registers.planted.Goals as goal
 
 -- what the calls left before the tree was built
@@ -42,6 +43,15 @@ returns-in_err-hold-clause-refused c = handed_over _ c.from_residual.result c.fr
 pub returns-in_err-tree-clause-refused : goal.returns-in_err-tree-clause-refused
 returns-in_err-tree-clause-refused c = handed_over _ c.from_residual-in_err-tree.result c.from_residual-in_err-tree.ensures.1 c.in_err-tree.ensures.looks.died.0
 
+pub returns-in_err-hold-clause-late : goal.returns-in_err-hold-clause-late
+returns-in_err-hold-clause-late c = λ t w. late_from c.from_residual.result c.from_residual.ensures.1 (λ e. last_any (planted_steps (height t) c.args.pool.now.start.geometry) (c.in_err-hold.ensures.late e))
+
+pub returns-in_err-tree-clause-late : goal.returns-in_err-tree-clause-late
+returns-in_err-tree-clause-late c =
+    let h = c.in_ok-hold.ensures in
+    let s = h.steps in
+    λ t w. late_from c.from_residual-in_err-tree.result c.from_residual-in_err-tree.ensures.1 (λ e. last_after 2 (planted_steps (height t) c.args.pool.now.start.geometry) (omega arith) c.requires.working h.went (omega (arith, s)) (c.in_err-tree.ensures.late e))
+
 -- ---- the latch is given back
 
 pub released-requires : goal.released-requires
@@ -70,6 +80,7 @@ returns c =
     let Builds' : Result Made Stop → Type 0 = λ v. (t : Tree) → TreeStands q c.in_ok-tree.tree t → Builds c.args.hints (height t + 3) (insert_steps (height t) q.start.geometry) v q r y z in
     record {
       off = released_off a wp n (h.builds t0 s0) o rel;
+      late = λ t w. released_late (insert_steps (height t)) a wp n (h.builds t (entered_stands n t w.stands)) o rel;
       calls = released_calls a wp n (h.builds t0 s0) c.requires.latch (ok_kept a (λ m b. named_cut (built_cut (b t0 s0))) h.built) o rel;
       rooted = released_ok Built o rel h.built (λ m b g. planted_rooted l.still (b t0 s0) g.still);
       some = released_ok Built o rel h.built (λ m b g. (b t0 s0).some);

@@ -1,12 +1,13 @@
 use Rattle.std.proofs.Common.{◌*◌, arith}
 use Rattle.std.specs.Prelude.{IfOk, Option, Result}
 use Rattle.shm_tree.specs.{declared.{remove.Removed.Removed, stop.Stop.Stop}, Bounds.remove_steps, Building.Builds}
-use Rattle.shm_tree.specs.{Living.KeepsLives, Removing.IsRemoved, Standing.TreeStands, Trees.{Tree, height}}
+use Rattle.shm_tree.specs.{Costing.pruned_steps, Living.KeepsLives, Removing.IsRemoved, Standing.TreeStands}
+use Rattle.shm_tree.specs.Trees.{Tree, height}
 use Rattle.shm_tree.proofs.{Building.{looked, ok_kept, rooms_still, went_on}, Costing.removed_made}
 use Rattle.shm_tree.proofs.{Forests.{calls_died, calls_from, quiet}, Moving.{pruned_is, registered, removed_named}}
 use Rattle.shm_tree.proofs.Refusals.{handed_over}
-use Rattle.shm_tree.proofs.Releasing.{Entered, entered, entered_stands, held_on, released_calls, released_costs, released_off, released_ok, released_refused, released_spends}
-use Rattle.shm_tree.proofs.registers.pruned.Goals.{In_ok-tree}
+use Rattle.shm_tree.proofs.Releasing.{Entered, entered, entered_stands, held_on, released_calls, released_costs, released_late, released_off, released_ok, released_refused, released_spends}
+use Rattle.shm_tree.proofs.{registers.pruned.Goals.In_ok-tree, Lasts.{last_after, last_any, late_from}}
 use Rattle.shm_tree.proofs.registers.pruned.Goals as goal
 
 -- what the calls left before the tree was built
@@ -40,6 +41,15 @@ returns-in_err-hold-clause-refused c = handed_over _ c.from_residual.result c.fr
 pub returns-in_err-tree-clause-refused : goal.returns-in_err-tree-clause-refused
 returns-in_err-tree-clause-refused c = handed_over _ c.from_residual-in_err-tree.result c.from_residual-in_err-tree.ensures.1 c.in_err-tree.ensures.looks.died.0
 
+pub returns-in_err-hold-clause-late : goal.returns-in_err-hold-clause-late
+returns-in_err-hold-clause-late c = λ t w. late_from c.from_residual.result c.from_residual.ensures.1 (λ e. last_any (pruned_steps (height t) c.args.pool.now.start.geometry) (c.in_err-hold.ensures.late e))
+
+pub returns-in_err-tree-clause-late : goal.returns-in_err-tree-clause-late
+returns-in_err-tree-clause-late c =
+    let h = c.in_ok-hold.ensures in
+    let s = h.steps in
+    λ t w. late_from c.from_residual-in_err-tree.result c.from_residual-in_err-tree.ensures.1 (λ e. last_after 2 (pruned_steps (height t) c.args.pool.now.start.geometry) (omega arith) c.requires.working h.went (omega (arith, s)) (c.in_err-tree.ensures.late e))
+
 -- ---- the latch is given back
 
 pub released-requires : goal.released-requires
@@ -69,6 +79,7 @@ returns c =
     let Builds' : Result (Option Removed) Stop → Type 0 = λ v. (t : Tree) → TreeStands q c.in_ok-tree.tree t → Builds c.args.hints (3 * height t) (remove_steps (height t) q.start.geometry) v q r y z in
     record {
       off = released_off a wp n (h.builds t0 s0) o rel;
+      late = λ t w. released_late (remove_steps (height t)) a wp n (h.builds t (entered_stands n t w.stands)) o rel;
       calls = released_calls a wp n (h.builds t0 s0) c.requires.latch (ok_kept a (λ m b. removed_named x t0 m q r (b t0 s0)) h.removed) o rel;
       pruned = released_ok Taken o rel h.removed (λ m b g. pruned_is p q r c.released.new.pool x c.in_ok-tree.tree c.args.root l.still g.still n.named c.requires.tree m b);
       costs = released_ok (λ v. Builds' v × Taken v × IfOk v (λ m. KeepsLives q r)) o rel (h.builds, h.removed, h.rests) (λ m f g t w. let st = entered_stands n t w.stands in released_costs (remove_steps (height t)) wp n g (f.0 t st) (removed_made x t m q r (f.1 t st)) f.2);

@@ -1,8 +1,8 @@
-use Rattle.std.proofs.Common.{arith}
+use Rattle.std.proofs.Common.{◌+◌, ◌*◌, arith}
 use Rattle.shm_tree.specs.{Costing.read_steps, Trees.height}
 use Rattle.shm_tree.proofs.{Building.{looked, went_on}, Costing.costs_still, Forests.{Quiet, quiet, quiet_then}}
 use Rattle.shm_tree.proofs.Releasing.{Entered, entered, entered_stands}
-use Rattle.shm_tree.proofs.registers.read.Goals.{In_ok-number, In_ok-tree}
+use Rattle.shm_tree.proofs.{registers.read.Goals.{In_ok-number, In_ok-tree}, Lasts.{last_after, last_any, late_from}}
 use Rattle.shm_tree.proofs.registers.read.Goals as goal
 
 -- what the calls left before the number was read
@@ -47,3 +47,27 @@ returns-clause-costs c =
     let one = e.few in
     let two = r.steps in
     costs_still (read_steps (height u)) all.went all.still (omega (arith, few, one, two))
+
+-- no word step was left
+pub returns-in_err-hold-clause-late : goal.returns-in_err-hold-clause-late
+returns-in_err-hold-clause-late c = λ t st. late_from c.from_residual.result c.from_residual.ensures.1 (λ e. last_any (read_steps (height t)) (c.in_err-hold.ensures.late e))
+
+pub returns-in_err-tree-clause-late : goal.returns-in_err-tree-clause-late
+returns-in_err-tree-clause-late c =
+    let h = c.in_ok-hold.ensures in
+    let s = h.steps in
+    λ t st. late_from c.from_residual-in_err-tree.result c.from_residual-in_err-tree.ensures.1 (λ e. last_after 2 (read_steps (height t)) (omega arith) c.requires.working h.went (omega (arith, s)) (c.in_err-tree.ensures.late e))
+
+pub returns-in_err-number-clause-late : goal.returns-in_err-number-clause-late
+returns-in_err-number-clause-late c =
+    let n = entry (goal.at.returns-in_err-number-clause-late c).In_ok-tree in
+    let few = n.few in
+    λ t st. late_from c.from_residual-in_err-number.result c.from_residual-in_err-number.ensures.1 (λ e. last_after 3 (read_steps (height t)) (omega arith) c.requires.working n.quiet.went (omega (arith, few)) (c.in_err-number.ensures.late t (entered_stands n t st) e))
+
+pub returns-in_err-release-clause-late : goal.returns-in_err-release-clause-late
+returns-in_err-release-clause-late c =
+    let n = entry (goal.at.returns-in_err-release-clause-late c).In_ok-tree in
+    let one = n.few in
+    λ t st.
+    let few = c.in_ok-number.ensures.steps t (entered_stands n t st) in
+    late_from c.from_residual-in_err-release.result c.from_residual-in_err-release.ensures.1 (λ e. last_after (5 * height t + 7) (read_steps (height t)) (omega arith) c.requires.working (looks (goal.at.returns-in_err-release-clause-late c).In_ok-number).went (omega (arith, few, one)) (c.in_err-release.ensures.late e))

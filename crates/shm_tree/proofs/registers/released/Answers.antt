@@ -1,7 +1,7 @@
 use Rattle.std.proofs.Common.{refl, sym, ◌∙◌, inr}
 use Rattle.std.specs.Prelude.{Err}
 use Rattle.shm_tree.proofs.{Answering.alive_died, Building.alive_any, CutShort.cut_under}
-use Rattle.shm_tree.proofs.{Moving.{alive_is, is_over_is, is_over_not}, Releasing.releases_held}
+use Rattle.shm_tree.proofs.{Moving.{alive_is, is_over_is, is_over_not}, Releasing.{ended_err, ended_ok, releases_held}}
 use Rattle.shm_tree.proofs.registers.released.Goals as goal
 
 pub release-requires : goal.release-requires
@@ -15,7 +15,7 @@ release-requires-in-Err g c =
 pub returns-in_err-release-in-Ok : goal.returns-in_err-release-in-Ok
 returns-in_err-release-in-Ok g c =
     let e = c.in_err-release-in-Ok.ensures in
-    releases_held c.from_residual.result c.from_residual.ensures.1 e.died.0 (record { went = e.went; over = e.died.1; off = cut_under c.args.pool.now c.release.new.pool (rw c.in-Ok.is at c.requires.latch) e.died.2 })
+    releases_held c.from_residual.result c.from_residual.ensures.1 e.died.0 (ended_ok c.args.answer c.in-Ok.is) (record { went = e.went; over = e.died.1; off = cut_under c.args.pool.now c.release.new.pool (rw c.in-Ok.is at c.requires.latch) e.died.2; late = e.late e.died.0 })
 
 pub returns-in_ok-release-in-Ok : goal.returns-in_ok-release-in-Ok
 returns-in_ok-release-in-Ok g c =
@@ -30,7 +30,7 @@ pub returns-in_err-release-in-Err : goal.returns-in_err-release-in-Err
 returns-in_err-release-in-Err g c =
     let ne = is_over_not c.in-Err.why (sym c.is_over.ensures ∙ c.if-is_over.false) in
     let e = c.in_err-release-in-Err.ensures in
-    releases_held c.from_residual-in_err-release-in-Err.result c.from_residual-in_err-release-in-Err.ensures.1 e.died.0 (record { went = e.went; over = e.died.1; off = cut_under c.args.pool.now c.release-in-Err.new.pool (alive_is g.row.T.Denot c.in-Err.why ne (rw c.in-Err.is at c.requires.latch)) e.died.2 })
+    releases_held c.from_residual-in_err-release-in-Err.result c.from_residual-in_err-release-in-Err.ensures.1 e.died.0 (ended_err c.args.answer c.in-Err.is ne) (record { went = e.went; over = e.died.1; off = cut_under c.args.pool.now c.release-in-Err.new.pool (alive_is g.row.T.Denot c.in-Err.why ne (rw c.in-Err.is at c.requires.latch)) e.died.2; late = e.late e.died.0 })
 
 pub returns-in_ok-release-in-Err : goal.returns-in_ok-release-in-Err
 returns-in_ok-release-in-Err g c =

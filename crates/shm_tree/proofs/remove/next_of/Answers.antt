@@ -2,7 +2,7 @@ use Rattle.std.proofs.{Common.{◌==◌, ◌∙◌, sym, ap, arith}, lemmas.Bool
 use Rattle.std.specs.Prelude.{None, Some}
 use Rattle.shm_tree.specs.Removing.{content_in}
 use Rattle.shm_tree.proofs.{Building.{looked, looked_none, looks_done, looks_from}, Removing.content_read}
-use Rattle.shm_tree.proofs.Rotations.{node_of}
+use Rattle.shm_tree.proofs.{Rotations.node_of, Lasts.late_from}
 use Rattle.shm_tree.proofs.remove.next_of.Goals as goal
 
 pub returns-then-lowest-place : goal.returns-then-lowest-place
@@ -10,6 +10,7 @@ returns-then-lowest-place c =
     let n = looked_none c.args.pool.now c.args.life.now.left c.requires.working in
     record {
       looks = looks_done _ n;
+      late = tt;
       steps = omega arith;
       next = λ t st. sym (cond-true (c.args.lowest.depth == c.args.place.depth) None (Some (content_in t)) (eq-eqb c.args.lowest.depth c.args.place.depth (omega arith)));
     }
@@ -22,6 +23,7 @@ returns-in_ok-content c =
     let u = c.in_ok-content.ensures in
     record {
       looks = looks_done _ (looked u.looks);
+      late = tt;
       steps = (let s = u.steps in omega (arith, s));
       next =
           λ t st.
@@ -31,3 +33,6 @@ returns-in_ok-content c =
 
 pub returns-in_err-content-clause-looks : goal.returns-in_err-content-clause-looks
 returns-in_err-content-clause-looks c = looks_from c.from_residual.result c.from_residual.ensures.1 c.in_err-content.ensures.looks
+
+pub returns-in_err-content-clause-late : goal.returns-in_err-content-clause-late
+returns-in_err-content-clause-late c = late_from c.from_residual.result c.from_residual.ensures.1 c.in_err-content.ensures.late

@@ -1,10 +1,11 @@
 use Rattle.std.proofs.Common.{lit≤, sym, subst, arith}
 use Rattle.std.specs.Prelude.{Option}
 use Rattle.shm_count.specs.declared.answer.Made.{Made}
-use Rattle.shm_tree.specs.{Bounds.share_steps, Building.block_of, Keeping.{HasTree, child_of}}
+use Rattle.shm_tree.specs.{Bounds.{remnant_steps, share_steps}, Building.block_of, Keeping.{HasTree, child_of}}
 use Rattle.shm_tree.specs.Removing.{IsKept, StandsMoved}
 use Rattle.shm_tree.proofs.Building.{builds_after, builds_first, builds_from, looked, ok_kept, rooms_still, tree_still}
 use Rattle.shm_tree.proofs.{Resting.rests_after, Removing.{kept_after, moved_after}, Rotations.{child_tree, node_of}}
+use Rattle.shm_tree.proofs.Lasts.{last_any}
 use Rattle.shm_tree.proofs.remove.remnant.Goals as goal
 
 pub child-requires : goal.child-requires
@@ -21,7 +22,7 @@ shared-requires c =
 pub returns-in_err-tree-clause-builds : goal.returns-in_err-tree-clause-builds
 returns-in_err-tree-clause-builds c =
     let e = c.in_err-tree.ensures in
-    builds_from c.from_residual.result c.from_residual.ensures.1 (builds_first e.looks)
+    builds_from c.from_residual.result c.from_residual.ensures.1 (builds_first e.looks (λ d. last_any (remnant_steps c.args.pool.now.start.geometry) (e.late d)))
 
 pub returns : goal.returns
 returns c =

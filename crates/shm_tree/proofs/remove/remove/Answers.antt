@@ -1,4 +1,4 @@
-use Rattle.std.proofs.Common.{◌≡◌, ◌==◌, ℕ, suc, ◌+◌, ◌*◌, ◌-◌, ◌∙◌, cond, sym, ap, subst, arith, inl, inr}
+use Rattle.std.proofs.Common.{◌≡◌, ◌==◌, ℕ, suc, ◌+◌, ◌*◌, ◌-◌, ◌≤◌, ◌∙◌, cond, sym, ap, subst, arith, inl, inr}
 use Rattle.std.specs.Prelude.{Option, None, Some}
 use Rattle.shm_count.specs.declared.answer.Made.{Made}
 use Rattle.shm_tree.specs.declared.{node.{Content.Content, Side.Side}, remove.Removed.Removed}
@@ -10,9 +10,9 @@ use Rattle.shm_tree.proofs.{Descents.others_deep, Fallings.{cut_stay, fallen_low
 use Rattle.shm_tree.proofs.{Fresh.made_few, Growing.down_tree, Levels.{IsWay, rest_last, rest_level, rest_top, told}}
 use Rattle.shm_tree.proofs.LiveCounts.{spent_made}
 use Rattle.shm_tree.proofs.Removing.{cut_at_hand, cut_stands, kept_after, kept_cut, kept_held, kept_more, kept_rooms, kept_up, lowest_way, side_stands, some_block, way_found}
-use Rattle.shm_tree.proofs.{Raising.some_held, Resting.{rests_still, rests_then}}
-use Rattle.shm_tree.proofs.Spendings.{first_most, level_most, spent_call, spent_then}
-use Rattle.shm_tree.proofs.Ways.{down_found, down_lower, end_none, stands_one}
+use Rattle.shm_tree.proofs.{Raising.some_held, Resting.{rests_still, rests_then}, Lasts.last_more}
+use Rattle.shm_tree.proofs.Spendings.{first_most, front_most, level_most, spent_call, spent_then}
+use Rattle.shm_tree.proofs.Ways.{down_found, down_lower, end_none, stands_one, tree_is}
 use Rattle.shm_tree.proofs.remove.remove.Goals as goal
 
 pub find-requires : goal.find-requires
@@ -23,7 +23,8 @@ find-requires c =
 pub returns-in_err-place-clause-builds : goal.returns-in_err-place-clause-builds
 returns-in_err-place-clause-builds c =
     let e = c.in_err-place.ensures in
-    λ t st. builds_from c.from_residual.result c.from_residual.ensures.1 (builds_first e.looks)
+    let g = c.args.pool.now.start.geometry in
+    λ t st. builds_from c.from_residual.result c.from_residual.ensures.1 (builds_first e.looks (λ d. last_more (remove_steps (height t) g) (front_most (5 * height t) 2 9 (remnant_steps g) (height t * (5 * height t + raise_steps g)) (omega arith)) (e.late t st d)))
 
 pub returns-then-place-eq0 : goal.returns-then-place-eq0
 returns-then-place-eq0 c =
@@ -63,10 +64,20 @@ last-requires c =
 
 pub returns-in_err-lowest-clause-builds : goal.returns-in_err-lowest-clause-builds
 returns-in_err-lowest-clause-builds c =
-    let run = c.requires.working.run in
     let f = c.in_ok-place.ensures in
     let e = c.in_err-lowest.ensures in
-    λ t st. builds_from c.from_residual-in_err-lowest.result c.from_residual-in_err-lowest.ensures.1 (builds_died run f.looks.went f.looks.latch e.looks)
+    let x = c.args.wanted in
+    let d = c.in_ok-place.place.depth in
+    let s = f.steps in
+    let g = c.args.pool.now.start.geometry in
+    λ t st.
+    let way = f.place t st in
+    let it = tree_is c.args.pool.now c.args.tree c.requires.tree.tree.0 t c.requires.tree.tree.1 st in
+    let low = down_lower x t d (others_deep x d t way.on) in
+    let few : (5 * d + 2) + 3 * height (down x t d) ≤ 5 * height t + 2 = omega (arith, low) in
+    let most = front_most (5 * height t) 2 9 (remnant_steps g) (height t * (5 * height t + raise_steps g)) (omega arith) in
+    builds_from c.from_residual-in_err-lowest.result c.from_residual-in_err-lowest.ensures.1
+    (builds_died {a = 5 * d + 2} {b = 3 * height (down x t d)} (omega (arith, few, most)) c.requires.working f.looks.went f.looks.latch (spent_call (5 * d + 2) f.looks.went (omega (arith, s))) e.looks (e.late (down x t d) way.stands (down_tree x t d it.search it.balanced).0))
 
 pub next_of-requires : goal.next_of-requires
 next_of-requires c =
@@ -89,7 +100,20 @@ returns-in_err-next-clause-builds c =
     let f = c.in_ok-place.ensures in
     let l = c.in_ok-lowest.ensures in
     let e = c.in_err-next.ensures in
-    λ t st. builds_from c.from_residual-in_err-next.result c.from_residual-in_err-next.ensures.1 (builds_died run (went_on run f.looks.went l.looks.went) (l.looks.latch ∙ f.looks.latch) e.looks)
+    let x = c.args.wanted in
+    let a = c.in_ok-place.place.depth in
+    let n = c.in_ok-lowest.lowest.depth in
+    let g = c.args.pool.now.start.geometry in
+    let s1 = f.steps in
+    let s2 = l.steps in
+    let below = l.below in
+    let went = went_on run f.looks.went l.looks.went in
+    λ t st.
+    let way = (lowest_way x a n c.in_ok-place.place.node c.in_ok-lowest.lowest.node c.requires.tree l.below f.place l.last t st).0 in
+    let lower = down_lower x t (suc n) way.deep in
+    let most = first_most (9 + remnant_steps g) (5 * height t + raise_steps g) n (height t) (omega (arith, lower)) in
+    builds_from c.from_residual-in_err-next.result c.from_residual-in_err-next.ensures.1
+    (builds_died {a = 5 * n + 5} {b = 4} (omega (arith, most)) c.requires.working went (l.looks.latch ∙ f.looks.latch) (spent_call (5 * n + 5) went (omega (arith, s1, s2, below))) e.looks e.late)
 
 pub remnant-requires : goal.remnant-requires
 remnant-requires c =
@@ -197,10 +221,18 @@ above-requires c =
 
 pub returns-in_err-node-clause-builds : goal.returns-in_err-node-clause-builds
 returns-in_err-node-clause-builds c =
-    let run = c.requires.working.run in
     let r = c.levels.invariant in
     let e = c.in_err-node.ensures in
-    λ t st. builds_from c.from_residual-in_err-node.result c.from_residual-in_err-node.ensures.1 (builds_died run r.went r.latch e.looks)
+    let x = c.args.wanted in
+    let end = c.in_ok-lowest.lowest.depth in
+    let low = r.low in
+    let d = c.levels.depth - 1 in
+    let same : c.levels.depth ≡ suc d = omega arith in
+    let g = c.args.pool.now.start.geometry in
+    λ t st.
+    let lower = down_lower x t (suc end) (r.way t st).deep in
+    let levels = level_most (9 + remnant_steps g) (raise_steps g) (end - c.levels.depth) d end (height t) (omega (arith, low, same)) (omega (arith, low, same)) (omega (arith, lower)) in
+    builds_from c.from_residual-in_err-node.result c.from_residual-in_err-node.ensures.1 (builds_died {a = fall_steps (end - c.levels.depth) end g} {b = 5 * d} (omega (arith, levels)) c.requires.working r.went r.latch r.spent e.looks e.late)
 
 pub raise-requires : goal.raise-requires
 raise-requires c =

@@ -15,6 +15,7 @@ returns-then-contains c =
       empty = λ free. absurd (taken_by c.args.roots c.args.root c.contains.result c.requires.long c.contains.ensures.cases c.if-contains.true free);
       costs = costs_none _ p c.args.life.now.left c.requires.working;
       refused = tt;
+      late = tt;
       spent = tt;
     }
 
@@ -29,4 +30,5 @@ returns-else-contains c =
       costs = costs_dropped _ _ _ _ c.args.root _ d.working d.dropped d.steps;
       refused = refused_both _ (λ s few. spends_still (drop_steps c.args.pool.now.start.geometry 0) d.went s few) d.still d.refused_steps;
       spent = d.spent;
+      late = d.late;
     }

@@ -16,6 +16,7 @@ returns-then-root-eq-NONE c =
       still = tt;
       costs = costs_none _ p c.args.life.now.left c.requires.working;
       refused = tt;
+      late = tt;
     }
 
 pub returns-else-root-eq-NONE : goal.returns-else-root-eq-NONE
@@ -28,6 +29,7 @@ returns-else-root-eq-NONE c =
       others = emptied_others c.args.root c.args.pool.now c.drop_root.new.pool _ d.emptied;
       empty = emptied_root _ c.args.root c.args.pool.now c.drop_root.new.pool _ d.emptied;
       still = d.still;
+      late = d.late;
       costs = costs_dropped _ _ _ _ c.args.root _ d.working d.dropped d.steps;
       refused = refused_both _ (λ s few. spends_still (drop_steps c.args.pool.now.start.geometry 0) d.went s few) d.still d.refused_steps;
     }

@@ -3,6 +3,7 @@ use Rattle.shm_words.specs.declared.geometry.Geometry.{Geometry}
 use Rattle.shm_tree.specs.Bounds.{drop_steps}
 use Rattle.shm_tree.proofs.{Costing.{swept_all, swept_more, swept_none}, Forests.{calls_from, sweeping_stop}}
 use Rattle.shm_tree.proofs.Refusals.{handed, none_least, one_root, spends_more, spends_of, spends_then}
+use Rattle.shm_tree.proofs.Lasts.{last_more, last_then, late_from}
 use Rattle.shm_tree.proofs.sweeping.swept.Goals as goal
 
 pub loop-root-init : goal.loop-root-init
@@ -39,5 +40,12 @@ returns c =
       empty = λ k lt free. r.empty k (omega arith) free;
       costs = swept_all c.args.roots c.loop-root.root (omega arith) c.loop-root.invariant;
       refused = tt;
+      late = tt;
       spent = tt;
     }
+
+pub returns-in_err-drop_other-clause-late : goal.returns-in_err-drop_other-clause-late
+returns-in_err-drop_other-clause-late c =
+    let a = c.loop-root.invariant in
+    let one : ℕ = drop_steps c.args.pool.now.start.geometry 0 in
+    late_from c.from_residual.result c.from_residual.ensures.1 (λ e. last_more (16 * one) (one_root c.loop-root.root one (omega arith)) (last_then (λ (g : Geometry). drop_steps g 0) c.requires.working a.swept.went a.costs.spent (c.in_err-drop_other.ensures.late e)))

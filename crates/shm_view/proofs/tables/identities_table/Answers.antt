@@ -1,4 +1,4 @@
-use Rattle.std.proofs.Common.{◌≡◌, ◌≤◌, List, [], ◌∷◌, ◌++◌, length, drop, codes, sym, ap, ◌∙◌, append-nil, arith}
+use Rattle.std.proofs.Common.{◌≤◌, List, [], ◌∷◌, ◌++◌, length, codes, sym, ap, ◌∙◌, append-nil, arith}
 use Rattle.std.proofs.lemmas.List.{drop_all}
 use Rattle.shm_view.specs.Tables.{cells_of, identities_grid, identity_rows}
 use Rattle.shm_view.proofs.Tabling.{table_of}

@@ -1,5 +1,6 @@
 use Rattle.std.proofs.Common.{◌≡◌, Bool, sym, ap, ◌∙◌, subst}
-use Rattle.shm_graph.specs.{declared.{memo.{Kind.TheVariants.Client, Memo.Memo}, run.Start.Start}, Agents.entered, Held.is_loose, Runs.{account_entered, first_memo}}
+use Rattle.shm_graph.specs.{declared.memo.{Kind.TheVariants.Client, Memo.Memo}, Agents.entered, Held.is_loose}
+use Rattle.shm_graph.specs.Runs.{account_entered, first_memo}
 use Rattle.shm_recover.specs.Join.{JoinGives, join_fresh}
 use Rattle.shm_pool.specs.{Called.Rests, Tokens.{Token, me_of}}
 use Rattle.shm_pool.proofs.Keeping.{rests_joined}

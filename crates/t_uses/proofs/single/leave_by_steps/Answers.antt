@@ -1,11 +1,12 @@
-use Rattle.std.proofs.Common.{◌≡◌, ◌≢◌, ◌<◌, Bool, true, false, ◌&&◌, None, Some, refl, sym, ap, ◌∙◌, subst, arith, inl, true≢false}
+use Rattle.std.proofs.Common.{◌≡◌, ◌≢◌, ◌<◌, Bool, true, false, ◌&&◌, refl, sym, ap, ◌∙◌, subst, arith, inl, true≢false}
 use Rattle.plans.specs.{CallsControl.{calls_control, calls_of}, CallsFit.{CallsFits, CallsGives}}
 use Rattle.plans.specs.Proved.CallsKeep.{calls_laws}
-use Rattle.shm_graph.specs.declared.{ask.Me.Me, memo.Memo.Memo, run.Account.Account}
-use Rattle.shm_graph.specs.{Agents.is_gone, Laws.is_some, Whole.{fits_now, gives_now}}
+use Rattle.shm_graph.specs.{declared.{ask.Me.Me, memo.Memo.Memo, run.Account.Account}, Agents.is_gone, Laws.is_some}
+use Rattle.shm_graph.specs.Whole.{fits_now, gives_now}
 use Rattle.shm_graph.proofs.Machines.Composing.{none_of, some_of}
-use Rattle.shm_recover.specs.{Leave.{Control.{leave_parts, leave_steered, leaving}, MayLeave, leave_plan}, Proved.Leave.Laws.leave_laws}
-use Rattle.shm_pool.specs.{Proved.Lasts.leaving_last, Tokens.{IsFor, Its, me_of}}
+use Rattle.shm_recover.specs.Leave.{Control.{leave_parts, leave_steered, leaving}, MayLeave, leave_plan}
+use Rattle.shm_recover.specs.Proved.Leave.Laws.{leave_laws}
+use Rattle.shm_pool.specs.{Proved.Lasts.leaving_last, Tokens.{IsFor, me_of}}
 use Rattle.shm_pool.proofs.{Calling.goes_on, Lasting.{fits_first, is_mine, unfinished}}
 use Rattle.t_uses.proofs.single.leave_by_steps.Goals as goal
 

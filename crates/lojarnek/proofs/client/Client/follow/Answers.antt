@@ -1,5 +1,5 @@
 use Rattle.std.proofs.{Common.{◌<◌, sym, subst, ◌∙◌}, lemmas.Result.err_from_is_err_and}
-use Rattle.lojarnek.specs.{Following.WhyNotFollowed, Roots.{IsAtBlocks, IsNamed}, Standing.Acts}
+use Rattle.lojarnek.specs.{Blocks.names, Following.WhyNotFollowed, Roots.{IsAtBlocks, IsNamed}, Standing.Acts}
 use Rattle.lojarnek.proofs.Comes.{block_named, came_err, came_ok, came_tested, first_denied, first_tested}
 use Rattle.lojarnek.proofs.client.Client.follow.Goals as goal
 
@@ -7,7 +7,7 @@ pub returns-in_err-block-clause-tested : goal.returns-in_err-block-clause-tested
 returns-in_err-block-clause-tested c = let p = err_from_is_err_and c.from_residual.result c.from_residual.ensures.1 in rw (p.1, p.2) (first_tested _ _ _ _ c.in_err-block.ensures.err)
 
 pub returns-in_err-block-clause-refused : goal.returns-in_err-block-clause-refused
-returns-in_err-block-clause-refused c = let p = err_from_is_err_and c.from_residual.result c.from_residual.ensures.1 in rw (p.1, p.2) (first_denied (WhyNotFollowed c.args.author c.args.word) _ _ c.in_err-block.ensures.err.why)
+returns-in_err-block-clause-refused c = let p = err_from_is_err_and c.from_residual.result c.from_residual.ensures.1 in rw (p.1, p.2) (first_denied (WhyNotFollowed c.args.author (names c.args.self.now c.args.root) c.args.word) _ _ c.in_err-block.ensures.err.why)
 
 pub follow-result-requires-clause-pool : goal.follow-result-requires-clause-pool
 follow-result-requires-clause-pool c = sym c.self.invariant.0.0
@@ -36,7 +36,7 @@ pub returns-clause-followed : goal.returns-clause-followed
 returns-clause-followed c = rw c.in_ok-block.ensures.ok.0.named (came_ok _ _ _ _ _ _ (rw c.self.view_is at c.follow-result.ensures))
 
 pub returns-clause-refused : goal.returns-clause-refused
-returns-clause-refused c = came_err _ _ _ _ _ _ (rw c.self.view_is at c.follow-result.ensures)
+returns-clause-refused c = rw c.in_ok-block.ensures.ok.0.named (came_err _ _ _ _ _ _ (rw c.self.view_is at c.follow-result.ensures))
 
 pub returns-clause-stays : goal.returns-clause-stays
 returns-clause-stays c = let h = rw c.self.view_is at c.follow-result.ensures in h.same

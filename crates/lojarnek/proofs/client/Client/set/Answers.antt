@@ -8,13 +8,13 @@ pub returns-in_err-block-clause-tested : goal.returns-in_err-block-clause-tested
 returns-in_err-block-clause-tested c = let p = err_from_is_err_and c.from_residual.result c.from_residual.ensures.1 in rw (p.1, p.2) (first_tested _ _ _ _ (set_first _ _ _ _ _ c.in_err-block.ensures.err))
 
 pub returns-in_err-block-clause-refused : goal.returns-in_err-block-clause-refused
-returns-in_err-block-clause-refused c = let p = err_from_is_err_and c.from_residual.result c.from_residual.ensures.1 in rw (p.1, p.2) (first_denied (WhyNotSet c.args.word (names c.args.self.now c.args.to)) _ _ c.in_err-block.ensures.err.why)
+returns-in_err-block-clause-refused c = let p = err_from_is_err_and c.from_residual.result c.from_residual.ensures.1 in rw (p.1, p.2) (first_denied (WhyNotSet (names c.args.self.now c.args.root) c.args.word (names c.args.self.now c.args.to)) _ _ c.in_err-block.ensures.err.why)
 
 pub returns-in_err-to-clause-tested : goal.returns-in_err-to-clause-tested
 returns-in_err-to-clause-tested c = let p = err_from_is_err_and c.from_residual-in_err-to.result c.from_residual-in_err-to.ensures.1 in rw (p.1, p.2) (first_tested _ _ _ _ (set_then _ _ _ _ _ c.in_ok-block.ensures.ok.1 c.in_ok-block.ensures.ok.0.at.alive c.in_err-to.ensures.err))
 
 pub returns-in_err-to-clause-refused : goal.returns-in_err-to-clause-refused
-returns-in_err-to-clause-refused c = let p = err_from_is_err_and c.from_residual-in_err-to.result c.from_residual-in_err-to.ensures.1 in rw (p.1, p.2) (first_denied (WhyNotSet c.args.word (names c.args.self.now c.args.to)) _ _ c.in_err-to.ensures.err.why)
+returns-in_err-to-clause-refused c = let p = err_from_is_err_and c.from_residual-in_err-to.result c.from_residual-in_err-to.ensures.1 in rw (p.1, p.2) (first_denied (WhyNotSet (names c.args.self.now c.args.root) c.args.word (names c.args.self.now c.args.to)) _ _ c.in_err-to.ensures.err.why)
 
 pub set-result-requires-clause-pool : goal.set-result-requires-clause-pool
 set-result-requires-clause-pool c = sym c.self.invariant.0.0
@@ -43,7 +43,7 @@ pub returns-clause-roots : goal.returns-clause-roots
 returns-clause-roots c = rw (← c.self.view_is) (came_second _ _ _ _ _ _ _ (c.set-result.ensures c.self.inside.roots.named c.self.invariant.3))
 
 pub returns-clause-refused : goal.returns-clause-refused
-returns-clause-refused c = rw c.in_ok-to.ensures.ok.0.named (came_err _ _ _ _ _ _ (rw c.self.view_is at (c.set-result.ensures c.self.inside.roots.named c.self.invariant.3)))
+returns-clause-refused c = rw (c.in_ok-block.ensures.ok.0.named, c.in_ok-to.ensures.ok.0.named) (came_err _ _ _ _ _ _ (rw c.self.view_is at (c.set-result.ensures c.self.inside.roots.named c.self.invariant.3)))
 
 pub returns-clause-stays : goal.returns-clause-stays
 returns-clause-stays c = let h = rw c.self.view_is at (c.set-result.ensures c.self.inside.roots.named c.self.invariant.3) in h.same

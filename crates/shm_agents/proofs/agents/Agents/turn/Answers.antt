@@ -1,12 +1,9 @@
-use Rattle.std.proofs.Common.{◌≡◌, ℕ, ◌+◌, ◌<◌, true, false, ap, sym, subst, refl, ◌∙◌, Result, length}
-use Rattle.std.specs.{Prelude.vec_capacity, Result.IsOk}
-use Rattle.shm_graph.specs.declared.{ask.Turn.TheVariants.Done, run.{Account.Account, Start.Start}}
-use Rattle.shm_graph.specs.Laws.{is_died, step_of}
-use Rattle.plans.specs.declared.or.Or.TheVariants.{First, Second}
-use Rattle.shm_count.specs.declared.answer.EraSpent.{EraSpent}
+use Rattle.std.proofs.Common.{◌≡◌, ℕ, ◌+◌, ◌<◌, false, ap, sym, subst, ◌∙◌}
+use Rattle.std.specs.Prelude.{vec_capacity}
+use Rattle.shm_graph.specs.{declared.run.{Account.Account, Start.Start}, Laws.{is_died, step_of}}
 use Rattle.shm_script.specs.Values.{Scripted}
 use Rattle.shm_agents.specs.{Agents.{Playing, AgentsStand}, TurnsLeft.turns_given, Work.work_control}
-use Rattle.shm_agents.proofs.agents.Agents.turn.{Given.Over, Goals.After-step}
+use Rattle.shm_agents.proofs.agents.Agents.turn.{Given.Over, Goals.{After-go_on, After-step, In-Done}}
 use Rattle.shm_agents.proofs.Turns as turns
 use Rattle.shm_agents.proofs.agents.Agents.turn.Goals as goal
 
@@ -63,71 +60,39 @@ die-requires-clause-stands g c =
     let a = after g at in
     subst (λ (z : Playing). AgentsStand (g.W.Workplace.start c.step.new.self) c.args.script.now z (g.W.Workplace.account c.step.new.self z.me.who)) (sym (turns.same b a (ap is_died c.in-Died.is))) (finally g at (turns.dead_stands b a (ap is_died c.in-Died.is)))
 
-pub begin-requires-clause-line : goal.begin-requires-clause-line
-begin-requires-clause-line g c =
-    let b = before g (goal.at.begin-requires-clause-line g c).After-step in
-    let same = c.as_slice.ensures.value ∙ ap (λ (z : Scripted). z.lines) c.script.view_is in
-    turns.may_begin_in b c.as_slice.result.now same (length c.self.inside.entries.items)
+-- what the work has answered
 
-pub unwrap-requires : goal.unwrap-requires
-unwrap-requires g c =
-    let at = (goal.at.unwrap-requires g c).After-step in
-    let b = before g at in
-    let a = after g at in
-    let e : c.step.result ≡ Done (First (Second c.in-Done-First-Second.recovered)) = c.in-Done-First-Second.is ∙ ap Done (c.in-Done-First-Second.field-0-is ∙ ap First c.in-Done-First-Second.field-0-0-is) in
-    subst (λ (r : Result (Unit {0}) EraSpent). IsOk r) (sym (turns.recovered b a (ap is_died e) c.in-Done-First-Second.recovered e).0) refl
+module _ (g : Over) (c : In-Done g) where
+  abbrev at : After-step g
+  at = (goal.at.In-Done g c).After-step
 
-pub note-requires-clause-command : goal.note-requires-clause-command
-note-requires-clause-command g c =
-    let at = (goal.at.note-requires-clause-command g c).After-step in
-    let b = before g at in
-    let a = after g at in
-    let e : c.step.result ≡ Done (Second (First c.in-Done-Second-First.answer)) = c.in-Done-Second-First.is ∙ ap Done (c.in-Done-Second-First.field-0-is ∙ ap Second c.in-Done-Second-First.field-0-0-is) in
-    let same = c.as_slice-lines.ensures.value ∙ ap (λ (z : Scripted). z.lines) c.script.view_is in
-    turns.low_in b a (ap is_died e) c.in-Done-Second-First.answer e c.as_slice-lines.result.now same
+  abbrev b : turns.Before (start g at) c.args.script.now c.args.self.now (x g at) (e g at)
+  b = before g at
 
-pub note-requires-clause-room : goal.note-requires-clause-room
-note-requires-clause-room g c =
-    let at = (goal.at.note-requires-clause-room g c).After-step in
-    let b = before g at in
-    let a = after g at in
-    let e : c.step.result ≡ Done (Second (First c.in-Done-Second-First.answer)) = c.in-Done-Second-First.is ∙ ap Done (c.in-Done-Second-First.field-0-is ∙ ap Second c.in-Done-Second-First.field-0-0-is) in
-    turns.room b a (ap is_died e) c.in-Done-Second-First.answer e
+  abbrev a : turns.After (start g at) (x g at) (e g at) (e2 g at) c.step.new.m c.step.new.life c.step.result
+  a = after g at
 
-pub begin-requires-in-Done-Second-First-clause-geometry : goal.begin-requires-in-Done-Second-First-clause-geometry
-begin-requires-in-Done-Second-First-clause-geometry g c =
-    let at = (goal.at.begin-requires-in-Done-Second-First-clause-geometry g c).After-step in
-    let b = before g at in
-    let a = after g at in
-    let e : c.step.result ≡ Done (Second (First c.in-Done-Second-First.answer)) = c.in-Done-Second-First.is ∙ ap Done (c.in-Done-Second-First.field-0-is ∙ ap Second c.in-Done-Second-First.field-0-0-is) in
-    let same = c.as_slice-lines.ensures.value ∙ ap (λ (z : Scripted). z.lines) c.script.view_is in
-    turns.note_geometry b a (ap is_died e) c.in-Done-Second-First.answer e c.as_slice-lines.result.now same c.note.new.self c.note.ensures
+  abbrev acts : is_died c.step.result ≡ false
+  acts = ap is_died c.in-Done.is
 
-pub begin-requires-in-Done-Second-First-clause-who : goal.begin-requires-in-Done-Second-First-clause-who
-begin-requires-in-Done-Second-First-clause-who g c =
-    let at = (goal.at.begin-requires-in-Done-Second-First-clause-who g c).After-step in
-    let b = before g at in
-    let a = after g at in
-    let e : c.step.result ≡ Done (Second (First c.in-Done-Second-First.answer)) = c.in-Done-Second-First.is ∙ ap Done (c.in-Done-Second-First.field-0-is ∙ ap Second c.in-Done-Second-First.field-0-0-is) in
-    let same = c.as_slice-lines.ensures.value ∙ ap (λ (z : Scripted). z.lines) c.script.view_is in
-    turns.note_who b a (ap is_died e) c.in-Done-Second-First.answer e c.as_slice-lines.result.now same c.note.new.self c.note.ensures
+pub go_on-requires-clause-geometry : goal.go_on-requires-clause-geometry
+go_on-requires-clause-geometry g c = turns.geometry (b g (goal.at.go_on-requires-clause-geometry g c).In-Done)
 
-pub begin-requires-in-Done-Second-First-clause-line : goal.begin-requires-in-Done-Second-First-clause-line
-begin-requires-in-Done-Second-First-clause-line g c =
-    let at = (goal.at.begin-requires-in-Done-Second-First-clause-line g c).After-step in
-    let b = before g at in
-    let a = after g at in
-    let e : c.step.result ≡ Done (Second (First c.in-Done-Second-First.answer)) = c.in-Done-Second-First.is ∙ ap Done (c.in-Done-Second-First.field-0-is ∙ ap Second c.in-Done-Second-First.field-0-0-is) in
-    let same = c.as_slice-lines.ensures.value ∙ ap (λ (z : Scripted). z.lines) c.script.view_is in
-    turns.note_line b a (ap is_died e) c.in-Done-Second-First.answer e c.as_slice-lines.result.now same c.note.new.self c.note.ensures
+pub go_on-requires-clause-who : goal.go_on-requires-clause-who
+go_on-requires-clause-who g c = turns.who (b g (goal.at.go_on-requires-clause-who g c).In-Done)
 
-pub unwrap-requires-in-Done-Second-Second : goal.unwrap-requires-in-Done-Second-Second
-unwrap-requires-in-Done-Second-Second g c =
-    let at = (goal.at.unwrap-requires-in-Done-Second-Second g c).After-step in
-    let b = before g at in
-    let a = after g at in
-    let e : c.step.result ≡ Done (Second (Second c.in-Done-Second-Second.left)) = c.in-Done-Second-Second.is ∙ ap Done (c.in-Done-Second-Second.field-0-is ∙ ap Second c.in-Done-Second-Second.field-0-0-is) in
-    subst (λ (r : Result (Unit {0}) EraSpent). IsOk r) (sym (turns.parted b a (ap is_died e) c.in-Done-Second-Second.left e).0) refl
+pub go_on-requires-clause-told : goal.go_on-requires-clause-told
+go_on-requires-clause-told g c =
+    let d = (goal.at.go_on-requires-clause-told g c).In-Done in
+    turns.may_go_on (b g d) (a g d) (acts g d) c.in-Done.told c.in-Done.is c.as_slice.result.now (c.as_slice.ensures.value ∙ ap (λ (z : Scripted). z.lines) c.script.view_is)
+
+pub go_on-requires-clause-line : goal.go_on-requires-clause-line
+go_on-requires-clause-line g c = turns.may_begin_in (b g (goal.at.go_on-requires-clause-line g c).In-Done) c.as_slice.result.now (c.as_slice.ensures.value ∙ ap (λ (z : Scripted). z.lines) c.script.view_is)
+
+gone : (g : Over) (c : After-go_on g) → let d = (goal.at.After-go_on g c).In-Done in turns.GoneOn (b g d) (a g d) (acts g d) c.go_on.new.self
+gone g c =
+    let d = (goal.at.After-go_on g c).In-Done in
+    turns.gone_on (b g d) (a g d) (acts g d) c.in-Done.told c.in-Done.is c.as_slice.result.now (c.as_slice.ensures.value ∙ ap (λ (z : Scripted). z.lines) c.script.view_is) c.go_on.new.self c.go_on.ensures
 
 -- ---- what is left
 
@@ -138,96 +103,34 @@ returns-in-More-clause-stands g c =
     let a = after g at in
     finally g at (turns.more b a (ap is_died c.in-More.is) c.in-More.is)
 
-pub returns-in-Done-First-First-clause-stands : goal.returns-in-Done-First-First-clause-stands
-returns-in-Done-First-First-clause-stands g c =
-    let at = (goal.at.returns-in-Done-First-First-clause-stands g c).After-step in
-    let b = before g at in
-    let a = after g at in
-    let e : c.step.result ≡ Done (First (First c.in-Done-First-First.field-0-0-0)) = c.in-Done-First-First.is ∙ ap Done (c.in-Done-First-First.field-0-is ∙ ap First c.in-Done-First-First.field-0-0-is) in
-    let same = c.as_slice.ensures.value ∙ ap (λ (z : Scripted). z.lines) c.script.view_is in
-    finally g at (turns.joined b a (ap is_died e) c.in-Done-First-First.field-0-0-0 e c.as_slice.result.now same c.begin.new.self c.begin.ensures)
+pub returns-in-Done-clause-stands : goal.returns-in-Done-clause-stands
+returns-in-Done-clause-stands g c =
+    let at = (goal.at.returns-in-Done-clause-stands g c).After-go_on in
+    finally g (goal.at.returns-in-Done-clause-stands g c).After-step (gone g at).stands
 
-pub returns-in-Done-First-Second-clause-stands : goal.returns-in-Done-First-Second-clause-stands
-returns-in-Done-First-Second-clause-stands g c =
-    let at = (goal.at.returns-in-Done-First-Second-clause-stands g c).After-step in
-    let b = before g at in
-    let a = after g at in
-    let e : c.step.result ≡ Done (First (Second c.in-Done-First-Second.recovered)) = c.in-Done-First-Second.is ∙ ap Done (c.in-Done-First-Second.field-0-is ∙ ap First c.in-Done-First-Second.field-0-0-is) in
-    finally g at (turns.recovered b a (ap is_died e) c.in-Done-First-Second.recovered e).1
+pub returns-in-Done-clause-me : goal.returns-in-Done-clause-me
+returns-in-Done-clause-me g c = (gone g (goal.at.returns-in-Done-clause-me g c).After-go_on).me ∙ ap (λ (z : Playing). z.me) c.self.view_is
 
-pub returns-in-Done-Second-Second-clause-stands : goal.returns-in-Done-Second-Second-clause-stands
-returns-in-Done-Second-Second-clause-stands g c =
-    let at = (goal.at.returns-in-Done-Second-Second-clause-stands g c).After-step in
-    let b = before g at in
-    let a = after g at in
-    let e : c.step.result ≡ Done (Second (Second c.in-Done-Second-Second.left)) = c.in-Done-Second-Second.is ∙ ap Done (c.in-Done-Second-Second.field-0-is ∙ ap Second c.in-Done-Second-Second.field-0-0-is) in
-    finally g at (turns.parted b a (ap is_died e) c.in-Done-Second-Second.left e).1
+pub returns-in-Done-clause-script : goal.returns-in-Done-clause-script
+returns-in-Done-clause-script g c = (gone g (goal.at.returns-in-Done-clause-script g c).After-go_on).script ∙ ap (λ (z : Playing). z.script) c.self.view_is
 
-pub returns-in-Done-Second-First-clause-me : goal.returns-in-Done-Second-First-clause-me
-returns-in-Done-Second-First-clause-me g c =
-    let at = (goal.at.returns-in-Done-Second-First-clause-me g c).After-step in
-    let b = before g at in
-    let a = after g at in
-    let e : c.step.result ≡ Done (Second (First c.in-Done-Second-First.answer)) = c.in-Done-Second-First.is ∙ ap Done (c.in-Done-Second-First.field-0-is ∙ ap Second c.in-Done-Second-First.field-0-0-is) in
-    let same = c.as_slice-lines.ensures.value ∙ ap (λ (z : Scripted). z.lines) c.script.view_is in
-    turns.note_me b a (ap is_died e) c.in-Done-Second-First.answer e c.as_slice-lines.result.now same c.note.new.self c.note.ensures c.begin-in-Done-Second-First.new.self c.begin-in-Done-Second-First.ensures
-
-pub returns-in-Done-Second-First-clause-script : goal.returns-in-Done-Second-First-clause-script
-returns-in-Done-Second-First-clause-script g c =
-    let at = (goal.at.returns-in-Done-Second-First-clause-script g c).After-step in
-    let b = before g at in
-    let a = after g at in
-    let e : c.step.result ≡ Done (Second (First c.in-Done-Second-First.answer)) = c.in-Done-Second-First.is ∙ ap Done (c.in-Done-Second-First.field-0-is ∙ ap Second c.in-Done-Second-First.field-0-0-is) in
-    let same = c.as_slice-lines.ensures.value ∙ ap (λ (z : Scripted). z.lines) c.script.view_is in
-    turns.note_script b a (ap is_died e) c.in-Done-Second-First.answer e c.as_slice-lines.result.now same c.note.new.self c.note.ensures c.begin-in-Done-Second-First.new.self c.begin-in-Done-Second-First.ensures
-
-pub returns-in-Done-Second-First-clause-stands : goal.returns-in-Done-Second-First-clause-stands
-returns-in-Done-Second-First-clause-stands g c =
-    let at = (goal.at.returns-in-Done-Second-First-clause-stands g c).After-step in
-    let b = before g at in
-    let a = after g at in
-    let e : c.step.result ≡ Done (Second (First c.in-Done-Second-First.answer)) = c.in-Done-Second-First.is ∙ ap Done (c.in-Done-Second-First.field-0-is ∙ ap Second c.in-Done-Second-First.field-0-0-is) in
-    let same = c.as_slice-lines.ensures.value ∙ ap (λ (z : Scripted). z.lines) c.script.view_is in
-    finally g at (turns.note_stands b a (ap is_died e) c.in-Done-Second-First.answer e c.as_slice-lines.result.now same c.note.new.self c.note.ensures c.begin-in-Done-Second-First.new.self c.begin-in-Done-Second-First.ensures)
-
-pub returns-in-Done-Second-First-clause-turns : goal.returns-in-Done-Second-First-clause-turns
-returns-in-Done-Second-First-clause-turns g c =
-    let at = (goal.at.returns-in-Done-Second-First-clause-turns g c).After-step in
-    let b = before g at in
-    let a = after g at in
-    let e : c.step.result ≡ Done (Second (First c.in-Done-Second-First.answer)) = c.in-Done-Second-First.is ∙ ap Done (c.in-Done-Second-First.field-0-is ∙ ap Second c.in-Done-Second-First.field-0-0-is) in
-    let same = c.as_slice-lines.ensures.value ∙ ap (λ (z : Scripted). z.lines) c.script.view_is in
-    turns.note_turns b a (ap is_died e) c.in-Done-Second-First.answer e c.as_slice-lines.result.now same c.note.new.self c.note.ensures c.begin-in-Done-Second-First.new.self c.begin-in-Done-Second-First.ensures
+pub returns-in-Done-clause-turns : goal.returns-in-Done-clause-turns
+returns-in-Done-clause-turns g c =
+    let at = (goal.at.returns-in-Done-clause-turns g c).After-go_on in
+    let d = (goal.at.returns-in-Done-clause-turns g c).In-Done in
+    turns.turns (b g d) (a g d) (acts g d) c.go_on.new.self (gone g at).agent (gone g at).lives
 
 pub returns-in-More-clause-stepped : goal.returns-in-More-clause-stepped
 returns-in-More-clause-stepped g c = stepped g (goal.at.returns-in-More-clause-stepped g c).After-step
 
-pub returns-in-Done-First-First-clause-stepped : goal.returns-in-Done-First-First-clause-stepped
-returns-in-Done-First-First-clause-stepped g c = stepped g (goal.at.returns-in-Done-First-First-clause-stepped g c).After-step
-
-pub returns-in-Done-First-Second-clause-stepped : goal.returns-in-Done-First-Second-clause-stepped
-returns-in-Done-First-Second-clause-stepped g c = stepped g (goal.at.returns-in-Done-First-Second-clause-stepped g c).After-step
-
-pub returns-in-Done-Second-First-clause-stepped : goal.returns-in-Done-Second-First-clause-stepped
-returns-in-Done-Second-First-clause-stepped g c = stepped g (goal.at.returns-in-Done-Second-First-clause-stepped g c).After-step
-
-pub returns-in-Done-Second-Second-clause-stepped : goal.returns-in-Done-Second-Second-clause-stepped
-returns-in-Done-Second-Second-clause-stepped g c = stepped g (goal.at.returns-in-Done-Second-Second-clause-stepped g c).After-step
+pub returns-in-Done-clause-stepped : goal.returns-in-Done-clause-stepped
+returns-in-Done-clause-stepped g c = stepped g (goal.at.returns-in-Done-clause-stepped g c).After-step
 
 pub returns-in-More-clause-given : goal.returns-in-More-clause-given
 returns-in-More-clause-given g c = given g (goal.at.returns-in-More-clause-given g c).After-step (ap is_died c.in-More.is)
 
-pub returns-in-Done-First-First-clause-given : goal.returns-in-Done-First-First-clause-given
-returns-in-Done-First-First-clause-given g c = given g (goal.at.returns-in-Done-First-First-clause-given g c).After-step (ap is_died c.in-Done-First-First.is)
-
-pub returns-in-Done-First-Second-clause-given : goal.returns-in-Done-First-Second-clause-given
-returns-in-Done-First-Second-clause-given g c = given g (goal.at.returns-in-Done-First-Second-clause-given g c).After-step (ap is_died c.in-Done-First-Second.is)
-
-pub returns-in-Done-Second-First-clause-given : goal.returns-in-Done-Second-First-clause-given
-returns-in-Done-Second-First-clause-given g c = given g (goal.at.returns-in-Done-Second-First-clause-given g c).After-step (ap is_died c.in-Done-Second-First.is)
-
-pub returns-in-Done-Second-Second-clause-given : goal.returns-in-Done-Second-Second-clause-given
-returns-in-Done-Second-Second-clause-given g c = given g (goal.at.returns-in-Done-Second-Second-clause-given g c).After-step (ap is_died c.in-Done-Second-Second.is)
+pub returns-in-Done-clause-given : goal.returns-in-Done-clause-given
+returns-in-Done-clause-given g c = given g (goal.at.returns-in-Done-clause-given g c).After-step (ap is_died c.in-Done.is)
 
 pub returns-in-Died-clause-given : goal.returns-in-Died-clause-given
 returns-in-Died-clause-given g c =

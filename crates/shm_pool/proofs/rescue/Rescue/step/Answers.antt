@@ -1,6 +1,6 @@
 use Rattle.std.proofs.Common.{◌≡◌, ◌<◌, Bool, true, arith, refl, sym, ap, ◌∙◌, subst}
 use Rattle.shm_graph.specs.{declared.run.{Account.Account, Start.Start}, Runs.Stood, Whole.fits_now}
-use Rattle.shm_pool.specs.{Rescues.IsRescuing, Rules.alone, Tokens.Its}
+use Rattle.shm_pool.specs.{Rescues.{IsRescuing, RescuingBy, account_of}, Rules.alone, Tokens.Its}
 use Rattle.shm_pool.proofs.{Rescuing.{Stepped, finished_by, rescued}, Seating.seated_on, rescue.Rescue.step.Given.Over}
 use Rattle.shm_pool.proofs.rescue.Rescue.step.Goals.{After-top-2}
 use Rattle.shm_pool.proofs.rescue.Rescue.step.Goals as goal
@@ -35,6 +35,14 @@ returns-clause-turn g c = λ lt.
     let h = c.step_place-turn.ensures.turn lt in
     let e2 : Account = alone c.step_place-turn.new.place in
     (h.0, refl, subst (λ (a : Account). Stepped M.control M.fits M.gives g.met.M.Machine.laws c.args.self.now.machine a e2 c.step_place-turn.result c.step_place-turn.new.m) c.note_start.ensures.account h.1)
+
+pub returns-clause-seen : goal.returns-clause-seen
+returns-clause-seen g c = λ t is lt.
+    let M = g.M.Machine in
+    let h = c.step_place-turn.ensures.turn lt in
+    let e2 : Account = alone c.step_place-turn.new.place in
+    subst (λ (x : RescuingBy _). Stepped M.control M.fits M.gives g.met.M.Machine.laws x.machine (account_of x.begun x.seat) e2 c.step_place-turn.result c.step_place-turn.new.m) is
+    (subst (λ (a : Account). Stepped M.control M.fits M.gives g.met.M.Machine.laws c.args.self.now.machine a e2 c.step_place-turn.result c.step_place-turn.new.m) c.note_start.ensures.account h.1)
 
 pub returns-clause-finished : goal.returns-clause-finished
 returns-clause-finished g c =

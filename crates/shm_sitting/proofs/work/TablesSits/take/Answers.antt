@@ -1,18 +1,16 @@
--- what the machine answered is what its control says
-use Rattle.std.proofs.Common.{◌≡◌, ◌⊎◌, inl, inr, refl, sym, ◌∙◌}
-use Rattle.std.specs.Prelude.{Option, Some, None}
-use Rattle.shm_graph.specs.{declared.ask.Turn.{Turn, TheVariants.{More, Died}}, Laws.turn_of}
+-- what the machine of a command answered is what its control says
+use Rattle.std.proofs.Common.{◌≡◌, ℕ, Some, sym, ap, ◌∙◌}
+use Rattle.std.specs.Option.{option_map}
+use Rattle.shm_graph.specs.{declared.ask.Turn.{Turn, TheVariants.Done}, Laws.turn_of}
 use Rattle.shm_graph.proofs.Machines.Composing.{some_of}
-use Rattle.shm_agents.specs.Work.{work_control}
+use Rattle.shm_script.specs.declared.log.Answer.{Answer}
+use Rattle.shm_table.specs.Command.{CommandCall, command_control}
+use Rattle.shm_sitting.specs.{declared.work.Work.{Work, TheVariants.Command}, Work.work_turns}
+use Rattle.shm_sitting.specs.declared.work.WorkAnswer.TheVariants as answer
 use Rattle.shm_sitting.proofs.work.TablesSits.take.Goals as goal
 
-none_else : {A : Type 0} (o : Option A) (u : Turn A) → u ≡ turn_of o → (u ≡ More) ⊎ (u ≡ Died) → o ≡ None
-none_else None u e h = refl
-none_else (Some a) u e (inl f) = absurd (cc)
-none_else (Some a) u e (inr f) = absurd (cc)
+answered : (w : Work) (m : CommandCall) (n : ℕ) (u : Turn Answer) (a : Answer) → w ≡ Command m → u ≡ turn_of (command_control.turns m n) → u ≡ Done a → Some (answer.Command a) ≡ work_turns w n
+answered w m n u a e t d = rw e (sym (ap (option_map answer.Command) (some_of (command_control.turns m n) a (sym t ∙ d))))
 
-pub returns-in-Done-clause-answer : goal.returns-in-Done-clause-answer
-returns-in-Done-clause-answer c = sym (some_of (work_control.turns c.args.work.now c.args.seen) c.in-Done.answer (sym c.take.ensures.turn ∙ c.in-Done.is))
-
-pub returns-in-More : goal.returns-in-More
-returns-in-More c = record { work = c.take.ensures.machine; answer = sym (none_else (work_control.turns c.args.work.now c.args.seen) c.take.result c.take.ensures.turn c.in-More.is) }
+pub returns-in-Done-take-clause-answer : goal.returns-in-Done-take-clause-answer
+returns-in-Done-take-clause-answer c = answered c.args.work.now c.in-Command.machine c.args.seen c.take-in-Command.result c.in-Done-take.answer c.in-Command.is c.take-in-Command.ensures.turn c.in-Done-take.is

@@ -21,4 +21,4 @@ returns-clause-ran c alive =
     let r = c.run.ensures in
     let i = c.self.invariant in
     subst (λ (f : Forested). RanLine c.args.line.now f (record { registers = c.run.new.self; hints = c.self.inside.hints; died = c.is_died-self-inside.result }) c.args.life.now.left c.run.new.life.left c.turn_by-turn.result) c.self.view_is
-    (outcome_ran c.args.line.now c.self.inside.registers c.run.new.self c.self.inside.died c.is_died-self-inside.result c.run.result c.turn_by-turn.result (i.forest c.if-self.false) (i.swept c.if-self.false) i.falling (still_falling r.moves.went.falls i.falling) c.requires.line c.turn_by-turn.ensures c.is_died-self-inside.ensures r.moves r.swept r.does r.reading r.costs r.few r.refused r.own r.same r.off r.idle)
+    (outcome_ran c.args.line.now c.self.inside.registers c.run.new.self c.self.inside.died c.is_died-self-inside.result c.run.result c.turn_by-turn.result (i.forest c.if-self.false) (i.swept c.if-self.false) i.falling (still_falling r.moves.went.falls i.falling) c.requires.line c.turn_by-turn.ensures c.is_died-self-inside.ensures r.moves r.swept r.does r.reading r.costs r.few r.refused r.own r.same r.late r.off r.idle)

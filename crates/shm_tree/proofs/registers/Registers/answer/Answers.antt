@@ -1,10 +1,10 @@
 use Rattle.std.proofs.Common.{ℕ, Bool, sym, subst, true≢false}
 use Rattle.std.specs.Prelude.{Option}
-use Rattle.shm_tree.specs.{declared.line.TreeLine.TreeLine, Costing.{CostsLine, FewSet, StopsLine}}
+use Rattle.shm_tree.specs.{declared.line.TreeLine.TreeLine, Costing.{CostsLine, DiesLine, FewSet, StopsLine}}
 use Rattle.shm_tree.specs.{CutShort.{DiesHalfDone, IsWordless}, Forests.IsInRange, Working.IfRefused}
 use Rattle.shm_tree.specs.declared.line.TreeLine.TheVariants as lines
 use Rattle.shm_tree.proofs.{CutShort.{empty_root, off_from}, Moving.{moves_by, moves_from, moves_to}}
-use Rattle.shm_tree.proofs.Refusals.{handed, handed_over}
+use Rattle.shm_tree.proofs.{Refusals.{handed, handed_over}, Lasts.late_from}
 use Rattle.shm_tree.proofs.registers.Registers.answer.Goals as goal
 
 pub returns-in_ok-set-in-Set-clause-few : goal.returns-in_ok-set-in-Set-clause-few
@@ -108,3 +108,29 @@ returns-in_err-clear-in-Clear-clause-idle c =
     λ tidy ts v none.
     let empty = subst (λ (l : TreeLine). IsWordless l ts) c.in-Clear.is none in
     absurd (true≢false (sym (c.in_err-clear-in-Clear.ensures.idle (empty_root c.args.self.now c.in-Clear.at ts c.requires.forest low v empty))))
+
+-- how late that was
+pub returns-in_err-set-in-Set-clause-late : goal.returns-in_err-set-in-Set-clause-late
+returns-in_err-set-in-Set-clause-late c =
+    subst (λ (l : TreeLine). DiesLine l c.from_residual.result c.args.self.now c.set.new.self c.args.life.now.left) (sym c.in-Set.is)
+    (λ ts v. late_from c.from_residual.result c.from_residual.ensures.1 (c.in_err-set-in-Set.ensures.late ts v))
+
+pub returns-in_err-was-in-Del-clause-late : goal.returns-in_err-was-in-Del-clause-late
+returns-in_err-was-in-Del-clause-late c =
+    subst (λ (l : TreeLine). DiesLine l c.from_residual-in_err-was-in-Del.result c.args.self.now c.del.new.self c.args.life.now.left) (sym c.in-Del.is)
+    (λ ts v. late_from c.from_residual-in_err-was-in-Del.result c.from_residual-in_err-was-in-Del.ensures.1 (c.in_err-was-in-Del.ensures.late ts v))
+
+pub returns-in_err-number-in-Get-clause-late : goal.returns-in_err-number-in-Get-clause-late
+returns-in_err-number-in-Get-clause-late c =
+    subst (λ (l : TreeLine). DiesLine l c.from_residual-in_err-number-in-Get.result c.args.self.now c.get.new.self c.args.life.now.left) (sym c.in-Get.is)
+    (λ ts v. late_from c.from_residual-in_err-number-in-Get.result c.from_residual-in_err-number-in-Get.ensures.1 (c.in_err-number-in-Get.ensures.late ts v))
+
+pub returns-in_err-copy-in-Copy-clause-late : goal.returns-in_err-copy-in-Copy-clause-late
+returns-in_err-copy-in-Copy-clause-late c =
+    subst (λ (l : TreeLine). DiesLine l c.from_residual-in_err-copy-in-Copy.result c.args.self.now c.copy.new.self c.args.life.now.left) (sym c.in-Copy.is)
+    (λ ts v. late_from c.from_residual-in_err-copy-in-Copy.result c.from_residual-in_err-copy-in-Copy.ensures.1 (c.in_err-copy-in-Copy.ensures.late ts v))
+
+pub returns-in_err-clear-in-Clear-clause-late : goal.returns-in_err-clear-in-Clear-clause-late
+returns-in_err-clear-in-Clear-clause-late c =
+    subst (λ (l : TreeLine). DiesLine l c.from_residual-in_err-clear-in-Clear.result c.args.self.now c.clear.new.self c.args.life.now.left) (sym c.in-Clear.is)
+    (λ ts v. late_from c.from_residual-in_err-clear-in-Clear.result c.from_residual-in_err-clear-in-Clear.ensures.1 (c.in_err-clear-in-Clear.ensures.late ts v))

@@ -10,7 +10,7 @@ use Rattle.shm_tree.proofs.CutShort.{first_off, off_from, root_same, share_off, 
 use Rattle.shm_tree.proofs.Forests.{registers_named, registers_then, registers_versions, calls_kept, untold}
 use Rattle.shm_tree.proofs.Moving.{made_alone, made_forest, made_kept, made_spare, made_tree, made_versions, moves_after, moves_from, moves_stop, nothing_spare, nothing_tree, put_done, copied_tree}
 use Rattle.shm_tree.proofs.Refusals.{all_of, first_of, first_of_three, handed, none_least, outer_two, refused_kept, spends_more, spends_of, spends_then}
-use Rattle.shm_tree.proofs.Spares.{rooms_tidy}
+use Rattle.shm_tree.proofs.{Spares.rooms_tidy, Lasts.{last_more, last_then, late_from, late_then}, Spendings.spent_then}
 use Rattle.shm_tree.proofs.registers.Registers.copy.Goals as goal
 
 pub replace-requires : goal.replace-requires
@@ -81,6 +81,7 @@ returns c =
           (same ts w, made_tree g q m x s.tidy p.calls p.rooted p.some _ (copied_tree _ m.block (version ts c.args.from) (omega arith) p.is (w.each c.args.from c.requires.from))))) o.put;
       costs = copy_costs c.args.self.now g q c.put.new.self _ c.requires.forest x s.moves.went s.costs p.calls.working p.calls.went p.costs o.moves.forest o.moves.went o.costs;
       told = o.told;
+      late = λ ts v. late_then c.put.new.self.pool (copy_steps c.args.self.now.pool.start.geometry) (λ (e : Geometry). drop_steps e 0) c.put.result (all_of (copy_steps c.args.self.now.pool.start.geometry)) c.requires.forest.working (went_on c.requires.forest.working.run s.moves.went p.calls.went) (spent_then copied_steps c.requires.forest.working s.moves.went p.calls.went s.costs.spent p.costs.spent) o.late;
       refused =
           (let geo = c.args.self.now.pool.start.geometry in
           refused_kept _ c.put.result (λ r. spends_more 0 (copy_steps geo) (none_least 0) (all_of (copy_steps geo))
@@ -104,6 +105,7 @@ returns-then-root-eq-NONE c =
           (let w = registers_versions s.same ts v in
           (w, subst (λ (k : ℕ). IsTree g.pool (block_in g.pool k) (version ts c.args.from)) same (w.each c.args.from c.requires.from)))) o.put;
       costs = cleared_costs c.args.self.now g c.replace.new.self _ c.requires.forest s.moves.forest s.moves.went s.costs o.moves.forest o.moves.went o.costs;
+      late = (let geo = c.args.self.now.pool.start.geometry in λ ts v. late_then c.replace.new.self.pool (copy_steps geo) (λ (e : Geometry). drop_steps e 0) c.replace.result (outer_two (sweep_steps geo) (copied_steps geo) (drop_steps geo 0)) c.requires.forest.working s.moves.went s.costs.spent o.late);
       told = ok_any {T = Unit {0}} {P = λ u. c.replace.new.self.tidy ≡ true} c.replace.result (λ u. o.told ∙ s.told);
       refused =
           (let geo = c.args.self.now.pool.start.geometry in
@@ -141,3 +143,15 @@ returns-in_err-made-clause-refused c =
     let geo = c.args.self.now.pool.start.geometry in
     handed Made _ _ c.from_residual-in_err-made.result c.from_residual-in_err-made.ensures.1 (λ r. spends_more 0 (copy_steps geo) (none_least 0) (first_of (sweep_steps geo + copied_steps geo) (drop_steps geo 0))
     (spends_then copied_steps c.requires.forest.working s.moves.went p.calls.went (spends_of s.costs) r)) p.refused
+
+-- how late that was
+pub returns-in_err-sweep-clause-late : goal.returns-in_err-sweep-clause-late
+returns-in_err-sweep-clause-late c =
+    let geo = c.args.self.now.pool.start.geometry in
+    λ ts v. late_from c.from_residual.result c.from_residual.ensures.1 (λ e. last_more (copy_steps geo) (first_of_three (sweep_steps geo) (copied_steps geo) (drop_steps geo 0)) (c.in_err-sweep.ensures.late e))
+
+pub returns-in_err-made-clause-late : goal.returns-in_err-made-clause-late
+returns-in_err-made-clause-late c =
+    let s = c.in_ok-sweep.ensures in
+    let geo = c.args.self.now.pool.start.geometry in
+    λ ts v. late_from c.from_residual-in_err-made.result c.from_residual-in_err-made.ensures.1 (λ e. last_more (copy_steps geo) (first_of (sweep_steps geo + copied_steps geo) (drop_steps geo 0)) (last_then copied_steps c.requires.forest.working s.moves.went s.costs.spent (c.in_err-made.ensures.late e)))

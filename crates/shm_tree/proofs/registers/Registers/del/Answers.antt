@@ -2,7 +2,7 @@ use Rattle.std.proofs.Common.{rules, ◌≡◌, ℕ, true, false, sym, subst, Er
 use Rattle.std.specs.Prelude.{Option, Some, None}
 use Rattle.shm_tree.specs.declared.{remove.Removed.Removed, registers.Registers.Registers}
 use Rattle.shm_tree.specs.Forests.{IsAbsent, IsCleared, IsLopped, IsPruned, KeepsRegisters, root_at, version, HasVersions}
-use Rattle.shm_tree.specs.{Working.Went, Bounds.drop_steps}
+use Rattle.shm_tree.specs.{Working.Went, Bounds.drop_steps, Spending.HasDied}
 use Rattle.shm_tree.specs.Costing.{Costs, Spends, StopsLine, del_steps, pruned_steps, sweep_steps}
 use Rattle.shm_tree.specs.Trees.{Tree, height, removed}
 use Rattle.shm_tree.specs.declared.line.TreeLine.TheVariants as lines
@@ -12,8 +12,10 @@ use Rattle.shm_tree.proofs.Forests.{calls_kept, registers_named, registers_then,
 use Rattle.shm_tree.proofs.Moving.{calls_ok, deleted_all, deleted_some, made_alone, made_forest, made_kept, made_spare, made_tree, moves_after, moves_by, moves_done, moves_from, moves_stop, moves_to, same_forest, same_kept, same_versions}
 use Rattle.shm_tree.proofs.Refusals.{added_none, all_of, first_of, first_of_three, handed, none_added, none_least, spends_more, spends_of, spends_then}
 use Rattle.shm_tree.proofs.{Spares.rooms_tidy, registers.Registers.del.Goals.{In_ok-pruned, In-Some-None, In-Some-Some}}
+use Rattle.shm_tree.proofs.Lasts.{last_more, last_then, late_from}
 use Rattle.shm_tree.proofs.registers.Registers.del.Goals as goal
 use Rattle.shm_words.specs.declared.geometry.Geometry.{Geometry}
+use Rattle.shm_plain.specs.Pools.{Pool}
 
 pub pruned-requires : goal.pruned-requires
 pruned-requires c =
@@ -254,3 +256,35 @@ returns-in_err-put-in-Some-Some-clause-off c =
     let e = c.in_err-put-in-Some-Some.ensures in
     off_from (lines.Del c.args.to c.args.from c.args.key) f c.put.new.self c.args.life.now.left c.from_residual-in_err-put-in-Some-Some.result c.from_residual-in_err-put-in-Some-Some.ensures.1
     (spare_off {T = Unit {0}} (lines.Del c.args.to c.args.from c.args.key) f (record { pool = q; roots = g.roots; tidy = false }) c.put.new.self m.root c.args.life.now.left c.pruned.new.life.left (Err _) some.rooted.low (made_spare g q m s.moves.forest s.tidy (calls_ok m c.in_ok-pruned.ensures.calls) some.rooted some.some) e.begun e.kept)
+
+-- how late that was
+pub returns-in_err-sweep-clause-late : goal.returns-in_err-sweep-clause-late
+returns-in_err-sweep-clause-late c =
+    let geo = c.args.self.now.pool.start.geometry in
+    λ ts v.
+    let i = height (version ts c.args.from) in
+    late_from c.from_residual.result c.from_residual.ensures.1 (λ e. last_more (sweep_steps geo + pruned_steps i geo + drop_steps geo 0) (first_of_three (sweep_steps geo) (pruned_steps i geo) (drop_steps geo 0)) (c.in_err-sweep.ensures.late e))
+
+pub returns-in_err-pruned-clause-late : goal.returns-in_err-pruned-clause-late
+returns-in_err-pruned-clause-late c =
+    let s = c.in_ok-sweep.ensures in
+    let geo = c.args.self.now.pool.start.geometry in
+    λ ts v.
+    let t : Tree = version ts c.args.from in
+    let i = height t in
+    late_from c.from_residual-in_err-pruned.result c.from_residual-in_err-pruned.ensures.1 (λ e. last_more (sweep_steps geo + pruned_steps i geo + drop_steps geo 0) (first_of (sweep_steps geo + pruned_steps i geo) (drop_steps geo 0)) (last_then (λ (e : Geometry). pruned_steps i e) c.requires.forest.working s.moves.went s.costs.spent (c.in_err-pruned.ensures.late t ((registers_versions s.same ts v).each c.args.from c.requires.from) e)))
+
+last_late : (c : In_ok-pruned) (q : Pool) (ts : List Tree) → HasVersions c.args.self.now ts → HasDied (drop_steps c.pruned.new.pool.start.geometry 0) c.pruned.new.pool q c.pruned.new.life.left → HasDied (del_steps (height (version ts c.args.from)) c.args.self.now.pool.start.geometry) c.args.self.now.pool q c.args.life.now.left
+last_late c q ts v d =
+    let most = del_steps (height (version ts c.args.from)) c.args.self.now.pool.start.geometry in
+    last_more most (all_of most) (last_then (λ (e : Geometry). drop_steps e 0) c.requires.forest.working (steps c) (part c ts v).spent d)
+
+pub returns-in_err-replace-in-Some-None-clause-late : goal.returns-in_err-replace-in-Some-None-clause-late
+returns-in_err-replace-in-Some-None-clause-late c =
+    let d = (goal.at.returns-in_err-replace-in-Some-None-clause-late c).In_ok-pruned in
+    λ ts v. late_from c.from_residual-in_err-replace-in-Some-None.result c.from_residual-in_err-replace-in-Some-None.ensures.1 (λ e. last_late d c.replace.new.self.pool ts v (c.in_err-replace-in-Some-None.ensures.late e))
+
+pub returns-in_err-put-in-Some-Some-clause-late : goal.returns-in_err-put-in-Some-Some-clause-late
+returns-in_err-put-in-Some-Some-clause-late c =
+    let d = (goal.at.returns-in_err-put-in-Some-Some-clause-late c).In_ok-pruned in
+    λ ts v. late_from c.from_residual-in_err-put-in-Some-Some.result c.from_residual-in_err-put-in-Some-Some.ensures.1 (λ e. last_late d c.put.new.self.pool ts v (c.in_err-put-in-Some-Some.ensures.late e))

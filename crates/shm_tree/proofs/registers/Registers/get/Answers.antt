@@ -25,4 +25,5 @@ returns c =
       same = got_same f q f.tidy _ r.still;
       costs = got_costs _ _ f q c.args.at _ c.requires.at r.costs;
       told = refl;
+      late = λ ts w. r.late (version ts c.args.at) (w.each c.args.at c.requires.at).stands;
     }

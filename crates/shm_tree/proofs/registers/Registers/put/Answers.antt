@@ -1,7 +1,7 @@
 use Rattle.std.proofs.Common.{◌≡◌, ◌∙◌, refl, true, inl, inr}
 use Rattle.shm_tree.specs.{declared.stop.Stop.Stop, Working.DiedBegun}
 use Rattle.shm_tree.proofs.{CutShort.handed_err, Forests.{told, told_versions}, Moving.{moves_done, moves_from}}
-use Rattle.shm_tree.proofs.Refusals.{handed}
+use Rattle.shm_tree.proofs.{Refusals.handed, Lasts.late_from}
 use Rattle.shm_tree.proofs.registers.Registers.put.Goals as goal
 
 pub replace-requires : goal.replace-requires
@@ -18,6 +18,9 @@ returns-in_err-replace-clause-begun c = handed_err (λ (e : Stop). DiedBegun e c
 
 pub returns-in_err-replace-clause-kept : goal.returns-in_err-replace-clause-kept
 returns-in_err-replace-clause-kept c = handed_err (λ (e : Stop). c.replace.new.self.roots ≡ c.args.self.now.roots) c.from_residual.result c.from_residual.ensures.1 c.in_err-replace.ensures.kept
+
+pub returns-in_err-replace-clause-late : goal.returns-in_err-replace-clause-late
+returns-in_err-replace-clause-late c = late_from c.from_residual.result c.from_residual.ensures.1 c.in_err-replace.ensures.late
 
 pub returns : goal.returns
 returns c =
@@ -37,4 +40,5 @@ returns c =
       costs = r.costs;
       told = refl;
       refused = tt;
+      late = tt;
     }

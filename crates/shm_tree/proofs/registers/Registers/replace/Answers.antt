@@ -2,7 +2,7 @@ use Rattle.std.proofs.Common.{◌≡◌, ◌∙◌, refl, sym, true≢false}
 use Rattle.shm_tree.specs.{declared.stop.Stop.Stop, Working.DiedBegun}
 use Rattle.shm_tree.proofs.CutShort.{handed_err}
 use Rattle.shm_tree.proofs.Moving.{moves_done, moves_from, moves_still, replaced_forest, replaced_left, replaced_put}
-use Rattle.shm_tree.proofs.Refusals.{handed}
+use Rattle.shm_tree.proofs.{Refusals.handed, Lasts.late_from}
 use Rattle.shm_tree.proofs.registers.Registers.replace.Goals as goal
 
 pub emptied-requires : goal.emptied-requires
@@ -25,6 +25,9 @@ returns-in_err-emptied-clause-kept c = handed_err (λ (e : Stop). c.args.self.no
 pub returns-in_err-emptied-clause-idle : goal.returns-in_err-emptied-clause-idle
 returns-in_err-emptied-clause-idle c = λ e. absurd (true≢false (sym (c.in_err-emptied.ensures.idle e)))
 
+pub returns-in_err-emptied-clause-late : goal.returns-in_err-emptied-clause-late
+returns-in_err-emptied-clause-late c = late_from c.from_residual.result c.from_residual.ensures.1 c.in_err-emptied.ensures.late
+
 pub returns : goal.returns
 returns c =
     let f = c.args.self.now in
@@ -42,4 +45,5 @@ returns c =
       costs = h.costs;
       told = refl;
       refused = tt;
+      late = tt;
     }

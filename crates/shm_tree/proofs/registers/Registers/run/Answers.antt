@@ -2,7 +2,8 @@ use Rattle.std.proofs.Common.{◌+◌, ◌∙◌, sym, inl, inr, true≢false}
 use Rattle.shm_tree.specs.{declared.line.TreeAnswer.TreeAnswer, Costing.{call_steps, made_most, sweep_steps}}
 use Rattle.shm_tree.proofs.{Answering.{alive_died, refused_died}, Eras.spent_stays, Forests.stopped_on}
 use Rattle.shm_tree.proofs.Moving.{alive_is, alive_when, is_over_is, is_over_not, refused_is, refused_when, undone_moves}
-use Rattle.shm_tree.proofs.Refusals.{added_none, all_of, spends_more, spends_then}
+use Rattle.shm_tree.proofs.Refusals.{added_none, all_of, first_of, spends_more, spends_then}
+use Rattle.shm_tree.proofs.Lasts.{last_more, last_then}
 use Rattle.shm_tree.proofs.registers.Registers.run.Goals as goal
 
 pub undone-requires : goal.undone-requires
@@ -57,3 +58,15 @@ returns-else-is_over-clause-off c =
 
 pub returns-else-is_over-clause-idle : goal.returns-else-is_over-clause-idle
 returns-else-is_over-clause-idle c = λ tidy ts v none. absurd (true≢false (sym (c.in-Err.ensures.idle tidy ts v none)))
+
+-- how late that was
+pub returns-then-is_over-clause-late : goal.returns-then-is_over-clause-late
+returns-then-is_over-clause-late c =
+    let geo = c.args.self.now.pool.start.geometry in
+    λ ts v d. last_more (call_steps c.args.line.now ts geo + sweep_steps geo) (first_of (call_steps c.args.line.now ts geo) (sweep_steps geo)) (c.in-Err.ensures.late ts v d)
+
+pub returns-else-is_over-clause-late : goal.returns-else-is_over-clause-late
+returns-else-is_over-clause-late c =
+    let ne = is_over_not c.in-Err.why (sym c.is_over.ensures ∙ c.if-is_over.false) in
+    let e = c.in-Err.ensures in
+    λ ts v d. last_then sweep_steps c.requires.forest.working e.moves.went (refused_is TreeAnswer c.in-Err.why ne e.refused ts v).spent (c.undone.ensures.late d)

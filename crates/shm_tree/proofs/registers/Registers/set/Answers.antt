@@ -8,7 +8,7 @@ use Rattle.shm_tree.proofs.CutShort.{off_from, spare_off, under_off}
 use Rattle.shm_tree.proofs.Forests.{registers_named, registers_then, registers_versions, calls_kept, untold}
 use Rattle.shm_tree.proofs.Moving.{made_alone, made_forest, made_kept, made_spare, made_tree, made_versions, moves_after, moves_by, moves_from, moves_stop, put_done}
 use Rattle.shm_tree.proofs.Refusals.{added_none, all_of, first_of, first_of_three, handed, none_added, none_least, refused_kept, spends_more, spends_of, spends_then}
-use Rattle.shm_tree.proofs.Spares.{rooms_tidy}
+use Rattle.shm_tree.proofs.{Spares.rooms_tidy, Lasts.{last_more, last_then, late_from, late_then}}
 use Rattle.shm_tree.proofs.registers.Registers.set.Goals as goal
 use Rattle.shm_words.specs.declared.geometry.Geometry.{Geometry}
 
@@ -76,6 +76,12 @@ returns c =
           (part_costs c.args.self.now g q c.args.from (λ (t : Tree). height t + 3) (λ (t : Tree) (e : Geometry). planted_steps (height t) e) c.requires.from c.requires.forest x s.moves.went (registers_versions s.same) s.costs p.calls.working p.calls.went p.costs) o.moves.forest o.moves.went o.costs;
       few = set_few c.args.self.now g q c.put.new.self c.args.from (λ (t : Tree). height t + 1) _ c.requires.from c.requires.forest x s.moves.went (registers_versions s.same) s.costs p.calls.working p.calls.went p.few o.moves.forest o.moves.went o.costs;
       told = o.told;
+      late =
+          λ ts v.
+          (let i = height (version ts c.args.from) in
+          let geo = c.args.self.now.pool.start.geometry in
+          let part = part_costs c.args.self.now g q c.args.from (λ (t : Tree). height t + 3) (λ (t : Tree) (e : Geometry). planted_steps (height t) e) c.requires.from c.requires.forest x s.moves.went (registers_versions s.same) s.costs p.calls.working p.calls.went p.costs ts v in
+          late_then c.put.new.self.pool (sweep_steps geo + planted_steps i geo + drop_steps geo 0) (λ (e : Geometry). drop_steps e 0) c.put.result (all_of (sweep_steps geo + planted_steps i geo + drop_steps geo 0)) c.requires.forest.working (went_on c.requires.forest.working.run s.moves.went p.calls.went) part.spent o.late);
       refused =
           refused_kept (StopsLine (lines.Set c.args.to c.args.from c.args.key c.args.number) c.args.self.now c.put.new.self c.args.life.now.left c.put.new.life.left) c.put.result (λ r ts v.
           (let i = height (version ts c.args.from) in
@@ -114,3 +120,20 @@ returns-in_err-made-clause-refused c =
     let one = r t ((registers_versions s.same ts v).each c.args.from c.requires.from) in
     spends_more (i + 3) (sweep_steps geo + planted_steps i geo + drop_steps geo 0) (none_added (i + 3)) (first_of (sweep_steps geo + planted_steps i geo) (drop_steps geo 0))
     (spends_then (λ (e : Geometry). planted_steps i e) c.requires.forest.working s.moves.went p.calls.went (spends_of s.costs) one)) p.refused
+
+-- how late that was
+pub returns-in_err-sweep-clause-late : goal.returns-in_err-sweep-clause-late
+returns-in_err-sweep-clause-late c =
+    let geo = c.args.self.now.pool.start.geometry in
+    λ ts v.
+    let i = height (version ts c.args.from) in
+    late_from c.from_residual.result c.from_residual.ensures.1 (λ e. last_more (sweep_steps geo + planted_steps i geo + drop_steps geo 0) (first_of_three (sweep_steps geo) (planted_steps i geo) (drop_steps geo 0)) (c.in_err-sweep.ensures.late e))
+
+pub returns-in_err-made-clause-late : goal.returns-in_err-made-clause-late
+returns-in_err-made-clause-late c =
+    let s = c.in_ok-sweep.ensures in
+    let geo = c.args.self.now.pool.start.geometry in
+    λ ts v.
+    let t : Tree = version ts c.args.from in
+    let i = height t in
+    late_from c.from_residual-in_err-made.result c.from_residual-in_err-made.ensures.1 (λ e. last_more (sweep_steps geo + planted_steps i geo + drop_steps geo 0) (first_of (sweep_steps geo + planted_steps i geo) (drop_steps geo 0)) (last_then (λ (e : Geometry). planted_steps i e) c.requires.forest.working s.moves.went s.costs.spent (c.in_err-made.ensures.late t ((registers_versions s.same ts v).each c.args.from c.requires.from) e)))

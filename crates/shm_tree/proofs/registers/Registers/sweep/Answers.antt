@@ -1,6 +1,6 @@
 use Rattle.std.proofs.Common.{◌∙◌, sym, refl, true, true≢false}
 use Rattle.shm_tree.proofs.{Building.looked_none, Costing.costs_none, Forests.{forest_over, registers_over}}
-use Rattle.shm_tree.proofs.{Moving.{moves_done, moves_from, moves_stop}, Refusals.handed}
+use Rattle.shm_tree.proofs.{Moving.{moves_done, moves_from, moves_stop}, Refusals.handed, Lasts.late_from}
 use Rattle.shm_tree.proofs.registers.Registers.sweep.Goals as goal
 
 pub returns-in_err-swept-clause-moves : goal.returns-in_err-swept-clause-moves
@@ -21,6 +21,7 @@ returns c =
       costs = s.costs;
       told = refl;
       refused = tt;
+      late = tt;
       spent = tt;
     }
 
@@ -36,3 +37,6 @@ returns-in_err-swept-clause-refused c = handed (Unit {0}) _ _ c.from_residual.re
 
 pub returns-in_err-swept-clause-spent : goal.returns-in_err-swept-clause-spent
 returns-in_err-swept-clause-spent c = handed (Unit {0}) _ _ c.from_residual.result c.from_residual.ensures.1 (λ s. s) c.in_err-swept.ensures.spent
+
+pub returns-in_err-swept-clause-late : goal.returns-in_err-swept-clause-late
+returns-in_err-swept-clause-late c = late_from c.from_residual.result c.from_residual.ensures.1 c.in_err-swept.ensures.late

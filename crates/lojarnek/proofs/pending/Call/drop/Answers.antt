@@ -1,0 +1,4 @@
+use Rattle.lojarnek.proofs.pending.Call.drop.Goals as goal
+
+pub fall-requires : goal.fall-requires
+fall-requires c = λ alive. c.self.invariant.3.asks.3

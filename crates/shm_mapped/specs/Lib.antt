@@ -1,0 +1,3 @@
+-- what the crate's contracts cite
+pub mod Runs
+pub mod Steps
